@@ -1,0 +1,5 @@
+-- The laws that the functions' proofs and other crates cite.
+pub mod Tests
+pub mod Fields
+pub mod Words
+pub mod Counts

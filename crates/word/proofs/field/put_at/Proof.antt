@@ -1,0 +1,14 @@
+-- `put_at` writes a field: `|` is a sum where the two sides share no bit.
+use borrow.Author.Needs.{needs}
+use Rattle.word.proofs.Fields.{put}
+use Rattle.word.proofs.field.put_at.Statement.{statement}
+use Rattle.word.proofs.field.put_at.Tie as tie
+
+shl-result : tie.Need-shl-result
+shl-result c = search needs
+
+returns : tie.Need-returns
+returns c = put (c .args .below) (c .args .value) (c .args .low) (c .pre .1 .0) (c .pre .1 .1)
+
+pub put-at-spec : {M : Type 1} → statement M
+put-at-spec = tie.close (tie.spec shl-result returns)

@@ -1,0 +1,57 @@
+-- Document 01, "Who draws which number": the number and the value of each answer. Assumes nothing.
+use Prim.Native.Nat.{ℕ}
+use Rattle.word.specs.declared.answer.Refusal.{Refusal}
+use Rattle.word.specs.declared.answer.Refusal.the-variants.{NotABook, BeyondLimits, AlreadyOpen, NotOpen, MonthOutside, AlreadyStanding, NotStanding, NoClose, NotQualified, CapReached, OffGrid, OutOfRange, TooClose, OpenInterest, OutOfWords}
+use Rattle.word.specs.declared.answer.Answer.{Answer}
+use Rattle.word.specs.declared.answer.Answer.the-variants.{Done, Ground, Removed, Listed, Refused}
+
+abbrev pub refusalNumber : Refusal → ℕ
+refusalNumber NotABook = 1
+refusalNumber BeyondLimits = 2
+refusalNumber AlreadyOpen = 3
+refusalNumber NotOpen = 4
+refusalNumber MonthOutside = 5
+refusalNumber AlreadyStanding = 6
+refusalNumber NotStanding = 7
+refusalNumber NoClose = 8
+refusalNumber NotQualified = 9
+refusalNumber CapReached = 10
+refusalNumber OffGrid = 11
+refusalNumber OutOfRange = 12
+refusalNumber TooClose = 13
+refusalNumber OpenInterest = 14
+refusalNumber (OutOfWords count) = 15
+
+-- "A refusal .. carries value 0 except 15 on `A`", where the count of its strikes is the value
+abbrev pub refusalValue : Refusal → ℕ
+refusalValue NotABook = 0
+refusalValue BeyondLimits = 0
+refusalValue AlreadyOpen = 0
+refusalValue NotOpen = 0
+refusalValue MonthOutside = 0
+refusalValue AlreadyStanding = 0
+refusalValue NotStanding = 0
+refusalValue NoClose = 0
+refusalValue NotQualified = 0
+refusalValue CapReached = 0
+refusalValue OffGrid = 0
+refusalValue OutOfRange = 0
+refusalValue TooClose = 0
+refusalValue OpenInterest = 0
+refusalValue (OutOfWords count) = count
+
+-- "An accepted call answers 0 and a value"
+abbrev pub answerNumber : Answer → ℕ
+answerNumber Done = 0
+answerNumber (Ground g) = 0
+answerNumber (Removed count) = 0
+answerNumber (Listed count) = 0
+answerNumber (Refused why) = refusalNumber why
+
+-- "the ground for `L` and `J`, strikes removed for `R`, the count for `A`. Other calls carry 0"
+abbrev pub answerValue : Answer → ℕ
+answerValue Done = 0
+answerValue (Ground g) = g
+answerValue (Removed count) = count
+answerValue (Listed count) = count
+answerValue (Refused why) = refusalValue why

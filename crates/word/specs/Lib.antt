@@ -1,0 +1,6 @@
+pub mod Limits
+pub mod Field
+pub mod Codec
+pub mod Class
+pub mod Caps
+pub mod Answers

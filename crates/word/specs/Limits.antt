@@ -1,0 +1,47 @@
+-- Document 01, "Units and the words of the book": the limits of every number. Assumes nothing.
+use Prim.Native.Nat.{ℕ}
+use mathlib.Core.Bool.{Bool, _&&_}
+use lib.Dec.{leb}
+
+abbrev pub between : ℕ → ℕ → ℕ → Bool
+between low high n = leb low n && leb n high
+
+-- "A price P is in cents, 1 to 999,999."
+abbrev pub isPrice : ℕ → Bool
+isPrice p = between 1 999999 p
+
+-- "A strike is counted in half dollars, h from 1 to 19,999"
+abbrev pub isStrike : ℕ → Bool
+isStrike h = between 1 19999 h
+
+-- "A month is 0 to 1,023"
+abbrev pub isMonth : ℕ → Bool
+isMonth m = leb m 1023
+
+-- "A class number is 1 to 16,383."
+abbrev pub isClassNumber : ℕ → Bool
+isClassNumber c = between 1 16383 c
+
+-- "Volume, the national average of contracts a day, is 0 to 9,999,999."
+abbrev pub isVolume : ℕ → Bool
+isVolume n = leb n 9999999
+
+-- "The book is a lent run of 1 to 65,535 words of 32 bits."
+abbrev pub isLength : ℕ → Bool
+isLength n = between 1 65535 n
+
+-- "(0 none, 1 ours, 2 another exchange's)"
+abbrev pub isDesignation : ℕ → Bool
+isDesignation d = leb d 2
+
+-- "close in bits 0–19, 0 when none has come": no close yet, or a price
+abbrev pub isClose : ℕ → Bool
+isClose p = leb p 999999
+
+-- "ground in 15–17 (0 to 3)"
+abbrev pub isGround : ℕ → Bool
+isGround g = leb g 3
+
+-- "put open interest in 18, call open interest in 19 (1 yes)"
+abbrev pub isMark : ℕ → Bool
+isMark b = leb b 1

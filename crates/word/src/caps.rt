@@ -1,0 +1,70 @@
+// The two counters of own classes, one for each program's cap: neither can be passed for the other.
+ghost use mathlib.Core.Path.{_≡_};
+ghost use Prim.Native.Nat.{_+_, _<_};
+ghost use lib.Dec.{leb, ltb};
+ghost use Rattle.word.specs.Caps.{dollarCap, halfCap, own};
+
+// How many classes have $1 designation 1.
+pub struct DollarCount(pub u32);
+
+// How many classes have $0.50 designation 1.
+pub struct HalfCount(pub u32);
+
+// 1 for a class that is ours, else 0.
+fn own_class(designation: u32) -> u32
+    ensures { λ r. ⌜ r ≡ own designation ⌝ }
+{
+    if designation == 1 { 1 } else { 0 }
+}
+
+impl DollarCount {
+    const CAP: u32 = 150;
+
+    // The count with one class more.
+    pub fn counted(self, designation: u32) -> DollarCount
+        requires { ⌜ self .0 < 65535 ⌝ }
+        ensures { λ r. ⌜ r .0 ≡ self .0 + own designation ⌝ }
+    {
+        DollarCount(self.0 + own_class(designation))
+    }
+
+    // Whether no place is left.
+    pub fn is_full(self) -> bool
+        ensures { λ r. ⌜ r ≡ leb dollarCap (self .0) ⌝ }
+    {
+        DollarCount::CAP <= self.0
+    }
+
+    // Whether more classes are counted than the cap allows.
+    pub fn is_exceeded(self) -> bool
+        ensures { λ r. ⌜ r ≡ ltb dollarCap (self .0) ⌝ }
+    {
+        DollarCount::CAP < self.0
+    }
+}
+
+impl HalfCount {
+    const CAP: u32 = 20;
+
+    // The count with one class more.
+    pub fn counted(self, designation: u32) -> HalfCount
+        requires { ⌜ self .0 < 65535 ⌝ }
+        ensures { λ r. ⌜ r .0 ≡ self .0 + own designation ⌝ }
+    {
+        HalfCount(self.0 + own_class(designation))
+    }
+
+    // Whether no place is left.
+    pub fn is_full(self) -> bool
+        ensures { λ r. ⌜ r ≡ leb halfCap (self .0) ⌝ }
+    {
+        HalfCount::CAP <= self.0
+    }
+
+    // Whether more classes are counted than the cap allows.
+    pub fn is_exceeded(self) -> bool
+        ensures { λ r. ⌜ r ≡ ltb halfCap (self .0) ⌝ }
+    {
+        HalfCount::CAP < self.0
+    }
+}

@@ -1,0 +1,8 @@
+// The words of the strike book: fields by shifts and masks, the six kinds of word, and the small values that the book deals in.
+pub mod answer;
+pub mod caps;
+pub mod class;
+pub mod codec;
+pub mod field;
+pub mod limits;
+pub mod strike;
