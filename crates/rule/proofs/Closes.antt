@@ -1,0 +1,137 @@
+-- Document 01, "Closes at the edges": T1 to T10 as one list of cases, each computed up to the highest strike that can be permitted and so shown for all strikes. Assumes nothing.
+use mathlib.Core.Path.{_≡_, refl, _∙_}
+use mathlib.Core.Bool.{Bool, true, false}
+use mathlib.Core.List.{List, [], _∷_, _++_, map}
+use Prim.Native.Nat.{ℕ, _*_}
+use native.Mathlib.Omega.{arith}
+use lib.Dec.{leb}
+use borrow.Author.Tests.{leb-true}
+use Rattle.word.specs.declared.class.ClassRecord.{ClassRecord}
+use Rattle.word.specs.declared.answer.Refusal.the-variants.{OffGrid, TooClose}
+use Rattle.word.specs.declared.answer.Answer.{Answer}
+use Rattle.word.specs.declared.answer.Answer.the-variants.{Ground, Refused}
+use Rattle.rule.specs.declared.terms.Setting.{Setting}
+use Rattle.rule.specs.Lists.{only, upFrom}
+use Rattle.rule.specs.Terms.{isLong, isNear, isOutside, price}
+use Rattle.rule.specs.Ranges.{lowest, amongFive}
+use Rattle.rule.specs.Ends.{highestPermitted}
+use Rattle.rule.specs.Spacing.{Standing}
+use Rattle.rule.specs.Judgement.{judgement, isAccepted, permitted}
+use Rattle.rule.proofs.Bound.{permitted-short}
+
+pub data Case : Type 0 where
+  -- beside the standing strikes exactly these are permitted
+  permits : Setting → List Standing → List ℕ → Case
+  -- beside the standing strikes the strike gets this answer
+  answers : Setting → List Standing → ℕ → Answer → Case
+  -- seen from the first month the second draws 5, or is near, or is long
+  refused near long : ℕ → ℕ → Case
+
+-- a class and an expiration of it, by the current month and the other
+abbrev pub seenFrom : ℕ → ℕ → ClassRecord → Setting
+seenFrom now month c = record { class = c; current = now; month = month }
+
+abbrev pub Holds : Case → Type 0
+Holds (permits s standing strikes) = permitted s standing ≡ strikes
+Holds (answers s standing h answer) = judgement s standing h ≡ answer
+Holds (refused now month) = (c : ClassRecord) → isOutside (seenFrom now month c) ≡ true
+Holds (near now month) = (c : ClassRecord) → (isOutside (seenFrom now month c) ≡ false) × (isNear (seenFrom now month c) ≡ true)
+Holds (long now month) = (c : ClassRecord) → (isOutside (seenFrom now month c) ≡ false) × (isLong (seenFrom now month c) ≡ true)
+
+abbrev pub All : List Case → Type 0
+All [] = Unit {0}
+All (x ∷ xs) = Holds x × All xs
+
+-- what is computed for a case: the permitted strikes, looked for among those up to the bound, which has to be a strike
+data Outcome : Type 0 where
+  strikesOf : Bool → List ℕ → Outcome
+  answerOf : Answer → Outcome
+  testsOf : List Bool → Outcome
+
+abbrev computed : ClassRecord → Case → Outcome
+computed c (permits s standing strikes) =
+    strikesOf (leb (highestPermitted (price s)) 19999) (only (λ h. isAccepted (judgement s standing h)) (upFrom (highestPermitted (price s)) 1))
+computed c (answers s standing h answer) = answerOf (judgement s standing h)
+computed c (refused now month) = testsOf (isOutside (seenFrom now month c) ∷ [])
+computed c (near now month) = testsOf (isOutside (seenFrom now month c) ∷ isNear (seenFrom now month c) ∷ [])
+computed c (long now month) = testsOf (isOutside (seenFrom now month c) ∷ isLong (seenFrom now month c) ∷ [])
+
+abbrev expected : Case → Outcome
+expected (permits s standing strikes) = strikesOf true strikes
+expected (answers s standing h answer) = answerOf answer
+expected (refused now month) = testsOf (true ∷ [])
+expected (near now month) = testsOf (false ∷ true ∷ [])
+expected (long now month) = testsOf (false ∷ true ∷ [])
+
+holds : (x : Case) → ((c : ClassRecord) → computed c x ≡ expected x) → Holds x
+holds (permits s standing strikes) e =
+    let e₁ : computed (s .class) (permits s standing strikes) ≡ strikesOf true strikes = e (s .class) in
+    let b : leb (highestPermitted (price s)) 19999 ≡ true = cc in
+    permitted-short s standing (highestPermitted (price s)) (omega arith) (leb-true (highestPermitted (price s)) 19999 b) ∙ cc
+holds (answers s standing h answer) e = let e₁ = e (s .class) in cc
+holds (refused now month) e = λ c. let e₁ = e c in cc
+holds (near now month) e = λ c. let e₁ = e c in (cc, cc)
+holds (long now month) e = λ c. let e₁ = e c in (cc, cc)
+
+all-hold : (xs : List Case) → ((c : ClassRecord) → map (computed c) xs ≡ map expected xs) → All xs
+all-hold [] e = tt
+all-hold (x ∷ xs) e = (holds x (λ c. let e₁ = e c in cc), all-hold xs (λ c. let e₁ = e c in cc))
+
+-- class 7 seen from month 4, by its close, volume and designations, in the month m
+abbrev setting : ℕ → ℕ → ℕ → ℕ → ℕ → Setting
+setting p v d e m = record { class = record { number = 7; close = p; volume = v; dollar = d; half = e }; current = 4; month = m }
+
+-- a $1 class near and long, a class in no program, a half class
+abbrev dollarNear : ℕ → Setting
+dollarNear p = setting p 0 1 0 12
+
+abbrev dollarLong : ℕ → Setting
+dollarLong p = setting p 0 1 0 13
+
+abbrev noProgram : ℕ → Setting
+noProgram p = setting p 0 0 0 12
+
+abbrev halfNear : ℕ → Setting
+halfNear p = setting p 1000 0 1 12
+
+abbrev oneStanding : ℕ → ℕ → List Standing
+oneStanding h g = record { strike = h; ground = g } ∷ []
+
+-- strikes at whole dollars
+abbrev dollars : List ℕ → List ℕ
+dollars ds = map (λ d. 2 * d) ds
+
+abbrev pub cases : List Case
+cases =
+    -- T1 "$1 class, near, P 200: $1 to $7"
+    permits (dollarNear 200) [] (dollars (upFrom 7 1)) ∷
+    -- T2 "no program, P 200: h 5, 10, 15, 20, 25"
+    permits (noProgram 200) [] (5 ∷ 10 ∷ 15 ∷ 20 ∷ 25 ∷ []) ∷
+    -- T3 "$1, near, 2400: $12 to $36, 25 strikes"
+    permits (dollarNear 2400) [] (dollars (upFrom 25 12)) ∷
+    -- T4 "$1, near, 4999: $25 to $50, then $55, 60, 65, 70; 30 strikes"
+    permits (dollarNear 4999) [] (dollars (upFrom 26 25 ++ 55 ∷ 60 ∷ 65 ∷ 70 ∷ [])) ∷
+    -- T5 "$1, near, 5000: $25 to $75 by $5; $26 draws 11"
+    permits (dollarNear 5000) [] (dollars (25 ∷ 30 ∷ 35 ∷ 40 ∷ 45 ∷ 50 ∷ 55 ∷ 60 ∷ 65 ∷ 70 ∷ 75 ∷ [])) ∷
+    answers (dollarNear 5000) [] (2 * 26) (Refused OffGrid) ∷
+    -- T6 "$1, long, 2450: $15, 18, 20, 22, 25, 27, 30, 32, 35"
+    permits (dollarLong 2450) [] (dollars (15 ∷ 18 ∷ 20 ∷ 22 ∷ 25 ∷ 27 ∷ 30 ∷ 32 ∷ 35 ∷ [])) ∷
+    -- T7 "$1, long, 2500: T6's and $23; with $22 standing, $23 draws 13"
+    permits (dollarLong 2500) [] (dollars (15 ∷ 18 ∷ 20 ∷ 22 ∷ 23 ∷ 25 ∷ 27 ∷ 30 ∷ 32 ∷ 35 ∷ [])) ∷
+    answers (dollarLong 2500) (oneStanding (2 * 22) 3) (2 * 23) (Refused TooClose) ∷
+    -- T8 "half class only, volume 1,000, 200: h 1 to 9, 10, 15, 20, 25"
+    permits (halfNear 200) [] (upFrom 9 1 ++ 10 ∷ 15 ∷ 20 ∷ 25 ∷ []) ∷
+    -- T9 "$1, near, 1300, a Standard $12.50 standing: $12 and $13 draw 13, $14 is Dollar"
+    answers (dollarNear 1300) (oneStanding 25 0) (2 * 12) (Refused TooClose) ∷
+    answers (dollarNear 1300) (oneStanding 25 0) (2 * 13) (Refused TooClose) ∷
+    answers (dollarNear 1300) (oneStanding 25 0) (2 * 14) (Ground 1) ∷
+    -- T10 "`now` 4: m 4 and 44 draw 5, 12 is near, 13 and 43 are long"
+    refused 4 4 ∷
+    refused 4 44 ∷
+    near 4 12 ∷
+    long 4 13 ∷
+    long 4 43 ∷ []
+
+pub closes : All cases
+unfolding lowest amongFive
+closes = all-hold cases (λ c. refl)

@@ -1,0 +1,188 @@
+-- The five lowest strikes above a price end at a closed form: a walk finds the strikes that pass up to where it ends, and the ends are computed for each price of at most $20. Assumes nothing.
+use mathlib.Core.Path.{_≡_, refl, sym, ap, _∙_, fun-ext}
+use mathlib.Core.Bool.{Bool, true, false, cond, not, _&&_, _||_, and-false, true≢false}
+use mathlib.Core.List.{_∷_}
+use Prim.Native.Nat.{ℕ, zero, suc, _+_, _/_, _≤_, _<_}
+use native.Mathlib.Omega.{arith}
+use borrow.Author.Tests.{leb-true, ltb-true, ltb-false, eqb-true, eqb-false, lt-ltb, le-ltb, le-leb}
+use lib.Dec.{leb, ltb, eqb, leb·suc-suc}
+use Rattle.rule.specs.declared.terms.Setting.{Setting}
+use Rattle.rule.specs.Lists.{some}
+use Rattle.rule.specs.Terms.{cents, isDollarClass, isNear, price}
+use Rattle.rule.specs.Grids.{multiple, ladder, halfDollars}
+use Rattle.rule.specs.Ranges.{lowest, amongFive, rangeGrid}
+use Rattle.rule.specs.Ends.{fifthAbove}
+use Rattle.rule.proofs.Tests.{and-right, and-middle, and-implied, same-leb}
+
+-- the strike past the last one that `lowest` looks at
+endOf : (ℕ → Bool) → ℕ → ℕ → ℕ → ℕ
+endOf test zero n h = h
+endOf test (suc left) zero h = h
+endOf test (suc left) (suc n) h =
+    elim (test h) [ true ↦ endOf test left n (suc h) | false ↦ endOf test left (suc n) (suc h) ]
+
+-- one strike further, at one that passes and at one that does not
+module _ (test : ℕ → Bool) (left n a : ℕ) where
+  end-on : test a ≡ true → endOf test (suc left) (suc n) a ≡ endOf test left n (suc a)
+  unfolding endOf
+  end-on e = rw (e, endOf)
+
+  end-off : test a ≡ false → endOf test (suc left) (suc n) a ≡ endOf test left (suc n) (suc a)
+  unfolding endOf
+  end-off e = rw (e, endOf)
+
+  lowest-on : test a ≡ true → lowest test (suc left) (suc n) a ≡ a ∷ lowest test left n (suc a)
+  unfolding lowest
+  lowest-on e = rw (e, lowest)
+
+  lowest-off : test a ≡ false → lowest test (suc left) (suc n) a ≡ lowest test left (suc n) (suc a)
+  unfolding lowest
+  lowest-off e = rw (e, lowest)
+
+end-low : (test : ℕ → Bool) (left n a : ℕ) → a ≤ endOf test left n a
+unfolding endOf
+end-low test zero n a = omega arith
+end-low test (suc left) zero a = omega arith
+end-low test (suc left) (suc n) a = go (test a) refl (end-low test left n (suc a)) (end-low test left (suc n) (suc a))
+  where
+    go : (b : Bool) → test a ≡ b → suc a ≤ endOf test left n (suc a) → suc a ≤ endOf test left (suc n) (suc a) → a ≤ endOf test (suc left) (suc n) a
+    go true e x y = omega (arith, end-on test left n a e)
+    go false e x y = omega (arith, end-off test left n a e)
+
+-- no strike stands where the ends meet
+none : (a h : ℕ) (b : Bool) → false ≡ (leb a h && ltb h a && b)
+none a h b = go (leb a h) refl
+  where
+    go : (t : Bool) → leb a h ≡ t → false ≡ (leb a h && ltb h a && b)
+    go true e = rw (e, le-ltb h a (leb-true a h e))
+    go false e = rw e
+
+-- the same, of the strikes up to an end
+module _ (test : ℕ → Bool) (a end h : ℕ) where
+  from-next : (h ≡ a → ⊥) → leb (suc a) h ≡ leb a h
+  from-next ne = same-leb (suc a) h a h (λ l. omega arith) (λ l. omega (arith, ne))
+
+  step-on : test a ≡ true → suc a ≤ end → (eqb h a || (leb (suc a) h && ltb h end && test h)) ≡ (leb a h && ltb h end && test h)
+  step-on on low = go (eqb h a) refl
+    where
+      go : (t : Bool) → eqb h a ≡ t → (eqb h a || (leb (suc a) h && ltb h end && test h)) ≡ (leb a h && ltb h end && test h)
+      go true e =
+          let p : h ≡ a = eqb-true h a e in
+          rw (e, p, le-leb a a (omega arith), lt-ltb a end low) (sym on)
+      go false e = rw (e, from-next (eqb-false h a e))
+
+  step-off : test a ≡ false → (leb (suc a) h && ltb h end && test h) ≡ (leb a h && ltb h end && test h)
+  step-off off = go (eqb h a) refl
+    where
+      go : (t : Bool) → eqb h a ≡ t → (leb (suc a) h && ltb h end && test h) ≡ (leb a h && ltb h end && test h)
+      go true e =
+          let p : test h ≡ false = ap test (eqb-true h a e) ∙ off in
+          rw p (and-false (leb (suc a) h && ltb h end) ∙ sym (and-false (leb a h && ltb h end)))
+      go false e = rw (from-next (eqb-false h a e))
+
+-- the strikes that `lowest` finds are those that pass, up to where it ends
+among : (test : ℕ → Bool) (left n a h : ℕ) → some (eqb h) (lowest test left n a) ≡ (leb a h && ltb h (endOf test left n a) && test h)
+unfolding lowest endOf
+among test zero n a h = none a h (test h)
+among test (suc left) zero a h = none a h (test h)
+among test (suc left) (suc n) a h = go (test a) refl (among test left n (suc a) h) (among test left (suc n) (suc a) h)
+  where
+    go : (b : Bool) → test a ≡ b →
+        some (eqb h) (lowest test left n (suc a)) ≡ (leb (suc a) h && ltb h (endOf test left n (suc a)) && test h) →
+        some (eqb h) (lowest test left (suc n) (suc a)) ≡ (leb (suc a) h && ltb h (endOf test left (suc n) (suc a)) && test h) →
+        some (eqb h) (lowest test (suc left) (suc n) a) ≡ (leb a h && ltb h (endOf test (suc left) (suc n) a) && test h)
+    go true e x y =
+        rw (lowest-on test left n a e, end-on test left n a e)
+        (ap (λ (t : Bool). eqb h a || t) x ∙ step-on test a (endOf test left n (suc a)) h e (end-low test left n (suc a)))
+    go false e x y =
+        rw (lowest-off test left n a e, end-off test left n a e)
+        (y ∙ step-off test a (endOf test left (suc n) (suc a)) h e)
+
+-- where the walk ends that looks for the five lowest strikes above the strike q
+endAbove : (ℕ → Bool) → ℕ → ℕ
+endAbove grid q = endOf (λ x. ltb q x && grid (cents x)) 19999 5 1
+
+-- a strike is above a price when it is above the highest strike at or below the price
+above : (p h : ℕ) → ltb p (cents h) ≡ ltb (p / 50) h
+above p h = same-leb (suc p) (cents h) (suc (p / 50)) h (λ l. omega arith) (λ l. omega arith)
+
+among-above : (grid : ℕ → Bool) (p h : ℕ) → amongFive grid p h ≡ (ltb (p / 50) h && ltb h (endAbove grid (p / 50)) && grid (cents h))
+unfolding amongFive endAbove
+among-above grid p h =
+    ap (λ (test : ℕ → Bool). some (eqb h) (lowest test 19999 5 1))
+    (fun-ext (λ x. ap (λ (t : Bool). t && grid (cents x)) (above p x)))
+    ∙ among (λ x. ltb (p / 50) x && grid (cents x)) 19999 5 1 h
+    ∙ and-implied (leb 1 h) (ltb h (endAbove grid (p / 50))) (ltb (p / 50) h) (grid (cents h))
+    (λ e. le-leb 1 h (omega (arith, ltb-true (p / 50) h e)))
+
+-- a test of each number below n, which is computed
+abbrev allBelow : (ℕ → Bool) → ℕ → Bool
+allBelow test zero = true
+allBelow test (suc n) = test n && allBelow test n
+
+below : (test : ℕ → Bool) (n : ℕ) → allBelow test n ≡ true → (q : ℕ) → q < n → test q ≡ true
+below test zero all q l = absurd (omega arith)
+below test (suc n) all q l = go (λ u m. below test n u q m) (test n) refl (eqb q n) refl
+  where
+    go : (allBelow test n ≡ true → q < n → test q ≡ true) → (b : Bool) → test n ≡ b → (t : Bool) → eqb q n ≡ t → test q ≡ true
+    go rest true e true k = rw (eqb-true q n k) e
+    go rest true e false k =
+        let ne : q ≡ n → ⊥ = eqb-false q n k in
+        rest (rw e at all) (omega arith)
+    go rest false e t k = absurd (true≢false (sym (rw e at all)))
+
+-- the range grid of Standard and Dollar, by what it asks of the class and the expiration
+abbrev gridBy : Bool → Bool → ℕ → Bool
+gridBy whole dollar k = cond whole (multiple 100 k) (ladder k && not (dollar && ltb k 5000 && not (multiple 500 k)))
+
+-- the closed form is right for each strike q of at most $20
+endTest : Bool → Bool → ℕ → Bool
+endTest whole dollar q = eqb (endAbove (gridBy whole dollar) q) (suc (fifthAbove whole dollar q))
+
+ends : (whole dollar : Bool) → allBelow (endTest whole dollar) 41 ≡ true
+unfolding endTest endAbove endOf
+ends true true = refl
+ends true false = refl
+ends false true = refl
+ends false false = refl
+
+five-by : (whole dollar : Bool) (p h : ℕ) → p ≤ 2000 →
+    amongFive (gridBy whole dollar) p h ≡ (ltb (p / 50) h && leb h (fifthAbove whole dollar (p / 50)) && gridBy whole dollar (cents h))
+unfolding endTest
+five-by whole dollar p h cheap =
+    let fifth : ℕ = fifthAbove whole dollar (p / 50) in
+    let end : endAbove (gridBy whole dollar) (p / 50) ≡ suc fifth =
+    eqb-true _ _ (below (endTest whole dollar) 41 (ends whole dollar) (p / 50) (omega arith)) in
+    among-above (gridBy whole dollar) p h
+    ∙ ap (λ (t : Bool). ltb (p / 50) h && t && gridBy whole dollar (cents h)) (ap (ltb h) end ∙ leb·suc-suc h fifth)
+
+pub five : (s : Setting) (h : ℕ) → price s ≤ 2000 →
+    amongFive (rangeGrid s) (price s) h ≡ (ltb (price s / 50) h && leb h (fifthAbove (isNear s && isDollarClass (s .class)) (isDollarClass (s .class)) (price s / 50)) && rangeGrid s (cents h))
+five s h cheap = five-by (isNear s && isDollarClass (s .class)) (isDollarClass (s .class)) (price s) h cheap
+
+-- from $3.50 up the half dollars to $5.50 are fewer than five: the walk then goes on to the highest strike
+halfEndTest : ℕ → Bool
+halfEndTest q = eqb (endAbove halfDollars q) (cond (ltb q 7) (q + 6) 20000)
+
+half-ends : allBelow halfEndTest 11 ≡ true
+unfolding halfEndTest endAbove endOf
+half-ends = refl
+
+half-end : (q h : ℕ) → q < h → h ≤ 11 → ltb h (endAbove halfDollars q) ≡ leb h (q + 5)
+unfolding halfEndTest
+half-end q h low high = go (ltb q 7) refl (eqb-true _ _ (below halfEndTest 11 half-ends q (omega arith)))
+  where
+    go : (t : Bool) → ltb q 7 ≡ t → endAbove halfDollars q ≡ cond t (q + 6) 20000 → ltb h (endAbove halfDollars q) ≡ leb h (q + 5)
+    go true e end = same-leb (suc h) (endAbove halfDollars q) h (q + 5) (λ l. omega arith) (λ l. omega arith)
+    go false e end =
+        lt-ltb h (endAbove halfDollars q) (omega arith) ∙ sym (le-leb h (q + 5) (omega (arith, ltb-false q 7 e)))
+
+pub five-half-dollars : (p h : ℕ) →
+    amongFive halfDollars p h ≡ (ltb (p / 50) h && leb h (p / 50 + 5) && halfDollars (cents h))
+five-half-dollars p h =
+    among-above halfDollars p h
+    ∙ and-middle (ltb (p / 50) h) (ltb h (endAbove halfDollars (p / 50))) (leb h (p / 50 + 5)) (halfDollars (cents h))
+    (λ low on. half-end (p / 50) h (ltb-true (p / 50) h low) (high on))
+  where
+    high : halfDollars (cents h) ≡ true → h ≤ 11
+    high on = omega (arith, leb-true (cents h) 550 (and-right (multiple 50 (cents h)) (leb (cents h) 550) on))

@@ -1,0 +1,55 @@
+-- `is_clear` answers whether the strike clears the standing one: its callees ensure its parts, in the same shape. Assumes nothing.
+use borrow.Author.Needs.{needs}
+use Rattle.rule.proofs.spacing.is_clear.Statement.{statement}
+use Rattle.rule.proofs.spacing.is_clear.Tie as tie
+
+field-of-requires : tie.Need-field-of-requires
+field-of-requires c κs = search needs
+
+field-of-requires-2 : tie.Need-field-of-requires-2
+field-of-requires-2 c κs = search needs
+
+is-crowded-requires : tie.Need-is-crowded-requires
+is-crowded-requires c κs = search needs
+
+is-crowded-requires-2 : tie.Need-is-crowded-requires-2
+is-crowded-requires-2 c κs = search needs
+
+is-long-requires : tie.Need-is-long-requires
+is-long-requires c κs = search needs
+
+cents-requires : tie.Need-cents-requires
+cents-requires c κs = search needs
+
+cents-requires-2 : tie.Need-cents-requires-2
+cents-requires-2 c κs = search needs
+
+distance-requires : tie.Need-distance-requires
+distance-requires c κs = search needs
+
+returns : tie.Need-returns
+returns c =
+    rw (
+      c .distance .ensures,
+      c .before .cents2 .ensures,
+      c .before .before .cents .ensures,
+      c .before .before .before .is-long .ensures,
+      c .before .before .before .before .is-crowded2 .ensures,
+      c .before .before .before .before .before .is-crowded .ensures,
+      c .before .before .before .before .before .before .field-of2 .ensures,
+      c .before .before .before .before .before .before .before .field-of .ensures,
+    )
+
+pub is-clear-spec : {M : Type 1} → statement M
+is-clear-spec =
+    tie.close
+    (tie.spec
+    field-of-requires
+    field-of-requires-2
+    is-crowded-requires
+    is-crowded-requires-2
+    is-long-requires
+    cents-requires
+    cents-requires-2
+    distance-requires
+    returns)

@@ -1,0 +1,71 @@
+-- Document 01, end of "Spacing": the ground of a strike, or 11, 12 or 13, and the list of permitted strikes. Assumes nothing.
+use Prim.Native.Nat.{ℕ, zero, suc, _+_, _≤_}
+use mathlib.Core.Bool.{Bool, false, cond, _&&_}
+use mathlib.Core.List.{List, [], _∷_, map}
+use lib.Dec.{eqb}
+use lib.ListN.{getD}
+use Rattle.word.specs.Answers.{answerNumber}
+use Rattle.word.specs.declared.answer.Refusal.{Refusal}
+use Rattle.word.specs.declared.answer.Refusal.the-variants.{OffGrid, OutOfRange, TooClose}
+use Rattle.word.specs.declared.answer.Answer.{Answer}
+use Rattle.word.specs.declared.answer.Answer.the-variants.{Ground, Refused}
+use Rattle.rule.specs.declared.terms.Setting.{Setting}
+use Rattle.rule.specs.Lists.{some, only, upFrom}
+use Rattle.rule.specs.Grids.{grounds, gridOf}
+use Rattle.rule.specs.Ranges.{rangeOf}
+use Rattle.rule.specs.Spacing.{Standing, spacingOf}
+
+-- the three results of one ground: grid, range, spacing
+abbrev pub rowOf : Setting → List Standing → ℕ → ℕ → List Bool
+rowOf s standing h g = gridOf s g h ∷ rangeOf s g h ∷ spacingOf s standing g h ∷ []
+
+abbrev pub rowsOf : Setting → List Standing → ℕ → List (List Bool)
+rowsOf s standing h = map (rowOf s standing h) grounds
+
+abbrev pub passesGrid : List Bool → Bool
+passesGrid row = getD row 0 false
+
+abbrev pub passesRange : List Bool → Bool
+passesRange row = getD row 0 false && getD row 1 false
+
+abbrev pub passes : List Bool → Bool
+passes row = getD row 0 false && getD row 1 false && getD row 2 false
+
+-- "11 if none passes its grid, 12 if some pass the grid and none the range too, else 13"
+abbrev pub refusalOf : List (List Bool) → Refusal
+refusalOf rows = cond (some passesRange rows) TooClose (cond (some passesGrid rows) OutOfRange OffGrid)
+
+-- the first ground whose row passes, where the rows are those of the grounds from g up; else the answer v
+abbrev pub groundFrom : Answer → ℕ → List (List Bool) → Answer
+groundFrom v g [] = v
+groundFrom v g (row ∷ rows) = cond (passes row) (Ground g) (groundFrom v (g + 1) rows)
+
+-- "The ground is the first of the four, from 0 up, that passes grid, range and spacing. With none: .."
+abbrev pub decided : List (List Bool) → Answer
+decided rows = groundFrom (Refused (refusalOf rows)) 0 rows
+
+-- the first of the n numbers from g up that passes the test, or g + n where none does
+abbrev pub firstFrom : (ℕ → Bool) → ℕ → ℕ → ℕ
+firstFrom test zero g = g
+firstFrom test (suc n) g = cond (test g) g (firstFrom test n (g + 1))
+
+-- the first ground that passes grid, range and spacing; 4 where none does
+abbrev pub firstGround : Setting → List Standing → ℕ → ℕ
+firstGround s standing h = firstFrom (λ g. passes (rowOf s standing h g)) 4 0
+
+abbrev pub judgement : Setting → List Standing → ℕ → Answer
+judgement s standing h = decided (rowsOf s standing h)
+
+-- "An accepted call answers 0"
+abbrev pub isAccepted : Answer → Bool
+isAccepted a = eqb (answerNumber a) 0
+
+-- the strikes that the rules permit beside those that stand, rising; that a strike stands already is asked before
+abbrev pub permitted : Setting → List Standing → List ℕ
+permitted s standing = only (λ h. isAccepted (judgement s standing h)) (upFrom 19999 1)
+
+-- what can be judged: the close and `now` of a book, and a strike
+pub record Judged (s : Setting) (h : ℕ) : Type 0 where
+  pub close : s .class .close ≤ 999999
+  pub current : s .current ≤ 1023
+  pub strike : h ≤ 19999

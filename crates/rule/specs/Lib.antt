@@ -1,0 +1,7 @@
+pub mod Lists
+pub mod Terms
+pub mod Grids
+pub mod Ranges
+pub mod Ends
+pub mod Spacing
+pub mod Judgement

@@ -1,0 +1,41 @@
+-- Document 01, "Range". A grid is a test of K, in cents; a strike is counted in half dollars, h. Assumes nothing.
+use Prim.Native.Nat.{ℕ, zero, suc, _+_, _*_, _/_}
+use mathlib.Core.Bool.{Bool, true, false, cond, _&&_, _||_}
+use mathlib.Core.List.{List, [], _∷_}
+use lib.Dec.{leb, ltb, eqb}
+use Rattle.rule.specs.declared.terms.Setting.{Setting}
+use Rattle.rule.specs.Lists.{some}
+use Rattle.rule.specs.Terms.{cents, isDollarClass, isNear, price}
+use Rattle.rule.specs.Grids.{multiple, standardGrid, halfDollars, wingBase}
+
+-- the n lowest strikes that pass the test, of the `left` strikes from h up
+unfoldable pub lowest : (ℕ → Bool) → ℕ → ℕ → ℕ → List ℕ
+lowest test zero n h = []
+lowest test (suc left) zero h = []
+lowest test (suc left) (suc n) h =
+    elim (test h) [ true ↦ h ∷ lowest test left n (suc h) | false ↦ lowest test left (suc n) (suc h) ]
+
+-- "K is among the five lowest strikes above P of the *range grid*": of all strikes from 1 to 19,999
+unfoldable pub amongFive : (ℕ → Bool) → ℕ → ℕ → Bool
+amongFive grid p h = some (eqb h) (lowest (λ x. ltb p (cents x) && grid (cents x)) 19999 5 1)
+
+-- "At P above 2,000, K is in range when P ≤ 2K ≤ 3P. At P of 2,000 or less, K is in range when K ≤ 2P, or when K is among the five"
+abbrev pub rangeBy : (ℕ → Bool) → ℕ → ℕ → Bool
+rangeBy grid p h =
+    cond (ltb 2000 p)
+    (leb p (2 * cents h) && leb (2 * cents h) (3 * p))
+    (leb (cents h) (2 * p) || amongFive grid p h)
+
+-- document 01's term: "That grid is: whole dollars for Standard and Dollar in a near $1 class; the Standard grid otherwise for Standard"
+abbrev pub rangeGrid : Setting → ℕ → Bool
+rangeGrid s k = cond (isNear s && isDollarClass (s .class)) (multiple 100 k) (standardGrid (s .class) k)
+
+abbrev pub standardRange : Setting → ℕ → Bool
+standardRange s h = rangeBy (rangeGrid s) (price s) h
+
+-- "the Half grid for Half, which may hold fewer than five. A wing is in range when L and L + $5 both are, as Standard."
+abbrev pub rangeOf : Setting → ℕ → ℕ → Bool
+rangeOf s zero h = standardRange s h
+rangeOf s (suc zero) h = standardRange s h
+rangeOf s (suc (suc zero)) h = rangeBy halfDollars (price s) h
+rangeOf s (suc (suc (suc g))) h = standardRange s (wingBase (cents h) / 50) && standardRange s (wingBase (cents h) / 50 + 10)

@@ -1,0 +1,35 @@
+-- Document 01, "Spacing": how near a new strike may stand to those of its expiration. Assumes nothing.
+use Prim.Native.Nat.{ℕ, _+_, _-_, _%_}
+use mathlib.Core.Bool.{Bool, not, _&&_}
+use mathlib.Core.List.{List}
+use lib.Dec.{leb, eqb}
+use Rattle.word.specs.Field.{field}
+use Rattle.rule.specs.declared.terms.Setting.{Setting}
+use Rattle.rule.specs.Lists.{every}
+use Rattle.rule.specs.Terms.{cents, isLong}
+
+-- a strike that stands, in half dollars, and its ground
+pub record Standing : Type 0 where
+  pub strike : ℕ
+  pub ground : ℕ
+
+-- the strike of a strike word: "h in bits 0–14, ground in 15–17"
+abbrev pub standingIn : ℕ → Standing
+standingIn w = record { strike = field w 0 15; ground = field w 15 3 }
+
+abbrev pub apart : ℕ → ℕ → ℕ
+apart a b = (a - b) + (b - a)
+
+-- "a Dollar strike and a Standard strike at an odd multiple of $2.50 stay more than $0.50 from each other": here they don't
+abbrev pub crowds : ℕ → ℕ → Bool
+crowds dollar standard = eqb (cents standard % 500) 250 && leb (apart (cents dollar) (cents standard)) 50
+
+-- the new strike h on ground g may stand beside t: "whichever came first"; "In a long expiration a new strike stays more than $1 from every standing one, on any ground."
+abbrev pub clears : Setting → ℕ → ℕ → Standing → Bool
+clears s g h t =
+    not (eqb g 1 && eqb (t .ground) 0 && crowds h (t .strike))
+    && not (eqb g 0 && eqb (t .ground) 1 && crowds (t .strike) h)
+    && not (isLong s && leb (apart (cents h) (cents (t .strike))) 100)
+
+abbrev pub spacingOf : Setting → List Standing → ℕ → ℕ → Bool
+spacingOf s standing g h = every (clears s g h) standing

@@ -1,0 +1,36 @@
+-- Document 01, "Grids", its first sentences, and the months of "Who draws which number": the terms in which the rules speak of a class and an expiration. Assumes nothing.
+use Prim.Native.Nat.{ℕ, _+_, _*_}
+use mathlib.Core.Bool.{Bool, not, _||_}
+use lib.Dec.{leb, ltb, eqb}
+use Rattle.word.specs.declared.class.ClassRecord.{ClassRecord}
+use Rattle.rule.specs.declared.terms.Setting.{Setting}
+
+-- "K = 50 × h is the same strike in cents"
+abbrev pub cents : ℕ → ℕ
+cents h = 50 * h
+
+abbrev pub isDesignated : ℕ → Bool
+isDesignated d = eqb d 1 || eqb d 2
+
+-- document 01's term: "A *$1 class* has $1 designation 1 or 2"
+abbrev pub isDollarClass : ClassRecord → Bool
+isDollarClass c = isDesignated (c .dollar)
+
+-- document 01's term: "a *half class* has $0.50 designation 1 or 2"
+abbrev pub isHalfClass : ClassRecord → Bool
+isHalfClass c = isDesignated (c .half)
+
+-- document 01's terms: "An expiration m is *long* when m − `now` is 9 or more, else *near*."
+abbrev pub isLong : Setting → Bool
+isLong s = leb (s .current + 9) (s .month)
+
+abbrev pub isNear : Setting → Bool
+isNear s = not (isLong s)
+
+-- the price P at which the rules are read: the last close
+abbrev pub price : Setting → ℕ
+price s = s .class .close
+
+-- "5 .. m at or below `now` or above `now` + 39"
+abbrev pub isOutside : Setting → Bool
+isOutside s = leb (s .month) (s .current) || ltb (s .current + 39) (s .month)

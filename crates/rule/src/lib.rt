@@ -1,0 +1,6 @@
+// The judgement of a strike: grids, range, spacing, and the ground or the refusal.
+pub mod grids;
+pub mod judgement;
+pub mod ranges;
+pub mod spacing;
+pub mod terms;

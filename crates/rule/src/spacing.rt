@@ -1,0 +1,40 @@
+// The distance that a new strike keeps from those of its expiration.
+ghost use mathlib.Core.Path.{_≡_};
+ghost use Prim.Native.Nat.{_<_, _≤_};
+ghost use Rattle.rule.specs.Spacing.{apart, crowds, clears, standingIn};
+ghost use Rattle.rule.specs.Judgement.{Judged};
+use crate::terms::Setting;
+use crate::terms::is_long;
+use word::field::field_of;
+use word::strike::Strike;
+
+fn distance(a: u32, b: u32) -> u32
+    ensures { λ r. ⌜ r ≡ apart a b ⌝ }
+{
+    if a < b {
+        return b - a;
+    }
+    a - b
+}
+
+// Whether a Dollar strike is too near to a Standard strike at an odd multiple of $2.50.
+fn is_crowded(dollar: Strike, standard: Strike) -> bool
+    requires { ⌜ (dollar .0 < 32768) × (standard .0 < 32768) ⌝ }
+    ensures { λ r. ⌜ r ≡ crowds (dollar .0) (standard .0) ⌝ }
+{
+    let d = dollar.cents();
+    let k = standard.cents();
+    (k % 500 == 250) & (distance(d, k) <= 50)
+}
+
+// Whether the strike, on the ground g, may stand beside the strike of the word w.
+pub fn is_clear(s: Setting, g: u32, strike: Strike, w: u32) -> bool
+    requires { ⌜ Judged s (strike .0) ⌝ }
+    ensures { λ r. ⌜ r ≡ clears s g (strike .0) (standingIn w) ⌝ }
+{
+    let other = Strike(field_of(w, 0, 15));
+    let ground = field_of(w, 15, 3);
+    !((g == 1) & (ground == 0) & is_crowded(strike, other))
+        & !((g == 0) & (ground == 1) & is_crowded(other, strike))
+        & !(is_long(s) & (distance(strike.cents(), other.cents()) <= 100))
+}

@@ -1,0 +1,37 @@
+// What the rules read of a class and an expiration.
+ghost use mathlib.Core.Path.{_≡_};
+ghost use Prim.Native.Nat.{_≤_};
+ghost use Rattle.rule.specs.Terms.{isDesignated, isDollarClass, isHalfClass, isLong};
+use word::class::ClassRecord;
+
+// A class and an expiration of it, seen from the current month, document 01's `now`.
+pub struct Setting {
+    pub class: ClassRecord,
+    pub current: u32,
+    pub month: u32,
+}
+
+fn is_designated(designation: u32) -> bool
+    ensures { λ r. ⌜ r ≡ isDesignated designation ⌝ }
+{
+    (designation == 1) | (designation == 2)
+}
+
+pub fn is_dollar_class(class: ClassRecord) -> bool
+    ensures { λ r. ⌜ r ≡ isDollarClass class ⌝ }
+{
+    is_designated(class.dollar)
+}
+
+pub fn is_half_class(class: ClassRecord) -> bool
+    ensures { λ r. ⌜ r ≡ isHalfClass class ⌝ }
+{
+    is_designated(class.half)
+}
+
+pub fn is_long(s: Setting) -> bool
+    requires { ⌜ s .current ≤ 1023 ⌝ }
+    ensures { λ r. ⌜ r ≡ isLong s ⌝ }
+{
+    s.current + 9 <= s.month
+}
