@@ -91,7 +91,7 @@ module _ (test : ℕ → Bool) where
   only-none zero h none = refl
   only-none (suc n) h none = rw (none h (omega arith)) (only-none n (suc h) (λ x l. none x (omega arith)))
 
-  only-short : (n m h : ℕ) → ((x : ℕ) → h + n ≤ x → test x ≡ false) → only test (upFrom (n + m) h) ≡ only test (upFrom n h)
+  pub only-short : (n m h : ℕ) → ((x : ℕ) → h + n ≤ x → test x ≡ false) → only test (upFrom (n + m) h) ≡ only test (upFrom n h)
   only-short zero m h none = rw zero-add (only-none m h (λ x l. none x (omega arith)))
   only-short (suc n) m h none =
       rw suc-add (ap (λ (xs : List ℕ). cond (test h) (h ∷ xs) xs) (only-short n m (suc h) (λ x l. none x (omega arith))))

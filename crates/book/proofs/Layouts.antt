@@ -1,0 +1,230 @@
+-- A run is a book exactly when it is the layout of well-formed facts, which reading gives back: by induction on series and classes. Assumes nothing.
+use Prim.Native.Nat.{ℕ, zero, suc, _+_, _-_, _≤_}
+use mathlib.Core.Path.{_≡_, refl, sym, ap, _∙_, subst}
+use mathlib.Core.Logic.{_↔_}
+use mathlib.Core.Bool.{Bool, true, false, cond}
+use mathlib.Core.List.{List, [], _∷_, _++_, map, map-append}
+use native.Mathlib.Omega.{arith}
+use lib.ListN.{length, replicate, length-append, length-map, length-replicate}
+use lib.Dec.{T, eqb, leb, leb→le, le→leb, eqb→eq, eqb-refl, eqb·suc-suc, eqb·zero-suc}
+use borrow.Author.Tests.{eqb-true}
+use Rattle.word.specs.declared.codec.Word.{Word}
+use Rattle.word.specs.declared.codec.Word.the-variants.{Head, Invalid}
+use Rattle.word.specs.Limits.{isLength, isMonth}
+use Rattle.word.specs.Codec.{isLegal, packed, reading}
+use Rattle.word.proofs.Tests.{and-both}
+use Rattle.word.proofs.Words.{reading-packed}
+use Rattle.rule.specs.Lists.{every}
+use Rattle.book.specs.Facts.{Series, OpenClass, Facts, fresh, sum, expirations, wordsTaken}
+use Rattle.book.specs.Layout.{strikeWord, expirationUnless, seriesWords, figuresWords, classesWords, used, layout, Tail, begun, addClass, addSeries, setClose, setVolume, readFrom, factsIn, factsOf}
+use Rattle.book.specs.Books.{isSeries, areFigures, isClass, isWellFormed, sameWords, isBook}
+use Rattle.book.proofs.Tests.{and-intro, ands, T-true}
+
+-- ---- reading the words of facts
+
+-- one series, whether its expiration stands already or not
+read-strike :
+    (p : ℕ) (s : Series) (rest : List Word) (ss : List Series) (xs : List OpenClass) (stands : Bool)
+    → eqb p (suc (s .month)) ≡ stands
+    → readFrom (suc (s .month)) rest ≡ begun ss xs
+    → readFrom p (expirationUnless stands (s .month) (strikeWord s ∷ rest)) ≡ begun (s ∷ ss) xs
+read-strike p s rest ss xs true e next = rw (eqb-true p (suc (s .month)) e) (ap (addSeries s) next)
+read-strike p s rest ss xs false e next = ap (addSeries s) next
+
+read-series :
+    (p : ℕ) (ss : List Series) (rest : List Word) (xs : List OpenClass) → ((q : ℕ) → readFrom q rest ≡ begun [] xs)
+    → readFrom p (seriesWords p ss rest) ≡ begun ss xs
+read-series p [] rest xs ends = ends p
+read-series p (s ∷ ss) rest xs ends =
+    read-strike p s (seriesWords (suc (s .month)) ss rest) ss xs (eqb p (suc (s .month))) refl
+    (read-series (suc (s .month)) ss rest xs ends)
+
+read-classes :
+    (xs : List OpenClass) (rest : List Word) → ((q : ℕ) → readFrom q rest ≡ begun [] [])
+    → (q : ℕ) → readFrom q (classesWords xs rest) ≡ begun [] xs
+read-classes [] rest ends q = ends q
+read-classes (x ∷ xs) rest ends q =
+    let r = x .figures in
+    ap (λ (t : Tail). addClass (r .number) (r .dollar) (r .half) (setClose (r .close) (setVolume (r .volume) t)))
+    (read-series 0 (x .series) (classesWords xs rest) xs (read-classes xs rest ends))
+
+-- reading the words of any facts, before words that add none, gives the facts back
+pub factsIn-layout :
+    (f : Facts) (rest : List Word) → ((q : ℕ) → readFrom q rest ≡ begun [] [])
+    → factsIn (Head (f .now) (used f) ∷ classesWords (f .classes) rest) ≡ f
+factsIn-layout f rest ends =
+    ap (λ (t : Tail). record { now = f .now; classes = t .classes }) (read-classes (f .classes) rest ends 0)
+
+-- ---- what follows the words of the classes
+
+expiration-append :
+    (stands : Bool) (m : ℕ) (ws rest : List Word)
+    → expirationUnless stands m (ws ++ rest) ≡ expirationUnless stands m ws ++ rest
+expiration-append true m ws rest = refl
+expiration-append false m ws rest = refl
+
+pub seriesWords-append :
+    (p : ℕ) (ss : List Series) (ws rest : List Word) → seriesWords p ss (ws ++ rest) ≡ seriesWords p ss ws ++ rest
+seriesWords-append p [] ws rest = refl
+seriesWords-append p (s ∷ ss) ws rest =
+    let m = s .month in
+    ap (λ (l : List Word). expirationUnless (eqb p (suc m)) m (strikeWord s ∷ l)) (seriesWords-append (suc m) ss ws rest)
+    ∙ expiration-append (eqb p (suc m)) m (strikeWord s ∷ seriesWords (suc m) ss ws) rest
+
+pub classesWords-append : (xs : List OpenClass) (rest : List Word) → classesWords xs rest ≡ classesWords xs [] ++ rest
+classesWords-append [] rest = refl
+classesWords-append (x ∷ xs) rest =
+    ap (figuresWords (x .figures))
+    (ap (seriesWords 0 (x .series)) (classesWords-append xs rest) ∙ seriesWords-append 0 (x .series) (classesWords xs []) rest)
+
+-- ---- the words that facts take
+
+length-expiration :
+    (stands : Bool) (m : ℕ) (ws : List Word)
+    → length (expirationUnless stands m ws) ≡ cond {A = ℕ} stands 0 1 + length ws
+length-expiration true m ws = omega arith
+length-expiration false m ws = omega arith
+
+-- after the series s, whose expiration stands
+length-after :
+    (s : Series) (ss : List Series) (rest : List Word)
+    → suc (length (seriesWords (suc (s .month)) ss rest)) ≡ expirations (s ∷ ss) + length ss + length rest
+length-after s [] rest = omega arith
+length-after s (t ∷ ts) rest =
+    let m = t .month in
+    rw (eqb·suc-suc (s .month) m)
+    (omega (
+      arith,
+      length-expiration (eqb (s .month) m) m (strikeWord t ∷ seriesWords (suc m) ts rest),
+      length-after t ts rest,
+    ))
+
+length-series :
+    (ss : List Series) (rest : List Word) → length (seriesWords 0 ss rest) ≡ expirations ss + length ss + length rest
+length-series [] rest = omega arith
+length-series (s ∷ ss) rest = rw (eqb·zero-suc (s .month)) (omega (arith, length-after s ss rest))
+
+length-classes :
+    (xs : List OpenClass) → length (classesWords xs []) ≡ sum (λ x. 3 + expirations (x .series) + length (x .series)) xs
+length-classes [] = refl
+length-classes (x ∷ xs) = omega (arith, length-series (x .series) (classesWords xs []), length-classes xs)
+
+pub used-taken : (f : Facts) → used f ≡ wordsTaken f
+used-taken f = omega (arith, length-classes (f .classes))
+
+pub layout-length : (n : ℕ) (f : Facts) → used f ≤ n → length (layout n f) ≡ n
+unfolding layout
+layout-length n f fits = simp (length-append, length-map, length-replicate) (omega arith)
+
+-- ---- the words of well-formed facts are legal
+
+module _ (now : ℕ) where
+  strike-legal :
+      (s : Series) (rest : List Word) (stands : Bool) → T (isSeries now s) → T (every isLegal rest)
+      → T (every isLegal (expirationUnless stands (s .month) (strikeWord s ∷ rest)))
+  strike-legal s rest true good legal =
+      let l : T (isLegal (strikeWord s)) = search (ands, and-intro) in
+      search and-intro
+  strike-legal s rest false good legal =
+      let l : T (isLegal (strikeWord s)) = search (ands, and-intro) in
+      let m : T (isMonth (s .month)) = search ands depth 12 in
+      search and-intro
+
+  series-legal :
+      (p : ℕ) (ss : List Series) (rest : List Word) → T (every (isSeries now) ss) → T (every isLegal rest)
+      → T (every isLegal (seriesWords p ss rest))
+  series-legal p [] rest good legal = legal
+  series-legal p (s ∷ ss) rest good legal =
+      strike-legal s (seriesWords (suc (s .month)) ss rest) (eqb p (suc (s .month))) (search ands)
+      (series-legal (suc (s .month)) ss rest (search ands) legal)
+
+  classes-legal : (xs : List OpenClass) → T (every (isClass now) xs) → T (every isLegal (classesWords xs []))
+  classes-legal [] good = tt
+  classes-legal (x ∷ xs) good =
+      let f : T (areFigures (x .figures)) = search ands in
+      let l = series-legal 0 (x .series) (classesWords xs []) (search ands) (classes-legal xs (search ands)) in
+      search (ands, and-intro) depth 8
+
+-- every word of well-formed classes is legal
+pub words-legal : (now : ℕ) (xs : List OpenClass) → T (every (isClass now) xs) → every isLegal (classesWords xs []) ≡ true
+words-legal now xs good = T-true (every isLegal (classesWords xs [])) (classes-legal now xs good)
+
+-- ---- reading inverts the layout
+
+read-words : (ws : List Word) → every isLegal ws ≡ true → map reading (map packed ws) ≡ ws
+read-words [] legal = refl
+read-words (w ∷ ws) legal =
+    let p = and-both (isLegal w) (every isLegal ws) legal in
+    λ i. reading-packed w (p .0) i ∷ read-words ws (p .1) i
+
+read-zeros : (k : ℕ) → map reading (replicate k 0) ≡ replicate k Invalid
+unfolding reading
+read-zeros zero = refl
+read-zeros (suc k) = ap (λ (l : List Word). Invalid ∷ l) (read-zeros k)
+
+invalid-ends : (k q : ℕ) → readFrom q (replicate k Invalid) ≡ begun [] []
+invalid-ends zero q = refl
+invalid-ends (suc k) q = refl
+
+head-legal : (n : ℕ) (f : Facts) → T (isWellFormed n f) → isLegal (Head (f .now) (used f)) ≡ true
+unfolding isWellFormed
+head-legal n f good =
+    let month : T (isMonth (f .now)) = search ands in
+    let fits : wordsTaken f ≤ n = leb→le (wordsTaken f) n (search ands) in
+    let small : n ≤ 65535 = leb→le n 65535 (search ands) in
+    let low : T (leb 1 (used f)) = le→leb 1 (used f) (omega arith) in
+    let high : T (leb (used f) 65535) = le→leb (used f) 65535 (omega (arith, used-taken f)) in
+    T-true (isLegal (Head (f .now) (used f))) (search and-intro)
+
+pub factsOf-layout : (n : ℕ) (f : Facts) → T (isWellFormed n f) → factsOf (layout n f) ≡ f
+unfolding factsOf layout isWellFormed
+factsOf-layout n f good =
+    let k = n - used f in
+    let ws = classesWords (f .classes) [] in
+    let head = reading-packed (Head (f .now) (used f)) (head-legal n f good) in
+    let words = read-words ws (words-legal (f .now) (f .classes) (search ands)) in
+    let after : map reading (map packed ws ++ replicate k 0) ≡ classesWords (f .classes) (replicate k Invalid) =
+    map-append reading (map packed ws) (replicate k 0)
+    ∙ (λ i. words i ++ read-zeros k i)
+    ∙ sym (classesWords-append (f .classes) (replicate k Invalid)) in
+    ap factsIn (λ i. head i ∷ after i) ∙ factsIn-layout f (replicate k Invalid) (invalid-ends k)
+
+pub layout-injective :
+    (n : ℕ) (f g : Facts) → T (isWellFormed n f) → T (isWellFormed n g) → layout n f ≡ layout n g → f ≡ g
+layout-injective n f g good-f good-g e = sym (factsOf-layout n f good-f) ∙ ap factsOf e ∙ factsOf-layout n g good-g
+
+-- ---- the books are the layouts of well-formed facts
+
+same-words : (ws : List ℕ) → T (sameWords ws ws)
+same-words [] = tt
+same-words (w ∷ ws) = and-intro (eqb w w) (sameWords ws ws) (eqb-refl w) (same-words ws)
+
+words-equal : (vs ws : List ℕ) → T (sameWords vs ws) → vs ≡ ws
+words-equal [] [] t = refl
+words-equal [] (w ∷ ws) t = absurd t
+words-equal (v ∷ vs) [] t = absurd t
+words-equal (v ∷ vs) (w ∷ ws) t = λ i. eqb→eq v w (search ands) i ∷ words-equal vs ws (search ands) i
+
+pub book-layout : (n : ℕ) (f : Facts) → T (isWellFormed n f) → T (isBook (layout n f))
+unfolding isBook isWellFormed
+book-layout n f good =
+    let fits : wordsTaken f ≤ n = leb→le (wordsTaken f) n (search ands) in
+    let long : length (layout n f) ≡ n = layout-length n f (omega (arith, used-taken f)) in
+    let ws = layout n f in
+    rw (long, factsOf-layout n f good) (and-intro (isWellFormed n f) (sameWords ws ws) good (same-words ws))
+
+pub book-facts :
+    (ws : List ℕ) → T (isBook ws) → T (isWellFormed (length ws) (factsOf ws)) × (layout (length ws) (factsOf ws) ≡ ws)
+unfolding isBook
+book-facts ws book = (search ands, words-equal (layout (length ws) (factsOf ws)) ws (search ands))
+
+pub book-exactly :
+    (ws : List ℕ) → T (isBook ws) ↔ ((f : Facts) × (T (isWellFormed (length ws) f) × (layout (length ws) f ≡ ws)))
+book-exactly ws = (
+  λ book. (factsOf ws, book-facts ws book),
+  λ p. subst (λ (l : List ℕ). T (isBook l)) (p .1 .1) (book-layout (length ws) (p .0) (p .1 .0)),
+)
+
+pub fresh-well-formed : (n : ℕ) → T (isLength n) → T (isWellFormed n fresh)
+unfolding isWellFormed
+fresh-well-formed n long = let fits : T (leb 1 n) = search ands in search and-intro

@@ -1,0 +1,13 @@
+pub mod Tests
+pub mod Alternatives
+pub mod Lists
+pub mod Forms
+pub mod SeriesLaws
+pub mod ClassLaws
+pub mod Layouts
+pub mod LayoutExamples
+pub mod Order
+pub mod Keep
+pub mod SameFacts
+pub mod Permits
+pub mod Examples

@@ -1,0 +1,179 @@
+-- Lists under any test and any order: what keeping some, changing each and inserting one leave of `every`, `rises` and sums, through the form in which each element stands before all later ones. Assumes nothing.
+use Prim.Native.Nat.{ℕ, suc, _+_, _≤_, zero-le}
+use mathlib.Core.Path.{_≡_, refl, sym, ap, _∙_, subst}
+use mathlib.Core.Bool.{Bool, true, false, cond, not, _&&_, _||_}
+use mathlib.Core.List.{List, [], _∷_, map}
+use mathlib.Core.Logic.{inl, inr}
+use native.Mathlib.Omega.{arith}
+use lib.ListN.{length}
+use lib.Dec.{T, T-not}
+use Rattle.rule.specs.Lists.{every, some, only}
+use Rattle.book.specs.Facts.{inserted, sum}
+use Rattle.book.specs.Books.{rises}
+use Rattle.book.proofs.Tests.{and-intro, ands}
+use Rattle.book.proofs.Alternatives.{or-cases, nor-left, nor-right}
+
+-- ---- a test of each element
+
+module _ {A : Type 0} where
+  pub every-imply : (p q : A → Bool) → ((x : A) → T (p x) → T (q x)) → (xs : List A) → T (every p xs) → T (every q xs)
+  every-imply p q f [] t = tt
+  every-imply p q f (x ∷ xs) t =
+      let a : T (q x) = f x (search ands) in
+      let b : T (every q xs) = every-imply p q f xs (search ands) in
+      search and-intro
+
+  pub every-map :
+      {B : Type 0} (p : A → Bool) (q : B → Bool) (g : A → B) → ((x : A) → T (p x) → T (q (g x))) → (xs : List A)
+      → T (every p xs) → T (every q (map g xs))
+  every-map p q g f [] t = tt
+  every-map p q g f (x ∷ xs) t =
+      let a : T (q (g x)) = f x (search ands) in
+      let b : T (every q (map g xs)) = every-map p q g f xs (search ands) in
+      search and-intro
+
+  pub every-only :
+      (p q keep : A → Bool) → ((x : A) → T (keep x) → T (p x) → T (q x)) → (xs : List A) → T (every p xs)
+      → T (every q (only keep xs))
+  every-only p q keep f [] t = tt
+  every-only p q keep f (x ∷ xs) t = go (keep x) refl (every-only p q keep f xs (search ands))
+    where
+      go : (b : Bool) → keep x ≡ b → T (every q (only keep xs)) → T (every q (cond b (x ∷ only keep xs) (only keep xs)))
+      go true e rest = let a : T (q x) = f x (rw e tt) (search ands) in search and-intro
+      go false e rest = rest
+
+  not-some : (p : A → Bool) (xs : List A) → T (not (some p xs)) → T (every (λ x. not (p x)) xs)
+  not-some p [] t = tt
+  not-some p (x ∷ xs) t =
+      let a : T (not (p x)) = nor-left (p x) (some p xs) t in
+      let b : T (every (λ x. not (p x)) xs) = not-some p xs (nor-right (p x) (some p xs) t) in
+      search and-intro
+
+  pub length-only : (keep : A → Bool) (xs : List A) → length (only keep xs) ≤ length xs
+  length-only keep [] = zero-le
+  length-only keep (x ∷ xs) = go (keep x) (length-only keep xs)
+    where
+      go :
+          (b : Bool) → length (only keep xs) ≤ length xs
+          → length (cond b (x ∷ only keep xs) (only keep xs)) ≤ suc (length xs)
+      go true l = omega arith
+      go false l = omega arith
+
+  pub sum-map :
+      (size : A → ℕ) (g : A → A) → ((x : A) → size (g x) ≤ size x) → (xs : List A) → sum size (map g xs) ≤ sum size xs
+  sum-map size g l [] = zero-le
+  sum-map size g l (x ∷ xs) = omega (arith, l x, sum-map size g l xs)
+
+-- ---- lists that rise
+
+-- the order depends on a key alone
+rises-keys :
+    {A B : Type 0} (key : A → B) (before : B → B → Bool) (xs : List A)
+    → rises (λ x y. before (key x) (key y)) xs ≡ rises before (map key xs)
+rises-keys key before [] = refl
+rises-keys key before (x ∷ []) = refl
+rises-keys key before (x ∷ y ∷ ys) = ap (λ (b : Bool). before (key x) (key y) && b) (rises-keys key before (y ∷ ys))
+
+pub same-keys : {A B : Type 0} (key : A → B) (before : B → B → Bool) (xs ys : List A) → map key xs ≡ map key ys
+    → T (rises (λ x y. before (key x) (key y)) ys) → T (rises (λ x y. before (key x) (key y)) xs)
+same-keys key before xs ys e t =
+    subst T (rises-keys key before ys ∙ ap (rises before) (sym e) ∙ sym (rises-keys key before xs)) t
+
+-- a strict order, and the test that two elements have the same place in it
+pub record StrictOrder {A : Type 0} (same before : A → A → Bool) : Type 0 where
+  pub transitive : (x y z : A) → T (before x y) → T (before y z) → T (before x z)
+  pub total : (x y : A) → T (same x y || (before x y || before y x))
+  pub apart : (x y : A) → T (before x y) → T (not (same x y || same y x))
+  pub reflexive : (x : A) → T (same x x)
+
+-- each element stands before all later ones
+abbrev pub ordered : {A : Type 0} → (A → A → Bool) → List A → Bool
+ordered before [] = true
+ordered before (x ∷ xs) = every (before x) xs && ordered before xs
+
+module _ {A : Type 0} (same before : A → A → Bool) (order : StrictOrder same before) where
+  pub before-every : (x y : A) (ys : List A) → T (before x y) → T (every (before y) ys) → T (every (before x) ys)
+  before-every x y ys b t = every-imply (before y) (before x) (λ z c. order .transitive x y z b c) ys t
+
+  pub rises-ordered : (xs : List A) → T (rises before xs) → T (ordered before xs)
+  rises-ordered [] t = tt
+  rises-ordered (x ∷ []) t = tt
+  rises-ordered (x ∷ y ∷ ys) t =
+      let a : T (ordered before (y ∷ ys)) = rises-ordered (y ∷ ys) (search ands) in
+      let b : T (before x y) = search ands in
+      let c : T (every (before x) ys) = before-every x y ys b (search ands) in
+      search and-intro
+
+  ordered-rises : (xs : List A) → T (ordered before xs) → T (rises before xs)
+  ordered-rises [] t = tt
+  ordered-rises (x ∷ []) t = tt
+  ordered-rises (x ∷ y ∷ ys) t =
+      let a : T (rises before (y ∷ ys)) = ordered-rises (y ∷ ys) (search ands) in
+      let b : T (before x y) = search ands in
+      search and-intro
+
+  ordered-only : (keep : A → Bool) (xs : List A) → T (ordered before xs) → T (ordered before (only keep xs))
+  ordered-only keep [] t = tt
+  ordered-only keep (x ∷ xs) t = go (keep x) (ordered-only keep xs (search ands))
+    where
+      go :
+          (b : Bool) → T (ordered before (only keep xs)) → T (ordered before (cond b (x ∷ only keep xs) (only keep xs)))
+      go true rest =
+          let a : T (every (before x) (only keep xs)) =
+          every-only (before x) (before x) keep (λ y k c. c) xs (search ands) in
+          search and-intro
+      go false rest = rest
+
+  pub rises-only : (keep : A → Bool) (xs : List A) → T (rises before xs) → T (rises before (only keep xs))
+  rises-only keep xs t = ordered-rises (only keep xs) (ordered-only keep xs (rises-ordered xs t))
+
+-- ---- an element put where it has its place
+
+module _ {A : Type 0} (before : A → A → Bool) where
+  pub every-inserted : (p : A → Bool) (y : A) (xs : List A) → T (p y) → T (every p xs) → T (every p (inserted before y xs))
+  every-inserted p y [] a t = search and-intro
+  every-inserted p y (x ∷ xs) a t = go (before y x) (every-inserted p y xs a (search ands))
+    where
+      go : (b : Bool) → T (every p (inserted before y xs)) → T (every p (cond b (y ∷ x ∷ xs) (x ∷ inserted before y xs)))
+      go true rest = search and-intro
+      go false rest = let c : T (p x) = search ands in search and-intro
+
+  pub sum-inserted : (size : A → ℕ) (y : A) (xs : List A) → sum size (inserted before y xs) ≡ size y + sum size xs
+  sum-inserted size y [] = refl
+  sum-inserted size y (x ∷ xs) = go (before y x) (sum-inserted size y xs)
+    where
+      go :
+          (b : Bool) → sum size (inserted before y xs) ≡ size y + sum size xs
+          → sum size (cond b (y ∷ x ∷ xs) (x ∷ inserted before y xs)) ≡ size y + (size x + sum size xs)
+      go true e = refl
+      go false e = omega arith
+
+module _ {A : Type 0} (same before : A → A → Bool) (order : StrictOrder same before) where
+  ordered-inserted :
+      (y : A) (xs : List A) → T (every (λ x. not (same y x)) xs) → T (ordered before xs)
+      → T (ordered before (inserted before y xs))
+  ordered-inserted y [] n t = tt
+  ordered-inserted y (x ∷ xs) n t = go (before y x) refl (ordered-inserted y xs (search ands) (search ands))
+    where
+      other : before y x ≡ false → T (before x y)
+      other e = elim (or-cases (same y x) (before y x || before x y) (order .total y x)) [
+        | inl a ↦ absurd (T-not (same y x) (search ands) a)
+        | inr b ↦ rw e at b
+      ]
+
+      go :
+          (b : Bool) → before y x ≡ b → T (ordered before (inserted before y xs))
+          → T (ordered before (cond b (y ∷ x ∷ xs) (x ∷ inserted before y xs)))
+      go true e rest =
+          let a : T (before y x) = rw e tt in
+          let b : T (every (before y) xs) = before-every same before order y x xs a (search ands) in
+          search and-intro
+      go false e rest =
+          let a : T (every (before x) (inserted before y xs)) = every-inserted before (before x) y xs (other e) (search ands) in
+          search and-intro
+
+  pub rises-inserted :
+      (y : A) (xs : List A) → T (not (some (same y) xs)) → T (rises before xs) → T (rises before (inserted before y xs))
+  rises-inserted y xs n t =
+      ordered-rises same before order (inserted before y xs)
+      (ordered-inserted y xs (not-some (same y) xs n) (rises-ordered same before order xs t))

@@ -1,0 +1,55 @@
+-- Document 01, "A run is a book exactly when ..": the limits and the order of facts, and the runs that are books. Assumes nothing.
+use Prim.Native.Nat.{ℕ, _+_}
+use mathlib.Core.Bool.{Bool, true, false, _&&_}
+use mathlib.Core.List.{List, [], _∷_}
+use lib.ListN.{length}
+use lib.Dec.{eqb, leb}
+use Rattle.word.specs.declared.class.ClassRecord.{ClassRecord}
+use Rattle.word.specs.Limits.{isStrike, isMonth, isClassNumber, isVolume, isLength, isDesignation, isClose, isGround, isMark}
+use Rattle.rule.specs.Lists.{every}
+use Rattle.book.specs.Facts.{Series, OpenClass, Facts, isBelow, precedes, capOf, owned, wordsTaken}
+use Rattle.book.specs.Layout.{layout, factsOf}
+
+-- "Classes rise by number, a class's expirations by month, an expiration's strikes by h, none twice."
+module _ {A : Type 0} (before : A → A → Bool) where
+  abbrev pub rises : List A → Bool
+  rises [] = true
+  rises (x ∷ []) = true
+  rises (x ∷ y ∷ ys) = before x y && rises (y ∷ ys)
+
+-- "each expiration from `now` to `now` + 39"
+abbrev pub isListed : ℕ → ℕ → Bool
+isListed now m = leb now m && (leb m (now + 39) && isMonth m)
+
+abbrev pub isSeries : ℕ → Series → Bool
+isSeries now s =
+    isStrike (s .strike) && (isGround (s .ground) && (isMark (s .put) && (isMark (s .call) && isListed now (s .month))))
+
+abbrev pub areFigures : ClassRecord → Bool
+areFigures r =
+    isClassNumber (r .number)
+    && (isDesignation (r .dollar) && (isDesignation (r .half) && (isClose (r .close) && isVolume (r .volume))))
+
+abbrev pub isClass : ℕ → OpenClass → Bool
+isClass now x = areFigures (x .figures) && (every (isSeries now) (x .series) && rises precedes (x .series))
+
+-- "with every field in its limits, each expiration from `now` to `now` + 39, at most 150 classes with $1 designation 1 and at most 20 with $0.50 designation 1",
+-- within n words
+unfoldable pub isWellFormed : ℕ → Facts → Bool
+isWellFormed n f =
+    isLength n
+    && (leb (wordsTaken f) n
+    && (isMonth (f .now)
+    && (every (isClass (f .now)) (f .classes)
+    && (rises isBelow (f .classes)
+    && (leb (owned 1 (f .classes)) (capOf 1) && leb (owned 2 (f .classes)) (capOf 2))))))
+
+abbrev pub sameWords : List ℕ → List ℕ → Bool
+sameWords [] [] = true
+sameWords [] (w ∷ ws) = false
+sameWords (v ∷ vs) [] = false
+sameWords (v ∷ vs) (w ∷ ws) = eqb v w && sameWords vs ws
+
+-- "A run is a book exactly when it has this form": it is what the layout gives to the facts that it reads there, and they are well formed
+unfoldable pub isBook : List ℕ → Bool
+isBook ws = isWellFormed (length ws) (factsOf ws) && sameWords (layout (length ws) (factsOf ws)) ws

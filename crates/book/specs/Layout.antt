@@ -1,0 +1,107 @@
+-- Document 01, "Units and the words of the book": the words that the layout gives to facts, and the facts that it reads in words. Assumes nothing.
+use Prim.Native.Nat.{ℕ, zero, suc, _-_}
+use mathlib.Core.Bool.{Bool, true, false}
+use mathlib.Core.List.{List, [], _∷_, _++_, map}
+use lib.ListN.{length, replicate}
+use lib.Dec.{eqb}
+use Rattle.word.specs.declared.class.ClassRecord.{ClassRecord}
+use Rattle.word.specs.declared.codec.Word.{Word}
+use Rattle.word.specs.declared.codec.Word.the-variants.{Head, Class, Close, Volume, Expiration, Strike, Invalid}
+use Rattle.word.specs.Codec.{packed, reading}
+use Rattle.book.specs.Facts.{Series, OpenClass, Facts}
+
+-- ---- from facts to words
+
+abbrev pub strikeWord : Series → Word
+strikeWord s = Strike (s .strike) (s .ground) (s .put) (s .call)
+
+-- an expiration word before the words `rest`, unless the expiration stands already
+abbrev pub expirationUnless : Bool → ℕ → List Word → List Word
+expirationUnless true m rest = rest
+expirationUnless false m rest = Expiration m ∷ rest
+
+-- the words of the series, then `rest`. p is the expiration that stands already: 0 for none, else its month + 1
+abbrev pub seriesWords : ℕ → List Series → List Word → List Word
+seriesWords p [] rest = rest
+seriesWords p (s ∷ ss) rest =
+    expirationUnless (eqb p (suc (s .month))) (s .month) (strikeWord s ∷ seriesWords (suc (s .month)) ss rest)
+
+-- "One of each follows its class word, close first."
+abbrev pub figuresWords : ClassRecord → List Word → List Word
+figuresWords r rest = Class (r .number) (r .dollar) (r .half) ∷ Close (r .close) ∷ Volume (r .volume) ∷ rest
+
+abbrev pub classesWords : List OpenClass → List Word → List Word
+classesWords [] rest = rest
+classesWords (x ∷ xs) rest = figuresWords (x .figures) (seriesWords 0 (x .series) (classesWords xs rest))
+
+-- the words used: the head and those of the classes
+abbrev pub used : Facts → ℕ
+used f = suc (length (classesWords (f .classes) []))
+
+-- the run of n words: "the head, first"; "Words past those used are zero."
+unfoldable pub layout : ℕ → Facts → List ℕ
+layout n f = map packed (Head (f .now) (used f) ∷ classesWords (f .classes) []) ++ replicate (n - used f) 0
+
+-- ---- from words to facts
+
+-- what the words from some place on say, the last first: the figures and the series of a class whose word is still to come, and the classes
+pub record Tail : Type 0 where
+  pub close : ℕ
+  pub volume : ℕ
+  pub series : List Series
+  pub classes : List OpenClass
+
+abbrev pub begun : List Series → List OpenClass → Tail
+begun ss xs = record { close = 0; volume = 0; series = ss; classes = xs }
+
+abbrev pub addClass : ℕ → ℕ → ℕ → Tail → Tail
+addClass n d e t =
+    begun []
+    (record {
+      figures = record { number = n; close = t .close; volume = t .volume; dollar = d; half = e };
+      series = t .series;
+    }
+    ∷ t .classes)
+
+abbrev pub addSeries : Series → Tail → Tail
+addSeries s t = record { close = t .close; volume = t .volume; series = s ∷ t .series; classes = t .classes }
+
+abbrev pub setClose : ℕ → Tail → Tail
+setClose p t = record { close = p; volume = t .volume; series = t .series; classes = t .classes }
+
+abbrev pub setVolume : ℕ → Tail → Tail
+setVolume v t = record { close = t .close; volume = v; series = t .series; classes = t .classes }
+
+-- the month that p stands for
+abbrev pub monthBefore : ℕ → ℕ
+monthBefore zero = zero
+monthBefore (suc m) = m
+
+-- the words after the head, to the first that is none; p is the expiration that the strikes belong to
+abbrev pub readFrom : ℕ → List Word → Tail
+readFrom p [] = begun [] []
+readFrom p (Head now k ∷ ws) = begun [] []
+readFrom p (Class n d e ∷ ws) = addClass n d e (readFrom 0 ws)
+readFrom p (Close price ∷ ws) = setClose price (readFrom p ws)
+readFrom p (Volume v ∷ ws) = setVolume v (readFrom p ws)
+readFrom p (Expiration m ∷ ws) = readFrom (suc m) ws
+readFrom p (Strike h g a b ∷ ws) =
+    addSeries (record { month = monthBefore p; strike = h; ground = g; put = a; call = b }) (readFrom p ws)
+readFrom p (Invalid ∷ ws) = begun [] []
+
+abbrev pub headMonth : Word → ℕ
+headMonth (Head now k) = now
+headMonth (Class n d e) = 0
+headMonth (Close price) = 0
+headMonth (Volume v) = 0
+headMonth (Expiration m) = 0
+headMonth (Strike h g a b) = 0
+headMonth Invalid = 0
+
+abbrev pub factsIn : List Word → Facts
+factsIn [] = record { now = 0; classes = [] }
+factsIn (w ∷ ws) = record { now = headMonth w; classes = readFrom 0 ws .classes }
+
+-- "what the layout reads in a run"
+unfoldable pub factsOf : List ℕ → Facts
+factsOf ws = factsIn (map reading ws)

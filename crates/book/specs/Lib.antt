@@ -1,0 +1,6 @@
+pub mod Facts
+pub mod Layout
+pub mod Books
+pub mod Calls
+pub mod Points
+pub mod Places
