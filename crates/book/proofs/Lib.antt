@@ -11,3 +11,4 @@ pub mod Keep
 pub mod SameFacts
 pub mod Permits
 pub mod Examples
+pub mod Answered

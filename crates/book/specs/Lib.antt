@@ -4,3 +4,4 @@ pub mod Books
 pub mod Calls
 pub mod Points
 pub mod Places
+pub mod Made

@@ -1,7 +1,7 @@
 // What the rules read of a class and an expiration.
 ghost use mathlib.Core.Path.{_≡_};
 ghost use Prim.Native.Nat.{_≤_};
-ghost use Rattle.rule.specs.Terms.{isDesignated, isDollarClass, isHalfClass, isLong};
+ghost use Rattle.rule.specs.Terms.{isDesignated, isDollarClass, isHalfClass, isLong, isOutside};
 use word::class::ClassRecord;
 
 // A class and an expiration of it, seen from the current month, document 01's `now`.
@@ -34,4 +34,12 @@ pub fn is_long(s: Setting) -> bool
     ensures { λ r. ⌜ r ≡ isLong s ⌝ }
 {
     s.current + 9 <= s.month
+}
+
+// Whether nothing can be listed in the expiration's month.
+pub fn is_outside(s: Setting) -> bool
+    requires { ⌜ s .current ≤ 1023 ⌝ }
+    ensures { λ r. ⌜ r ≡ isOutside s ⌝ }
+{
+    (s.month <= s.current) | (s.current + 39 < s.month)
 }

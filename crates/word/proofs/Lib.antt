@@ -3,3 +3,4 @@ pub mod Tests
 pub mod Fields
 pub mod Words
 pub mod Counts
+pub mod Refusals

@@ -1,0 +1,213 @@
+-- A run is a book exactly when its length, its head, the words used and the words past them pass their tests: by the layout of the facts. Assumes nothing.
+use Prim.Native.Nat.{ℕ, zero, suc, _+_, _-_, _^_, _/_, _*_, _≤_}
+use mathlib.Core.Path.{_≡_, refl, sym, ap, _∙_}
+use mathlib.Core.Logic.{_↔_}
+use mathlib.Core.Bool.{true, false, not, _||_}
+use mathlib.Core.List.{List, [], _∷_, _++_, map}
+use native.Mathlib.Omega.{arith}
+use lib.ListN.{length, take, drop, getD, replicate, length-map, length-drop, length-replicate, take-append-drop}
+use lib.Seq.{drop-cons, drop-drop, take-all, take-at, drop-at, length-take-le}
+use lib.Dec.{T, eqb, leb, ltb, leb→le, le→leb, eqb→eq}
+use borrow.Author.Tests.{le-leb, ne-eqb, not-true, not-false}
+use Rattle.word.specs.declared.codec.Word.the-variants.{Head}
+use Rattle.word.specs.Limits.{isLength, isMonth}
+use Rattle.word.specs.Field.{field}
+use Rattle.word.specs.Codec.{isLegal, packed}
+use Rattle.rule.specs.Lists.{every}
+use Rattle.book.specs.Facts.{OpenClass, Facts, number, capOf, owned, wordsTaken}
+use Rattle.book.specs.Layout.{classesWords, used, layout, factsOf}
+use Rattle.book.specs.Books.{rises, isClass, isWellFormed, isBook}
+use Rattle.book.proofs.Tests.{and-intro, ands, true-T, same-bool}
+use Rattle.book.proofs.Layouts.{used-taken, book-facts, book-exactly}
+use Rattle.scan.specs.Tests.{isZero, isHeadWord}
+use Rattle.scan.specs.Stretches.{leads, Classes}
+use Rattle.scan.proofs.Tests.{refuted, above-not}
+use Rattle.scan.proofs.Words.{head-packed, head-fields}
+use Rattle.scan.proofs.Zeros.{zeros-replicate, replicate-zeros}
+
+-- what the head says: the month, and how many words are used
+abbrev pub monthIn : List ℕ → ℕ
+monthIn ws = field (getD ws 0 0) 0 10
+
+abbrev pub usedIn : List ℕ → ℕ
+usedIn ws = field (getD ws 0 0) 10 16
+
+-- the words used after the head, and those past them
+abbrev pub front : List ℕ → List ℕ
+front ws = take (usedIn ws - 1) (drop 1 ws)
+
+abbrev pub past : List ℕ → List ℕ
+past ws = take (length ws - usedIn ws) (drop (usedIn ws) ws)
+
+record Parts (ws : List ℕ) : Type 0 where
+  long : T (isLength (length ws))
+  head : T (isHeadWord (length ws) (getD ws 0 0))
+  classes : Classes (monthIn ws) 0 0 0 (front ws)
+  zeros : T (every isZero (past ws))
+
+-- the first class's number is above 0
+numbered : (now : ℕ) (xs : List OpenClass) → T (every (isClass now) xs) → T (leads (λ x. ltb 0 (number x)) xs)
+numbered now [] legal = tt
+numbered now (x ∷ xs) legal = search ands depth 12
+
+-- ---- from facts to parts
+
+module _ (ws : List ℕ) (f : Facts) (good : T (isWellFormed (length ws) f)) (laid : layout (length ws) f ≡ ws) where
+  words :
+      ws
+      ≡ packed (Head (f .now) (used f)) ∷ (map packed (classesWords (f .classes) []) ++ replicate (length ws - used f) 0)
+  unfolding layout
+  words = sym laid
+
+  parts-from : Parts ws
+  unfolding isWellFormed
+  parts-from =
+      let n = length ws in
+      let u = used f in
+      let xs = f .classes in
+      let cs = map packed (classesWords xs []) in
+      let zs = replicate {A = ℕ} (n - u) 0 in
+      let same : length cs ≡ length (classesWords xs []) = length-map (classesWords xs []) packed in
+      let long : T (isLength n) = search ands in
+      let small : n ≤ 65535 = leb→le n 65535 (search ands) in
+      let month : T (isMonth (f .now)) = search ands in
+      let fits : u ≤ n = omega (arith, used-taken f, leb→le (wordsTaken f) n (search ands)) in
+      let low : T (leb 1 u) = le→leb 1 u (omega arith) in
+      let high : T (leb u 65535) = le→leb u 65535 (omega arith) in
+      let within : T (leb u n) = le→leb u n fits in
+      let legal : T (isLegal (Head (f .now) u)) = search and-intro in
+      let fields = head-fields (getD ws 0 0) (f .now) u legal (sym (ap (λ (l : List ℕ). getD l 0 0) words)) in
+      let top = fields .2 in
+      let taken : take (u - 1) (drop 1 ws) ≡ cs =
+      ap (λ (l : List ℕ). take (u - 1) (drop 1 l)) words ∙ take-at cs zs (u - 1) (omega arith) in
+      let rest : drop u ws ≡ zs = ap (drop u) words ∙ drop-at cs zs (length (classesWords xs [])) same in
+      let all : take (n - u) zs ≡ zs = take-all (n - u) zs (omega (arith, length-replicate {A = ℕ} (n - u) 0)) in
+      record {
+        long = long;
+        head = rw (fields .1) (search and-intro);
+        classes =
+            rw (fields .0, fields .1, taken)
+            (record {
+              classes = xs;
+              holds = refl;
+              legal = search ands;
+              rising = search ands;
+              leading = numbered (f .now) xs (search ands);
+              dollarCapped = omega (arith, leb→le (owned 1 xs) (capOf 1) (search ands depth 12));
+              halfCapped = omega (arith, leb→le (owned 2 xs) (capOf 2) (search ands depth 12));
+            });
+        zeros = rw (fields .1, rest, all) (zeros-replicate (n - u));
+      }
+
+-- ---- from parts to facts
+
+module _ (ws : List ℕ) (p : Parts ws) where
+  told : Facts
+  told = record { now = monthIn ws; classes = p .classes .classes }
+
+  within : (1 ≤ usedIn ws) × (usedIn ws ≤ length ws)
+  within =
+      let head : T (isHeadWord (length ws) (getD ws 0 0)) = p .head in
+      (leb→le 1 (usedIn ws) (search ands), leb→le (usedIn ws) (length ws) (search ands))
+
+  told-used : used told ≡ usedIn ws
+  unfolding told
+  told-used =
+      omega (
+        arith,
+        within,
+        length-drop 1 ws,
+        length-take-le (usedIn ws - 1) (drop 1 ws) (omega (arith, within, length-drop 1 ws)),
+        length-map (classesWords (told .classes) []) packed,
+        ap length (p .classes .holds),
+      )
+
+  told-good : T (isWellFormed (length ws) told)
+  unfolding told isWellFormed
+  told-good =
+      let n = length ws in
+      let c = p .classes in
+      let xs = c .classes in
+      let long : T (isLength n) = p .long in
+      let fits : T (leb (wordsTaken told) n) =
+      le→leb (wordsTaken told) n (omega (arith, used-taken told, told-used, within)) in
+      let month : T (isMonth (monthIn ws)) = le→leb (monthIn ws) 1023 (omega arith) in
+      let legal : T (every (isClass (monthIn ws)) xs) = c .legal in
+      let rising : T (rises (λ x y. ltb (number x) (number y)) xs) = c .rising in
+      let dollars : T (leb (owned 1 xs) (capOf 1)) = le→leb (owned 1 xs) (capOf 1) (omega (arith, c .dollarCapped)) in
+      let halves : T (leb (owned 2 xs) (capOf 2)) = le→leb (owned 2 xs) (capOf 2) (omega (arith, c .halfCapped)) in
+      search and-intro depth 8
+
+  told-laid : layout (length ws) told ≡ ws
+  unfolding told layout
+  told-laid =
+      let n = length ws in
+      let w = getD ws 0 0 in
+      let u = usedIn ws in
+      let t : T (isHeadWord n w) = p .head in
+      let head : packed (Head (monthIn ws) (used told)) ≡ w =
+      rw told-used (head-packed w (eqb→eq (w / 2 ^ 26) (1 * 2 ^ 2) (search ands))) in
+      let next : 1 + (u - 1) ≡ u = omega (arith, within) in
+      let after : drop (u - 1) (drop 1 ws) ≡ drop u ws = rw (drop-drop (u - 1) 1 ws, next) in
+      let all : past ws ≡ drop u ws = take-all (n - u) (drop u ws) (omega (arith, length-drop u ws)) in
+      let zeros : replicate (n - used told) 0 ≡ drop u ws =
+      rw (told-used, ← length-drop u ws) (replicate-zeros (drop u ws) (rw all at (p .zeros))) in
+      let rest : map packed (classesWords (told .classes) []) ++ replicate (n - used told) 0 ≡ drop 1 ws =
+      (λ i. p .classes .holds i ++ (zeros ∙ sym after) i) ∙ take-append-drop (u - 1) (drop 1 ws) in
+      (λ i. head i ∷ rest i) ∙ sym (drop-cons ws 0 0 (omega (arith, within)))
+
+book-parts : (ws : List ℕ) → T (isBook ws) ↔ Parts ws
+book-parts ws = (
+  λ t. let b = book-facts ws t in parts-from ws (factsOf ws) (b .0) (b .1),
+  λ p. book-exactly ws .1 (told ws p, (told-good ws p, told-laid ws p)),
+)
+
+-- ---- what each test of the code tells
+
+-- the test of a run's length
+length-test : (n : ℕ) → (eqb n 0 || ltb 65535 n) ≡ not (isLength n)
+length-test zero = refl
+length-test (suc n) =
+    rw (ne-eqb (suc n) 0 (λ e. omega arith), le-leb 1 (suc n) (omega arith)) (above-not 65535 (suc n))
+
+pub bad-length : (n : ℕ) → (eqb n 0 || ltb 65535 n) ≡ true → isLength n ≡ false
+bad-length n t = not-true (isLength n) (sym (length-test n) ∙ t)
+
+pub good-length : (n : ℕ) → (eqb n 0 || ltb 65535 n) ≡ false → T (isLength n)
+good-length n t = true-T (isLength n) (not-false (isLength n) (sym (length-test n) ∙ t))
+
+pub some-words : (n : ℕ) → (eqb n 0 || ltb 65535 n) ≡ false → 1 ≤ n
+some-words n t = let long = good-length n t in leb→le 1 n (search ands)
+
+module _ (ws : List ℕ) where
+  good-head : not (isHeadWord (length ws) (getD ws 0 0)) ≡ false → T (isHeadWord (length ws) (getD ws 0 0))
+  good-head t =
+      let test = isHeadWord (length ws) (getD ws 0 0) in
+      true-T test (not-false test t)
+
+  pub head-within : not (isHeadWord (length ws) (getD ws 0 0)) ≡ false → (1 ≤ usedIn ws) × (usedIn ws ≤ length ws)
+  head-within t =
+      let head = good-head t in
+      (leb→le 1 (usedIn ws) (search ands), leb→le (usedIn ws) (length ws) (search ands))
+
+  pub wrong-length : (eqb (length ws) 0 || ltb 65535 (length ws)) ≡ true → false ≡ isBook ws
+  wrong-length t =
+      refuted (isBook ws) (λ b. rw (bad-length (length ws) t) at (book-parts ws .0 b .long))
+
+  pub wrong-head : not (isHeadWord (length ws) (getD ws 0 0)) ≡ true → false ≡ isBook ws
+  wrong-head t =
+      let wrong = not-true (isHeadWord (length ws) (getD ws 0 0)) t in
+      refuted (isBook ws) (λ b. rw wrong at (book-parts ws .0 b .head))
+
+  pub wrong-classes : (Classes (monthIn ws) 0 0 0 (front ws) → ⊥) → false ≡ isBook ws
+  wrong-classes wrong = refuted (isBook ws) (λ b. wrong (book-parts ws .0 b .classes))
+
+  -- all tests but the last one passed
+  pub zeros-left :
+      (eqb (length ws) 0 || ltb 65535 (length ws)) ≡ false → not (isHeadWord (length ws) (getD ws 0 0)) ≡ false
+      → Classes (monthIn ws) 0 0 0 (front ws) → every isZero (past ws) ≡ isBook ws
+  zeros-left l h classes =
+      let long = good-length (length ws) l in
+      same-bool (every isZero (past ws)) (isBook ws)
+      (λ z. book-parts ws .1 (record { long = long; head = good-head h; classes = classes; zeros = z }))
+      (λ b. book-parts ws .0 b .zeros)

@@ -1,0 +1,147 @@
+-- What the loop over classes keeps, and a law for each way through it: by the three words at its place, the counts and the end of the series. Assumes nothing.
+use Prim.Native.Nat.{ℕ, _+_, _-_, _≤_, _<_}
+use mathlib.Core.Path.{_≡_, refl, sym}
+use mathlib.Core.Logic.{_↔_, Iff·rfl, Iff·trans}
+use mathlib.Core.Bool.{Bool, true, false, not, _&&_, _||_}
+use mathlib.Core.List.{List, []}
+use native.Mathlib.Omega.{arith}
+use lib.ListN.{length, drop, getD, length-drop, drop-of-length-le}
+use lib.Dec.{T, ltb}
+use borrow.Author.Tests.{ltb-true, ltb-false, not-true, not-false}
+use Rattle.word.specs.Field.{field}
+use Rattle.word.specs.Caps.{own}
+use Rattle.rule.specs.Lists.{every}
+use Rattle.book.specs.Facts.{OpenClass, capOf}
+use Rattle.book.specs.Books.{isClass}
+use Rattle.book.proofs.Tests.{and-intro, ands, true-T}
+use Rattle.scan.specs.Tests.{isClassAbove, isCloseWord, isVolumeWord}
+use Rattle.scan.specs.Stretches.{isFrom, SeriesThen, ClassesWhere, Classes, SeriesEnd}
+use Rattle.scan.proofs.Tests.{or-none}
+use Rattle.scan.proofs.Places.{three-at}
+use Rattle.scan.proofs.Figures.{FiguresThen, figures, classes-length}
+
+-- the classes are what they are after those before i, of which `last` is the last number
+pub record Walked (now : ℕ) (ws : List ℕ) (i last dollars halves : ℕ) : Type 0 where
+  pub within : i ≤ length ws
+  pub dollarCapped : dollars ≤ capOf 1
+  pub halfCapped : halves ≤ capOf 2
+  pub same : Classes now 0 0 0 ws ↔ Classes now last dollars halves (drop i ws)
+
+-- the same after the figures at i
+pub record Counted (now : ℕ) (ws : List ℕ) (i last dollars halves : ℕ) : Type 0 where
+  pub same :
+      Classes now 0 0 0 ws
+      ↔ ClassesWhere now last dollars halves (λ xs. SeriesThen now 0 (isFrom 0) xs (drop (i + 3) ws))
+
+-- the three words at i are those of a class's figures
+abbrev areFiguresAt : List ℕ → ℕ → ℕ → Bool
+areFiguresAt ws i last =
+    isClassAbove last (getD ws i 0) && (isCloseWord (getD ws (i + 1) 0) && isVolumeWord (getD ws (i + 2) 0))
+
+pub walked-start : (now : ℕ) (ws : List ℕ) → Walked now ws 0 0 0 0
+walked-start now ws =
+    record {
+      within = omega arith;
+      dollarCapped = omega arith;
+      halfCapped = omega arith;
+      same = Iff·rfl;
+    }
+
+module _ {now : ℕ} {ws : List ℕ} {i last dollars halves : ℕ} (v : Walked now ws i last dollars halves) where
+  -- no class stands in fewer than three words
+  pub walked-short : i < length ws → length ws - i < 3 → Classes now 0 0 0 ws → ⊥
+  walked-short l short r =
+      omega (
+        arith,
+        length-drop i ws,
+        classes-length now last dollars halves (drop i ws) (v .same .0 r) (omega (arith, length-drop i ws)),
+      )
+
+  -- no class is left
+  pub walked-end : length ws ≤ i → Classes now 0 0 0 ws
+  walked-end l =
+      v .same .1
+      (record {
+        classes = [];
+        holds = sym (drop-of-length-le ws l);
+        legal = tt;
+        rising = tt;
+        leading = tt;
+        dollarCapped = omega (arith, v .dollarCapped);
+        halfCapped = omega (arith, v .halfCapped);
+      })
+
+  module _ (room : 3 ≤ length ws - i) where
+    step :
+        Classes now 0 0 0 ws
+        ↔ FiguresThen now last dollars halves (getD ws i 0) (getD ws (i + 1) 0) (getD ws (i + 2) 0) (drop (i + 3) ws)
+    step =
+        Iff·trans (v .same)
+        (rw (three-at ws i (omega arith))
+        (figures now last dollars halves (getD ws i 0) (getD ws (i + 1) 0) (getD ws (i + 2) 0) (drop (i + 3) ws)))
+
+    pub walked-wrong : not (areFiguresAt ws i last) ≡ true → Classes now 0 0 0 ws → ⊥
+    walked-wrong t r =
+        let f = step .0 r in
+        let class : T (isClassAbove last (getD ws i 0)) = f .class in
+        let close : T (isCloseWord (getD ws (i + 1) 0)) = f .close in
+        let volume : T (isVolumeWord (getD ws (i + 2) 0)) = f .volume in
+        let all : T (areFiguresAt ws i last) = search and-intro in
+        rw (not-true (areFiguresAt ws i last) t) at all
+
+    pub walked-counted :
+        not (areFiguresAt ws i last) ≡ false
+        → let w = getD ws i 0 in
+        Counted now ws i (field w 0 14) (dollars + own (field w 14 2)) (halves + own (field w 16 2))
+    walked-counted t =
+        let all : T (areFiguresAt ws i last) = true-T (areFiguresAt ws i last) (not-false (areFiguresAt ws i last) t) in
+        record {
+          same = (
+            λ r. step .0 r .rest,
+            λ r. step .1 (record { class = search ands; close = search ands; volume = search ands; rest = r }),
+          );
+        }
+
+-- what holds of the classes gives way to what follows from it
+replaced :
+    {now last dollars halves : ℕ} {A B : List OpenClass → Type 0}
+    → ((xs : List OpenClass) → T (every (isClass now) xs) → A xs → B xs)
+    → ClassesWhere now last dollars halves A → ClassesWhere now last dollars halves B
+replaced f c =
+    record {
+      classes = c .classes;
+      holds = f (c .classes) (c .legal) (c .holds);
+      legal = c .legal;
+      rising = c .rising;
+      leading = c .leading;
+      dollarCapped = c .dollarCapped;
+      halfCapped = c .halfCapped;
+    }
+
+module _ {now : ℕ} {ws : List ℕ} {i last dollars halves : ℕ} (v : Counted now ws i last dollars halves) where
+  pub counted-exceeded : (ltb (capOf 1) dollars || ltb (capOf 2) halves) ≡ true → Classes now 0 0 0 ws → ⊥
+  counted-exceeded t r = go (ltb (capOf 1) dollars) refl t
+    where
+      go : (over : Bool) → ltb (capOf 1) dollars ≡ over → (over || ltb (capOf 2) halves) ≡ true → ⊥
+      go true d t = omega (arith, ltb-true, v .same .0 r .dollarCapped)
+      go false d t = omega (arith, ltb-true, v .same .0 r .halfCapped)
+
+  pub counted-breaks :
+      ((xs : List OpenClass) → T (every (isClass now) xs) → SeriesThen now 0 (isFrom 0) xs (drop (i + 3) ws) → ⊥)
+      → Classes now 0 0 0 ws → ⊥
+  counted-breaks breaks r = let c = v .same .0 r in breaks (c .classes) (c .legal) (c .holds)
+
+  pub counted-more :
+      (j : ℕ) → (ltb (capOf 1) dollars || ltb (capOf 2) halves) ≡ false → SeriesEnd now ws (i + 3) j
+      → Walked now ws j last dollars halves
+  counted-more j t e =
+      let few = or-none (ltb (capOf 1) dollars) (ltb (capOf 2) halves) t in
+      record {
+        within = e .within;
+        dollarCapped = ltb-false (capOf 1) dollars (few .0);
+        halfCapped = ltb-false (capOf 2) halves (few .1);
+        same = (
+          λ r. replaced (λ xs legal. e .rest xs legal .0) (v .same .0 r),
+          λ r. v .same .1 (replaced (λ xs legal. e .rest xs legal .1) r),
+        );
+      }

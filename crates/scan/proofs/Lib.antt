@@ -1,0 +1,11 @@
+-- The laws that the functions' proofs cite.
+pub mod Tests
+pub mod Words
+pub mod Series
+pub mod Places
+pub mod Expirations
+pub mod Figures
+pub mod Classes
+pub mod Zeros
+pub mod Books
+pub mod FreshBooks

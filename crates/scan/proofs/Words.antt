@@ -1,0 +1,197 @@
+-- A raw word passes a loop's test exactly when it is a packed word of that kind in its limits: by its fields. Assumes nothing.
+use Prim.Native.Nat.{ℕ, _+_, _*_, _/_, _^_, _<_}
+use mathlib.Core.Path.{_≡_, sym, ap, _∙_}
+use mathlib.Core.Bool.{_&&_}
+use native.Mathlib.Omega.{arith}
+use lib.Dec.{T, eqb, leb, ltb, leb→le, ltb→lt, lt→ltb, le→leb, eqb→eq}
+use lib.Pow.{shr-shr}
+use Rattle.word.specs.declared.class.ClassRecord.{ClassRecord}
+use Rattle.word.specs.declared.codec.Word.{Word}
+use Rattle.word.specs.declared.codec.Word.the-variants.{Head, Class, Close, Volume, Expiration, Strike, Invalid}
+use Rattle.word.specs.Limits.{isMonth, isVolume, isDesignation, isClose, isGround, isMark}
+use Rattle.word.specs.Field.{field}
+use Rattle.word.specs.Codec.{isLegal, packed, Fits, kindOf}
+use Rattle.word.proofs.Fields.{field-packed}
+use Rattle.word.proofs.Words.{legal-fits}
+use Rattle.book.specs.Facts.{Series}
+use Rattle.book.specs.Layout.{strikeWord}
+use Rattle.book.proofs.Tests.{and-intro, ands, T-true}
+use Rattle.scan.specs.Tests.{isStrikeAbove, isClassAbove, isCloseWord, isVolumeWord}
+use Rattle.scan.proofs.Tests.{equal-test}
+
+-- ---- kinds
+
+abbrev kindNumber : Word → ℕ
+kindNumber (Head now used) = 1
+kindNumber (Class n d e) = 2
+kindNumber (Close price) = 3
+kindNumber (Volume v) = 4
+kindNumber (Expiration m) = 5
+kindNumber (Strike h g a b) = 6
+kindNumber Invalid = 0
+
+kind-fits : (x : Word) → Fits x → kindOf (packed x) ≡ kindNumber x
+kind-fits (Head now used) fits = omega arith
+kind-fits (Class n d e) fits = omega arith
+kind-fits (Close price) fits = omega arith
+kind-fits (Volume v) fits = omega arith
+kind-fits (Expiration m) fits = omega arith
+kind-fits (Strike h g a b) fits = omega arith
+kind-fits Invalid fits = omega arith
+
+fits : (x : Word) → T (isLegal x) → Fits x
+fits x legal = legal-fits x (T-true (isLegal x) legal)
+
+pub kind-packed : (x : Word) (w : ℕ) → T (isLegal x) → packed x ≡ w → kindOf w ≡ kindNumber x
+kind-packed x w legal e = ap kindOf (sym e) ∙ kind-fits x (fits x legal)
+
+-- ---- the head
+
+pub head-packed : (w : ℕ) → w / 2 ^ 26 ≡ 1 * 2 ^ 2 → packed (Head (field w 0 10) (field w 10 16)) ≡ w
+head-packed w top =
+    let a : w / 2 ^ 10 / 2 ^ 16 ≡ w / 2 ^ 26 = shr-shr w 10 16 in
+    omega arith
+
+pub head-fields :
+    (w now used : ℕ) → T (isLegal (Head now used)) → packed (Head now used) ≡ w
+    → (field w 0 10 ≡ now) × (field w 10 16 ≡ used) × T (eqb (w / 2 ^ 26) (1 * 2 ^ 2))
+head-fields w now used legal e =
+    let small = fits (Head now used) legal in
+    let top : w / 2 ^ 26 ≡ 1 * 2 ^ 2 = omega arith in (
+      omega arith,
+      field-packed w now used (1 * 2 ^ 2) 10 16 (omega arith) (omega arith) (omega arith),
+      equal-test (w / 2 ^ 26) (1 * 2 ^ 2) top,
+    )
+
+-- ---- strikes
+
+-- the strike that a strike word says, in the expiration of the month m
+abbrev pub strikeIn : ℕ → ℕ → Series
+strikeIn m w =
+    record { month = m; strike = field w 0 15; ground = field w 15 3; put = field w 18 1; call = field w 19 1 }
+
+marks-bits : (w : ℕ) → w / 2 ^ 20 ≡ 6 * 2 ^ 8 → w / 2 ^ 18 ≡ field w 18 1 + field w 19 1 * 2 + 6 * 2 ^ 10
+marks-bits w top =
+    let a : w / 2 ^ 18 / 2 ^ 1 ≡ w / 2 ^ 19 = shr-shr w 18 1 in
+    let b : w / 2 ^ 19 / 2 ^ 1 ≡ w / 2 ^ 20 = shr-shr w 19 1 in
+    omega arith
+
+strike-bits : (m w : ℕ) → w / 2 ^ 20 ≡ 6 * 2 ^ 8 → packed (strikeWord (strikeIn m w)) ≡ w
+strike-bits m w top =
+    let a : w / 2 ^ 15 / 2 ^ 3 ≡ w / 2 ^ 18 = shr-shr w 15 3 in
+    omega (arith, marks-bits w top)
+
+pub strike-packed :
+    (above m w : ℕ) → T (isStrikeAbove above w)
+    → (packed (strikeWord (strikeIn m w)) ≡ w) × T (isLegal (strikeWord (strikeIn m w)))
+strike-packed above m w t =
+    let top : w / 2 ^ 20 ≡ 6 * 2 ^ 8 = eqb→eq (w / 2 ^ 20) (6 * 2 ^ 8) (search ands) in
+    let l : above < field w 0 15 = ltb→lt above (field w 0 15) (search ands) in
+    let low : T (leb 1 (field w 0 15)) = le→leb 1 (field w 0 15) (omega arith) in
+    let high : T (leb (field w 0 15) 19999) = search ands in
+    let ground : T (isGround (field w 15 3)) = search ands in
+    let put : T (isMark (field w 18 1)) = le→leb (field w 18 1) 1 (omega arith) in
+    let call : T (isMark (field w 19 1)) = le→leb (field w 19 1) 1 (omega arith) in
+    (strike-bits m w top, search and-intro)
+
+pub strike-test :
+    (above w : ℕ) (s : Series) → T (isLegal (strikeWord s)) → packed (strikeWord s) ≡ w → above < s .strike
+    → T (isStrikeAbove above w) × (field w 0 15 ≡ s .strike)
+strike-test above w s legal e l =
+    let small = fits (strikeWord s) legal in
+    let h = s .strike in
+    let g = s .ground in
+    let top : w / 2 ^ 20 ≡ 6 * 2 ^ 8 = omega arith in
+    let low : field w 0 15 ≡ h = omega arith in
+    let ground : field w 15 3 ≡ g =
+    field-packed w h g (s .put + s .call * 2 + 6 * 2 ^ 10) 15 3 (omega arith) (omega arith) (omega arith) in
+    let a : T (eqb (w / 2 ^ 20) (6 * 2 ^ 8)) = equal-test (w / 2 ^ 20) (6 * 2 ^ 8) top in
+    let b : T (isGround (field w 15 3)) = rw ground (search ands) in
+    let c : T (ltb above (field w 0 15)) = rw low (lt→ltb above h l) in
+    let d : T (leb (field w 0 15) 19999) = rw low (search ands) in
+    (search and-intro, low)
+
+-- ---- the three words of a class's figures
+
+-- the figures that three words say
+abbrev pub figuresIn : ℕ → ℕ → ℕ → ClassRecord
+figuresIn w c v =
+    record {
+      number = field w 0 14;
+      close = field c 0 28;
+      volume = field v 0 28;
+      dollar = field w 14 2;
+      half = field w 16 2;
+    }
+
+pub class-packed :
+    (above w : ℕ) → T (isClassAbove above w)
+    → (packed (Class (field w 0 14) (field w 14 2) (field w 16 2)) ≡ w)
+    × T (isLegal (Class (field w 0 14) (field w 14 2) (field w 16 2)))
+class-packed above w t =
+    let top : w / 2 ^ 18 ≡ 2 * 2 ^ 10 = eqb→eq (w / 2 ^ 18) (2 * 2 ^ 10) (search ands) in
+    let l : above < field w 0 14 = ltb→lt above (field w 0 14) (search ands) in
+    let a : w / 2 ^ 14 / 2 ^ 2 ≡ w / 2 ^ 16 = shr-shr w 14 2 in
+    let b : w / 2 ^ 16 / 2 ^ 2 ≡ w / 2 ^ 18 = shr-shr w 16 2 in
+    let low : T (leb 1 (field w 0 14)) = le→leb 1 (field w 0 14) (omega arith) in
+    let high : T (leb (field w 0 14) 16383) = le→leb (field w 0 14) 16383 (omega arith) in
+    let dollar : T (isDesignation (field w 14 2)) = search ands in
+    let half : T (isDesignation (field w 16 2)) = search ands in
+    (omega arith, search and-intro)
+
+pub class-fields :
+    (w n d e : ℕ) → T (isLegal (Class n d e)) → packed (Class n d e) ≡ w
+    → (field w 0 14 ≡ n) × (field w 14 2 ≡ d) × (field w 16 2 ≡ e)
+class-fields w n d e legal q =
+    let small = fits (Class n d e) legal in (
+      omega arith,
+      field-packed w n d (e + 2 * 2 ^ 12) 14 2 (omega arith) (omega arith) (omega arith),
+      field-packed w (n + d * 2 ^ 14) e (2 * 2 ^ 10) 16 2 (omega arith) (omega arith) (omega arith),
+    )
+
+pub class-test :
+    (above w n d e : ℕ) → T (isLegal (Class n d e)) → packed (Class n d e) ≡ w → T (ltb above n) → T (isClassAbove above w)
+class-test above w n d e legal q l =
+    let small = fits (Class n d e) legal in
+    let f = class-fields w n d e legal q in
+    let top : w / 2 ^ 18 ≡ 2 * 2 ^ 10 = omega arith in
+    let a : T (eqb (w / 2 ^ 18) (2 * 2 ^ 10)) = equal-test (w / 2 ^ 18) (2 * 2 ^ 10) top in
+    let b : T (ltb above (field w 0 14)) = rw (f .0) l in
+    let c : T (isDesignation (field w 14 2)) = rw (f .1) (search ands) in
+    let h : T (isDesignation (field w 16 2)) = rw (f .2) (search ands) in
+    search and-intro
+
+-- ---- the words of a kind and one number
+
+number-packed : (k w : ℕ) → kindOf w ≡ k → field w 0 28 + k * 2 ^ 28 ≡ w
+number-packed k w kind = omega arith
+
+number-field : (k x w : ℕ) → x < 2 ^ 28 → x + k * 2 ^ 28 ≡ w → T (eqb (kindOf w) k) × (field w 0 28 ≡ x)
+number-field k x w l e =
+    let kind : kindOf w ≡ k = omega arith in
+    (equal-test (kindOf w) k kind, omega arith)
+
+number-test :
+    (k limit x w : ℕ) → limit < 2 ^ 28 → T (leb x limit) → x + k * 2 ^ 28 ≡ w
+    → T (eqb (kindOf w) k && leb (field w 0 28) limit)
+number-test k limit x w small legal e =
+    let f = number-field k x w (omega (arith, leb→le x limit legal)) e in
+    and-intro (eqb (kindOf w) k) (leb (field w 0 28) limit) (f .0) (rw (f .1) legal)
+
+pub close-packed : (w : ℕ) → T (isCloseWord w) → packed (Close (field w 0 28)) ≡ w
+close-packed w t = number-packed 3 w (eqb→eq (kindOf w) 3 (search ands))
+
+pub close-test : (w price : ℕ) → T (isClose price) → packed (Close price) ≡ w → T (isCloseWord w)
+close-test w price legal e = number-test 3 999999 price w (omega arith) legal e
+
+pub volume-packed : (w : ℕ) → T (isVolumeWord w) → packed (Volume (field w 0 28)) ≡ w
+volume-packed w t = number-packed 4 w (eqb→eq (kindOf w) 4 (search ands))
+
+pub volume-test : (w v : ℕ) → T (isVolume v) → packed (Volume v) ≡ w → T (isVolumeWord w)
+volume-test w v legal e = number-test 4 9999999 v w (omega arith) legal e
+
+pub expiration-packed : (w : ℕ) → kindOf w ≡ 5 → packed (Expiration (field w 0 28)) ≡ w
+expiration-packed w kind = number-packed 5 w kind
+
+pub expiration-field : (w m : ℕ) → T (isMonth m) → packed (Expiration m) ≡ w → field w 0 28 ≡ m
+expiration-field w m legal e = number-field 5 m w (omega (arith, leb→le m 1023 legal)) e .1

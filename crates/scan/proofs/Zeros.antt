@@ -1,0 +1,55 @@
+-- Runs of zeros: that all words are zero, by their bits together; and a run filled with zeros, one store at a time. Assumes nothing.
+use Prim.Native.Nat.{ℕ, zero, suc, _+_, _≤_, _<_}
+use mathlib.Core.Path.{_≡_, refl, sym, ap, _∙_}
+use mathlib.Core.Bool.{Bool, true, false, _&&_}
+use mathlib.Core.List.{List, [], _∷_, _++_}
+use native.Mathlib.Omega.{arith}
+use native.Mathlib.Numerals.{add-one}
+use lib.ListN.{length, take, drop, getD, set, replicate, drop-of-length-le, replicate-append-replicate}
+use lib.Seq.{take-suc-set}
+use lib.Bits.{bitOr, or-add-and, and-le-l, and-le-r}
+use lib.Dec.{T, eqb, eqb→eq}
+use borrow.Author.Tests.{eqb-true, eqb-false, eq-eqb, ne-eqb}
+use Rattle.rule.specs.Lists.{every}
+use Rattle.book.proofs.Tests.{ands}
+use Rattle.scan.specs.Tests.{isZero}
+use Rattle.scan.proofs.Tests.{and-assoc, and-true}
+use Rattle.scan.proofs.Places.{word-at}
+
+or-zero : (a b : ℕ) → eqb (bitOr a b) 0 ≡ (eqb a 0 && eqb b 0)
+or-zero a b = go (eqb a 0) refl (eqb b 0) refl
+  where
+    go : (x : Bool) → eqb a 0 ≡ x → (y : Bool) → eqb b 0 ≡ y → eqb (bitOr a b) 0 ≡ (x && y)
+    go true p true q =
+        let e : a ≡ 0 = eqb-true a 0 p in
+        let f : b ≡ 0 = eqb-true b 0 q in
+        eq-eqb (bitOr a b) 0 (omega (arith, or-add-and a b))
+    go true p false q = ne-eqb (bitOr a b) 0 (λ z. eqb-false b 0 q (omega (arith, or-add-and a b, and-le-l a b)))
+    go false p y q = ne-eqb (bitOr a b) 0 (λ z. eqb-false a 0 p (omega (arith, or-add-and a b, and-le-r a b)))
+
+-- the words before i have the bits of `all`
+module _ (all i : ℕ) (ws : List ℕ) where
+  pub zeros-more :
+      i < length ws
+      → (eqb all 0 && every isZero (drop i ws))
+      ≡ (eqb (bitOr all (getD ws i 0)) 0 && every isZero (drop (i + 1) ws))
+  zeros-more l =
+      rw (word-at ws i l, or-zero all (getD ws i 0))
+      (sym (and-assoc (eqb all 0) (eqb (getD ws i 0) 0) (every isZero (drop (i + 1) ws))))
+
+  pub zeros-done : length ws ≤ i → (eqb all 0 && every isZero (drop i ws)) ≡ eqb all 0
+  zeros-done l = rw (drop-of-length-le ws l) (and-true (eqb all 0))
+
+pub zeros-replicate : (k : ℕ) → T (every isZero (replicate k 0))
+zeros-replicate zero = tt
+zeros-replicate (suc k) = zeros-replicate k
+
+pub replicate-zeros : (ws : List ℕ) → T (every isZero ws) → replicate (length ws) 0 ≡ ws
+replicate-zeros [] t = refl
+replicate-zeros (w ∷ ws) t = λ i. sym (eqb→eq w 0 (search ands)) i ∷ replicate-zeros ws (search ands) i
+
+pub cleared-more :
+    (ws : List ℕ) (i : ℕ) → i < length ws → take i ws ≡ replicate i 0 → take (i + 1) (set ws i 0) ≡ replicate (i + 1) 0
+cleared-more ws i l e =
+    let stored : take (i + 1) (set ws i 0) ≡ take i ws ++ (0 ∷ []) = rw add-one (take-suc-set ws i 0 l) in
+    stored ∙ ap (λ (front : List ℕ). front ++ (0 ∷ [])) e ∙ replicate-append-replicate i 1 0

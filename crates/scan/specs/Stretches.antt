@@ -1,0 +1,61 @@
+-- What the loops test, which proofs/ shows to be `isBook`: words that end a book's classes, or a class's series and the classes after it. Assumes nothing.
+use Prim.Native.Nat.{ℕ, _+_, _≤_}
+use mathlib.Core.Path.{_≡_}
+use mathlib.Core.Logic.{_↔_}
+use mathlib.Core.Bool.{Bool, true}
+use mathlib.Core.List.{List, [], _∷_, map}
+use lib.ListN.{length, drop}
+use lib.Dec.{T, leb, ltb}
+use Rattle.word.specs.Codec.{packed}
+use Rattle.rule.specs.Lists.{every}
+use Rattle.book.specs.Facts.{Series, OpenClass, number, isBelow, precedes, capOf, owned}
+use Rattle.book.specs.Layout.{seriesWords, classesWords}
+use Rattle.book.specs.Books.{rises, isSeries, isClass}
+use Rattle.scan.specs.declared.Stretch.{Stretch}
+use Rattle.scan.specs.declared.Stretch.the-variants.{EndsAt, Breaks}
+
+-- the first, if there is one, passes the test
+module _ {A : Type 0} (test : A → Bool) where
+  abbrev pub leads : List A → Bool
+  leads [] = true
+  leads (x ∷ xs) = test x
+
+-- the series may follow the expiration p, 0 for none, else its month + 1, in another one
+abbrev pub isFrom : ℕ → Series → Bool
+isFrom p s = leb p (s .month)
+
+-- ws are the words of series in a book of the month `now`, where the expiration p stands already and the first passes the test, then those of the classes xs
+pub record SeriesThen (now p : ℕ) (test : Series → Bool) (xs : List OpenClass) (ws : List ℕ) : Type 0 where
+  pub series : List Series
+  pub words : map packed (seriesWords p series (classesWords xs [])) ≡ ws
+  pub legal : T (every (isSeries now) series)
+  pub rising : T (rises precedes series)
+  pub leading : T (leads test series)
+
+-- classes that may follow the class number `last` and so many own classes of each program, of which something holds
+pub record ClassesWhere (now last dollars halves : ℕ) (Holds : List OpenClass → Type 0) : Type 0 where
+  pub classes : List OpenClass
+  pub holds : Holds classes
+  pub legal : T (every (isClass now) classes)
+  pub rising : T (rises isBelow classes)
+  pub leading : T (leads (λ x. ltb last (number x)) classes)
+  pub dollarCapped : dollars + owned 1 classes ≤ capOf 1
+  pub halfCapped : halves + owned 2 classes ≤ capOf 2
+
+-- ws are the words of such classes
+abbrev pub Classes : ℕ → ℕ → ℕ → ℕ → List ℕ → Type 0
+Classes now last dollars halves ws = ClassesWhere now last dollars halves (λ xs. map packed (classesWords xs []) ≡ ws)
+
+-- the series that start at `from` end at `to`, whatever classes follow
+pub record SeriesEnd (now : ℕ) (ws : List ℕ) (from to : ℕ) : Type 0 where
+  pub onward : from ≤ to
+  pub within : to ≤ length ws
+  pub rest :
+      (xs : List OpenClass) → T (every (isClass now) xs)
+      → SeriesThen now 0 (isFrom 0) xs (drop from ws) ↔ (map packed (classesWords xs []) ≡ drop to ws)
+
+-- what the answer says: where the series that start at `from` end, or that no series with classes after them start there
+abbrev pub Stretched : ℕ → List ℕ → ℕ → Stretch → Type 0
+Stretched now ws from (EndsAt to) = SeriesEnd now ws from to
+Stretched now ws from Breaks =
+    (xs : List OpenClass) → T (every (isClass now) xs) → SeriesThen now 0 (isFrom 0) xs (drop from ws) → ⊥
