@@ -12,3 +12,11 @@ pub mod SameFacts
 pub mod Permits
 pub mod Examples
 pub mod Answered
+pub mod Parts
+pub mod Expirations
+pub mod Splices
+pub mod Splits
+pub mod ClassWords
+pub mod Runs
+pub mod ClassParts
+pub mod BookRuns

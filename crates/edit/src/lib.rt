@@ -1,0 +1,173 @@
+// Edits in place of the words of a book.
+ghost use mathlib.Core.Bool.{cond, not};
+ghost use mathlib.Core.List.{[], _∷_};
+ghost use mathlib.Core.Path.{_≡_};
+ghost use Prim.Native.Nat.{ℕ, _+_, _<_, _≤_};
+ghost use lib.Dec.{T};
+ghost use lib.ListN.{length};
+ghost use Rattle.word.specs.Codec.{packed};
+ghost use Rattle.word.specs.Limits.{isClassNumber, isGround, isMark, isMonth, isStrike};
+ghost use Rattle.word.specs.declared.codec.Word.the-variants.{Head};
+ghost use Rattle.book.specs.Books.{areFigures, isBook};
+ghost use Rattle.book.specs.Calls.{callI, callO, changed, class, isStanding, update};
+ghost use Rattle.book.specs.Facts.{insertSeries, isOpen, withFigures, withSeries};
+ghost use Rattle.book.specs.Layout.{factsOf, layout, used};
+ghost use Rattle.book.specs.Places.{classPlace, hasExpiration, strikePlace};
+ghost use Rattle.edit.specs.Insertion.{HasRoom, insertWords, pushed};
+use word::class::ClassRecord;
+use word::codec::class_word;
+use word::codec::close_word;
+use word::codec::expiration_word;
+use word::codec::head_word;
+use word::codec::strike_word;
+use word::codec::volume_word;
+use word::field::field_of;
+
+// One word before the others. The distance is a constant here and in the next two, so that each loop compiles to one move of memory.
+fn push1(s: &mut [u32], a: u32)
+    requires { ⌜ 1 ≤ length (now s) ⌝ }
+    ensures { λ _. ⌜ now (s .exit) ≡ pushed (a ∷ []) (now (s .entry)) ⌝ }
+{
+    let mut j = s.len();
+    while 1 < j {
+        j -= 1;
+        s[j] = s[j - 1];
+    }
+    s[0] = a;
+}
+
+fn push2(s: &mut [u32], a: u32, b: u32)
+    requires { ⌜ 2 ≤ length (now s) ⌝ }
+    ensures { λ _. ⌜ now (s .exit) ≡ pushed (a ∷ b ∷ []) (now (s .entry)) ⌝ }
+{
+    let mut j = s.len();
+    while 2 < j {
+        j -= 1;
+        s[j] = s[j - 2];
+    }
+    s[0] = a;
+    s[1] = b;
+}
+
+fn push3(s: &mut [u32], a: u32, b: u32, c: u32)
+    requires { ⌜ 3 ≤ length (now s) ⌝ }
+    ensures { λ _. ⌜ now (s .exit) ≡ pushed (a ∷ b ∷ c ∷ []) (now (s .entry)) ⌝ }
+{
+    let mut j = s.len();
+    while 3 < j {
+        j -= 1;
+        s[j] = s[j - 3];
+    }
+    s[0] = a;
+    s[1] = b;
+    s[2] = c;
+}
+
+// How many words of the book are used.
+fn words_used(run: &[u32]) -> usize
+    requires { ⌜ T (isBook (now run)) ⌝ }
+    ensures { λ r. ⌜ r ≡ used (factsOf (now (run .entry))) ⌝ }
+{
+    field_of(run[0], 10, 16) as usize
+}
+
+// The head of the book, with another count of the words used.
+fn head_counting(run: &[u32], count: usize) -> u32
+    requires { ⌜ T (isBook (now run)) × (count ≤ length (now run)) ⌝ }
+    ensures { λ r. ⌜ r ≡ packed (Head (factsOf (now (run .entry)) .now) count) ⌝ }
+{
+    head_word(field_of(run[0], 0, 10), count as u32)
+}
+
+// One new word before the word at `at`, counted in the head.
+fn insert1(run: &mut [u32], at: usize, a: u32)
+    requires { ⌜ HasRoom 1 at (now run) ⌝ }
+    ensures { λ _. ⌜ now (run .exit) ≡ insertWords at (a ∷ []) (now (run .entry)) ⌝ }
+{
+    let count = words_used(run);
+    let head = head_counting(run, count + 1);
+    let end = count + 1;
+    push1(&mut run[at..end], a);
+    run[0] = head;
+}
+
+fn insert2(run: &mut [u32], at: usize, a: u32, b: u32)
+    requires { ⌜ HasRoom 2 at (now run) ⌝ }
+    ensures { λ _. ⌜ now (run .exit) ≡ insertWords at (a ∷ b ∷ []) (now (run .entry)) ⌝ }
+{
+    let count = words_used(run);
+    let head = head_counting(run, count + 2);
+    let end = count + 2;
+    push2(&mut run[at..end], a, b);
+    run[0] = head;
+}
+
+fn insert3(run: &mut [u32], at: usize, a: u32, b: u32, c: u32)
+    requires { ⌜ HasRoom 3 at (now run) ⌝ }
+    ensures { λ _. ⌜ now (run .exit) ≡ insertWords at (a ∷ b ∷ c ∷ []) (now (run .entry)) ⌝ }
+{
+    let count = words_used(run);
+    let head = head_counting(run, count + 3);
+    let end = count + 3;
+    push3(&mut run[at..end], a, b, c);
+    run[0] = head;
+}
+
+// The figures of the class whose word stands at `at`.
+pub fn store_figures(run: &mut [u32], at: usize, figures: ClassRecord)
+    requires { ⌜ T (isBook (now run)) × (T (areFigures figures) × (at + 3 ≤ length (now run))) ⌝ }
+    ensures { λ _. ⌜ (let f = factsOf (now (run .entry)) in
+        (c : ℕ) → T (isOpen c (f .classes)) → at ≡ classPlace c f → figures .number ≡ c
+        → now (run .exit) ≡ layout (length (now (run .entry))) (update (withFigures figures (class f c)) f)) ⌝ }
+{
+    run[at] = class_word(figures.number, figures.dollar, figures.half);
+    run[at + 1] = close_word(figures.close);
+    run[at + 2] = volume_word(figures.volume);
+}
+
+// The marks of the strike whose word stands at `at`.
+pub fn store_marks(run: &mut [u32], at: usize, a: u32, b: u32)
+    requires { ⌜ T (isBook (now run)) × (T (isMark a) × (T (isMark b) × (at < length (now run)))) ⌝ }
+    ensures { λ _. ⌜ (let f = factsOf (now (run .entry)) in
+        (c m h : ℕ) → T (isOpen c (f .classes)) → T (isStanding f c m h) → at ≡ strikePlace c m h f
+        → now (run .exit) ≡ layout (length (now (run .entry))) (changed (callI c m h a b) f)) ⌝ }
+{
+    let w = run[at];
+    run[at] = strike_word(field_of(w, 0, 15), field_of(w, 15, 3), a, b);
+}
+
+// A class with no close, no volume and no designations.
+pub fn insert_class(run: &mut [u32], at: usize, c: u32)
+    requires { ⌜ (let f = factsOf (now run) in
+        T (isBook (now run))
+        × (T (isClassNumber c)
+        × (T (not (isOpen c (f .classes))) × ((at ≡ classPlace c f) × (used f + 3 ≤ length (now run)))))) ⌝ }
+    ensures { λ _. ⌜ now (run .exit) ≡ layout (length (now (run .entry))) (changed (callO c) (factsOf (now (run .entry)))) ⌝ }
+{
+    insert3(run, at, class_word(c, 0, 0), close_word(0), volume_word(0));
+}
+
+// A strike with no marks. `stands` says whether its expiration has strikes already.
+pub fn insert_strike(run: &mut [u32], at: usize, stands: bool, m: u32, h: u32, ground: u32)
+    requires { ⌜ (let f = factsOf (now run) in
+        T (isBook (now run))
+        × (T (isMonth m)
+        × (T (isStrike h)
+        × (T (isGround ground) × ((at ≤ used f) × (used f + cond {A = ℕ} stands 1 2 ≤ length (now run))))))) ⌝ }
+    ensures { λ _. ⌜ (let f = factsOf (now (run .entry)) in
+        (c : ℕ) → T (isOpen c (f .classes)) → T (not (isStanding f c m h)) → at ≡ strikePlace c m h f
+        → stands ≡ hasExpiration c m f
+        → now (run .exit)
+        ≡ layout (length (now (run .entry)))
+        (update
+        (withSeries
+        (insertSeries (record { month = m; strike = h; ground = ground; put = 0; call = 0 }) (class f c .series))
+        (class f c))
+        f)) ⌝ }
+{
+    if stands {
+        insert1(run, at, strike_word(h, ground, 0, 0));
+        return;
+    }
+    insert2(run, at, expiration_word(m), strike_word(h, ground, 0, 0));
+}

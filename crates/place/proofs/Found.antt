@@ -1,0 +1,265 @@
+-- What the searches find in a book, as places of its facts: the words that they are lent are those of the classes, of a class's series and of an expiration's strikes. Assumes nothing.
+use Prim.Native.Nat.{ℕ, _+_, _-_, _≤_}
+use mathlib.Core.Path.{_≡_, refl, sym, ap, _∙_, subst}
+use mathlib.Core.Bool.{Bool, true, false, cond, not}
+use mathlib.Core.List.{List, [], _∷_, _++_, map, map-append, append-nil, append-assoc}
+use native.Mathlib.Omega.{arith}
+use lib.ListN.{length, take, drop, getD, replicate, length-append, length-map}
+use lib.Seq.{drop-at}
+use lib.Dec.{T, leb, leb→le}
+use borrow.Author.Tests.{ltb-false}
+use Rattle.word.specs.declared.class.ClassRecord.{ClassRecord}
+use Rattle.word.specs.declared.codec.Word.{Word}
+use Rattle.word.specs.declared.codec.Word.the-variants.{Head, Class, Close, Volume, Expiration}
+use Rattle.word.specs.Field.{field}
+use Rattle.word.specs.Codec.{isLegal, packed}
+use Rattle.rule.specs.Lists.{every, some, only}
+use Rattle.book.specs.Facts.{Series, Facts, number, isOpen, inMonth}
+use Rattle.book.specs.Layout.{strikeWord, seriesWords, figuresWords, classesWords, used, factsOf}
+use Rattle.book.specs.Books.{areFigures, isSeries, isBook}
+use Rattle.book.specs.Calls.{class, isStanding}
+use Rattle.book.specs.Places.{classPlace, strikesPlace, strikesEnd, strikePlace}
+use Rattle.book.proofs.Tests.{and-intro, ands, true-T}
+use Rattle.book.proofs.Lists.{every-map, ordered}
+use Rattle.book.proofs.Forms.{areSeries, well}
+use Rattle.book.proofs.Layouts.{words-legal}
+use Rattle.book.proofs.Parts.{every-kept, some-both, isUnder, isEqual, isOver, three-parts, distinct-parts}
+use Rattle.book.proofs.Expirations.{monthOf, strikeOf, low, placed, high, strike-parts}
+use Rattle.book.proofs.Splits.{every-split, some-length}
+use Rattle.book.proofs.ClassWords.{series-words, class-good, series-good, months-rise, class-words, numbers-rise}
+use Rattle.book.proofs.Runs.{bookWords, run-part, run-word, strikes-good, strikes-part}
+use Rattle.place.specs.declared.lookup.Part.{Part}
+use Rattle.place.specs.Search.{firstAt, isFrom, holdsAt, figuresAt, strikesAfter, strikesIn}
+use Rattle.place.proofs.Heads.{book-good, book-is}
+use Rattle.place.proofs.Words.{isKeyed, class-said}
+use Rattle.place.proofs.Laid.{first-after, stops-anywhere, sought, found, months-laid, strikes-laid, no-class, classes-laid}
+
+-- the three words of legal figures say them
+figures-said :
+    (r : ClassRecord) → T (areFigures r) → (at : ℕ) (ws : List ℕ)
+    → getD ws at 0 ≡ packed (Class (r .number) (r .dollar) (r .half)) → getD ws (at + 1) 0 ≡ packed (Close (r .close))
+    → getD ws (at + 2) 0 ≡ packed (Volume (r .volume)) → figuresAt at ws ≡ r
+figures-said r t at ws x y z =
+    let a : r .number ≤ 16383 = leb→le (r .number) 16383 (search ands) in
+    let b : r .dollar ≤ 2 = leb→le (r .dollar) 2 (search ands) in
+    let d : r .half ≤ 2 = leb→le (r .half) 2 (search ands) in
+    let e : r .close ≤ 999999 = leb→le (r .close) 999999 (search ands) in
+    let g : r .volume ≤ 9999999 = leb→le (r .volume) 9999999 (search ands) in
+    let class = class-said (r .number) (r .dollar) (r .half) (omega arith) in
+    let number : field (getD ws at 0) 0 14 ≡ r .number = ap (λ (w : ℕ). field w 0 14) x ∙ class .0 in
+    let close : field (getD ws (at + 1) 0) 0 20 ≡ r .close = omega arith in
+    let volume : field (getD ws (at + 2) 0) 0 24 ≡ r .volume = omega arith in
+    let dollar : field (getD ws at 0) 14 2 ≡ r .dollar = ap (λ (w : ℕ). field w 14 2) x ∙ class .1 .0 in
+    let half : field (getD ws at 0) 16 2 ≡ r .half = ap (λ (w : ℕ). field w 16 2) x ∙ class .1 .1 in
+    λ i. record { number = number i; close = close i; volume = volume i; dollar = dollar i; half = half i }
+
+-- ---- the strikes of a month in the words of series
+
+module _
+    (now m : ℕ) (ss : List Series) (good : T (areSeries now ss)) (o : T (ordered (λ s t. leb (s .month) (t .month)) ss))
+    (legal : T (every isLegal (seriesWords 0 ss []))) where
+  abbrev words : List ℕ
+  words = map packed (seriesWords 0 ss [])
+
+  abbrev early : List Word
+  early = seriesWords 0 (only (isUnder monthOf m) ss) []
+
+  abbrev late : List Word
+  late = seriesWords 0 (only (isOver monthOf m) ss) []
+
+  strikes-part-in :
+      (has : Bool) → some (isEqual monthOf m) ss ≡ has
+      → strikesAfter has (length early) words
+      ≡ record { from = length early + cond {A = ℕ} has 1 0; to = length early + cond {A = ℕ} has 1 0 + length (inMonth m ss) }
+  strikes-part-in false e =
+      let l : length (inMonth m ss) ≤ 0 =
+      ltb-false 0 (length (inMonth m ss)) (sym (some-length (isEqual monthOf m) ss) ∙ e) in
+      let a : length early ≡ length early + 0 = omega arith in
+      let d : length early ≡ length early + 0 + length (inMonth m ss) = omega arith in
+      λ i. record { from = a i; to = d i }
+  strikes-part-in true e =
+      let strikes = map strikeWord (inMonth m ss) in
+      let lead = early ++ (Expiration m ∷ []) in
+      let parts : seriesWords 0 ss [] ≡ lead ++ (strikes ++ late) = series-words now m ss good ∙ rw e (simp append-assoc) in
+      let long : length (map packed lead) ≡ length early + 1 = simp (length-map, length-append) (omega arith) in
+      let after : drop (length early + 1) words ≡ map packed (strikes ++ late) =
+      ap (λ (l : List Word). drop (length early + 1) (map packed l)) parts
+      ∙ ap (drop (length early + 1)) (map-append packed lead (strikes ++ late))
+      ∙ drop-at (map packed lead) (map packed (strikes ++ late)) (length early + 1) long in
+      let stop : firstAt (isFrom 5 10 0) (map packed (strikes ++ late)) ≡ length strikes =
+      first-after 5 0 strikes late (every-split isLegal lead (strikes ++ late) (rw parts at legal) .1)
+      (every-map (isEqual monthOf m) (λ w. not (isKeyed 5 0 w)) strikeWord (λ s t. tt) (inMonth m ss)
+      (every-kept (isEqual monthOf m) ss))
+      (stops-anywhere monthOf 5 (λ ts. seriesWords 0 ts []) months-laid (only (isOver monthOf m) ss)) in
+      let to : firstAt (isFrom 5 10 0) (drop (length early + 1) words) ≡ length (inMonth m ss) =
+      ap (firstAt (isFrom 5 10 0)) after ∙ stop ∙ length-map (inMonth m ss) strikeWord in
+      λ i. record { from = length early + 1; to = length early + 1 + to i }
+
+  strikes-found :
+      strikesIn m words
+      ≡ record {
+        from = length early + cond {A = ℕ} (some (isEqual monthOf m) ss) 1 0;
+        to = length early + cond {A = ℕ} (some (isEqual monthOf m) ss) 1 0 + length (inMonth m ss);
+      }
+  strikes-found =
+      (λ i. strikesAfter (holdsAt 10 m words (at-early i)) (at-early i) words)
+      ∙ ap (λ (b : Bool). strikesAfter b (length early) words)
+      (found monthOf 5 (λ ts. seriesWords 0 ts []) months-laid m ss (three-parts monthOf m ss o) legal)
+      ∙ strikes-part-in (some (isEqual monthOf m) ss) refl
+    where
+      at-early : firstAt (isFrom 5 10 m) words ≡ length early
+      at-early = sought monthOf 5 (λ ts. seriesWords 0 ts []) months-laid m ss (three-parts monthOf m ss o) legal
+
+-- ---- classes
+
+module _ (ws : List ℕ) (b : T (isBook ws)) where
+  abbrev facts : Facts
+  facts = factsOf ws
+
+  part :
+      (from to : ℕ) (before mid rest : List Word) → bookWords (length ws) facts ≡ before ++ (mid ++ rest)
+      → from ≡ length before → to ≡ length before + length mid → take (to - from) (drop from ws) ≡ map packed mid
+  part from to before mid rest e l h =
+      subst (λ (l : List ℕ). take (to - from) (drop from l) ≡ map packed mid) (book-is ws b)
+      (run-part (length ws) facts from to before mid rest e l h)
+
+  pub legal : T (every isLegal (classesWords (facts .classes) []))
+  legal =
+      true-T (every isLegal (classesWords (facts .classes) []))
+      (words-legal (facts .now) (facts .classes) (well (length ws) facts (book-good ws b) .limits))
+
+  pub body : (end : ℕ) → end ≡ used facts → take (end - 1) (drop 1 ws) ≡ map packed (classesWords (facts .classes) [])
+  body end e =
+      part 1 end (Head (facts .now) (used facts) ∷ []) (classesWords (facts .classes) []) []
+      (ap (λ (l : List Word). Head (facts .now) (used facts) ∷ l) (sym (append-nil (classesWords (facts .classes) []))))
+      refl (omega arith)
+
+  module _ (c end i : ℕ) (d : end ≡ used facts) (e : i ≡ firstAt (isFrom 2 14 c) (take (end - 1) (drop 1 ws))) where
+    class-index : i ≡ length (classesWords (only (isUnder number c) (facts .classes)) [])
+    class-index =
+        e
+        ∙ ap (firstAt (isFrom 2 14 c)) (body end d)
+        ∙ sought number 2 (λ xs. classesWords xs []) classes-laid c (facts .classes)
+        (distinct-parts number c (facts .classes) (numbers-rise (length ws) facts (book-good ws b))) legal
+
+    pub class-sought : 1 + i ≡ classPlace c facts
+    class-sought = omega (arith, class-index)
+
+    pub class-found : holdsAt 14 c (take (end - 1) (drop 1 ws)) i ≡ isOpen c (facts .classes)
+    class-found =
+        (λ j. holdsAt 14 c (body end d j) (class-index j))
+        ∙ found number 2 (λ xs. classesWords xs []) classes-laid c (facts .classes)
+        (distinct-parts number c (facts .classes) (numbers-rise (length ws) facts (book-good ws b))) legal
+
+  -- ---- an open class
+
+  module _ (c : ℕ) (o : T (isOpen c (facts .classes))) where
+    abbrev lower : List Word
+    lower = Head (facts .now) (used facts) ∷ classesWords (only (isUnder number c) (facts .classes)) []
+
+    abbrev figures : List Word
+    figures = figuresWords (class facts c .figures) []
+
+    abbrev series : List Word
+    series = seriesWords 0 (class facts c .series) []
+
+    abbrev upper : List Word
+    upper = classesWords (only (isOver number c) (facts .classes)) []
+
+    words-are : bookWords (length ws) facts ≡ lower ++ (figures ++ (series ++ upper))
+    words-are = class-words (length ws) facts c (book-good ws b) o
+
+    pub class-room : classPlace c facts + 3 + length series ≤ used facts
+    class-room = omega (arith, simp length-append at (ap length words-are))
+
+    pub figures-found : (at : ℕ) → at ≡ classPlace c facts → figuresAt at ws ≡ class facts c .figures
+    figures-found at e =
+        let g = class-good (length ws) facts c (book-good ws b) o in
+        figures-said (class facts c .figures) (search ands) at ws
+        (word at 0 (omega arith)) (word (at + 1) 1 (omega arith)) (word (at + 2) 2 (omega arith))
+      where
+        after : List ℕ
+        after = map packed (figures ++ (series ++ upper)) ++ replicate (length ws - used facts) 0
+
+        word : (i k : ℕ) → i ≡ classPlace c facts + k → getD ws i 0 ≡ getD after k 0
+        word i k d =
+            subst (λ (l : List ℕ). getD l i 0 ≡ getD after k 0) (book-is ws b)
+            (run-word (length ws) facts i k lower (figures ++ (series ++ upper)) words-are d)
+
+    tail-legal : T (every isLegal (series ++ upper))
+    tail-legal =
+        let e : classesWords (facts .classes) [] ≡ drop 1 lower ++ (figures ++ (series ++ upper)) = ap (drop 1) words-are in
+        let t = every-split isLegal (drop 1 lower) (figures ++ (series ++ upper)) (rw e at legal) .1 in
+        search ands
+
+    around : bookWords (length ws) facts ≡ (lower ++ figures) ++ (series ++ upper)
+    around = words-are ∙ simp append-assoc
+
+    before-length : length (lower ++ figures) ≡ classPlace c facts + 3
+    before-length = simp length-append (omega arith)
+
+    -- its series end at the next class word
+    pub class-ended :
+        (from end : ℕ) → from ≡ classPlace c facts + 3
+        → end ≡ from + firstAt (isFrom 2 14 0) (take (used facts - from) (drop from ws)) → end ≡ from + length series
+    class-ended from end e d =
+        let p : take (used facts - from) (drop from ws) ≡ map packed (series ++ upper) =
+        part from (used facts) (lower ++ figures) (series ++ upper) []
+        (around ∙ ap (λ (l : List Word). (lower ++ figures) ++ l) (sym (append-nil (series ++ upper))))
+        (omega (arith, before-length)) (ap length around ∙ length-append (lower ++ figures) (series ++ upper)) in
+        let q =
+        first-after 2 0 series upper tail-legal (no-class 0 0 (class facts c .series) [] tt)
+        (stops-anywhere number 2 (λ xs. classesWords xs []) classes-laid (only (isOver number c) (facts .classes))) in
+        omega (arith, ap (firstAt (isFrom 2 14 0)) p)
+
+    series-part :
+        (from end : ℕ) → from ≡ classPlace c facts + 3 → end ≡ from + length series
+        → take (end - from) (drop from ws) ≡ map packed series
+    series-part from end e d =
+        part from end (lower ++ figures) series upper around (omega (arith, before-length)) (omega (arith, before-length))
+
+    pub strikes-sought :
+        (m from end : ℕ) → from ≡ classPlace c facts + 3 → end ≡ from + length series
+        → (from + strikesIn m (take (end - from) (drop from ws)) .from ≡ strikesPlace c m facts)
+        × (from + strikesIn m (take (end - from) (drop from ws)) .to ≡ strikesEnd c m facts)
+    strikes-sought m from end e d =
+        let p =
+        ap (strikesIn m) (series-part from end e d)
+        ∙ strikes-found (facts .now) m (class facts c .series) (series-good (length ws) facts c (book-good ws b) o)
+        (months-rise (length ws) facts c (book-good ws b) o)
+        (every-split isLegal series upper tail-legal .0) in
+        (omega (arith, ap (λ (x : Part). x .from) p), omega (arith, ap (λ (x : Part). x .to) p))
+
+    -- ---- a strike of an expiration of it
+
+    module _ (m h from to : ℕ) (start : from ≡ strikesPlace c m facts) (stop : to ≡ strikesEnd c m facts) where
+      abbrev here : List Series
+      here = inMonth m (class facts c .series)
+
+      strikes-legal : T (every isLegal (map strikeWord here))
+      strikes-legal =
+          every-map (isSeries (facts .now)) isLegal strikeWord (λ s t. search (ands, and-intro)) here
+          (strikes-good (length ws) facts c m (book-good ws b) o)
+
+      parts : here ≡ low (class facts c .series) m h ++ (placed (class facts c .series) m h ++ high (class facts c .series) m h)
+      parts = strike-parts (class facts c .series) m h (facts .now) (series-good (length ws) facts c (book-good ws b) o)
+
+      strikes-here : take (to - from) (drop from ws) ≡ map packed (map strikeWord here)
+      strikes-here =
+          (λ j. take (stop j - start j) (drop (start j) (sym (book-is ws b) j)))
+          ∙ strikes-part (length ws) facts c m (book-good ws b) o
+
+      module _ (i : ℕ) (e : i ≡ firstAt (isFrom 6 15 h) (take (to - from) (drop from ws))) where
+        strike-index : i ≡ length (map strikeWord (low (class facts c .series) m h))
+        strike-index =
+            e ∙ ap (firstAt (isFrom 6 15 h)) strikes-here
+            ∙ sought strikeOf 6 (map strikeWord) strikes-laid h here parts strikes-legal
+
+        pub strike-sought : from + i ≡ strikePlace c m h facts
+        strike-sought = omega (arith, strike-index, length-map (low (class facts c .series) m h) strikeWord)
+
+        pub strike-found : holdsAt 15 h (take (to - from) (drop from ws)) i ≡ isStanding facts c m h
+        strike-found =
+            (λ j. holdsAt 15 h (strikes-here j) (strike-index j))
+            ∙ found strikeOf 6 (map strikeWord) strikes-laid h here parts strikes-legal
+            ∙ some-both (isEqual monthOf m) (isEqual strikeOf h) (class facts c .series)

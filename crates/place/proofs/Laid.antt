@@ -1,0 +1,202 @@
+-- What a search finds in the words of a list that rises by a key, of classes, of series and of strikes: it passes the words of the keys below, and stops at the first word after them. Assumes nothing.
+use Prim.Native.Nat.{ℕ, suc, _<_}
+use mathlib.Core.Path.{_≡_, refl, sym, ap, _∙_}
+use mathlib.Core.Bool.{Bool, true, false, not, _&&_}
+use mathlib.Core.List.{List, [], _∷_, _++_, map, map-append, append-nil}
+use native.Mathlib.Omega.{arith}
+use lib.ListN.{length, getD, length-append, length-map}
+use lib.Seq.{getD-at}
+use lib.Dec.{T, eqb, leb, ltb, eqb·zero-suc, leb·zero, ltb→lt}
+use borrow.Author.Tests.{not-true, eq-eqb, lt-ltb, le-ltb, lt-leb}
+use Rattle.word.specs.declared.codec.Word.{Word}
+use Rattle.word.specs.declared.codec.Word.the-variants.{Class, Close, Volume, Expiration}
+use Rattle.word.specs.Codec.{isLegal, packed}
+use Rattle.rule.specs.Lists.{every, some, only}
+use Rattle.book.specs.Facts.{Series, OpenClass, number}
+use Rattle.book.specs.Layout.{strikeWord, expirationUnless, seriesWords, classesWords}
+use Rattle.book.proofs.Tests.{and-intro, ands, T-true}
+use Rattle.book.proofs.Lists.{every-imply, every-map}
+use Rattle.book.proofs.Parts.{every-kept, isUnder, isEqual, isOver}
+use Rattle.book.proofs.Splits.{every-split, not-under, leads, some-leads}
+use Rattle.book.proofs.Expirations.{monthOf, strikeOf}
+use Rattle.book.proofs.ClassWords.{classes-apart, series-apart}
+use Rattle.place.specs.Search.{firstAt, isFrom, holdsAt}
+use Rattle.place.proofs.Firsts.{first-beyond}
+use Rattle.place.proofs.Words.{kindIn, keyIn, widthOf, isKeyed, key-said, from-packed}
+
+-- ---- packed words
+
+-- a search in packed words is one in the words
+first-packed :
+    (kind key : ℕ) (ws : List Word) → T (every isLegal ws)
+    → firstAt (isFrom kind (widthOf kind) key) (map packed ws) ≡ firstAt (isKeyed kind key) ws
+first-packed kind key [] legal = refl
+first-packed kind key (w ∷ ws) legal =
+    rw (from-packed kind key w (T-true (isLegal w) (search ands)), first-packed kind key ws (search ands))
+
+none-first : {A : Type 0} (p : A → Bool) (xs : List A) → T (every (λ x. not (p x)) xs) → firstAt p xs ≡ length xs
+none-first p [] t = refl
+none-first p (x ∷ xs) t = rw (not-true (p x) (T-true (not (p x)) (search ands))) (ap suc (none-first p xs (search ands)))
+
+-- words that the search passes, then words at whose first it stops
+pub first-after :
+    (kind key : ℕ) (ws rest : List Word) → T (every isLegal (ws ++ rest)) → T (every (λ w. not (isKeyed kind key w)) ws)
+    → firstAt (isKeyed kind key) rest ≡ 0 → firstAt (isFrom kind (widthOf kind) key) (map packed (ws ++ rest)) ≡ length ws
+first-after kind key ws rest legal none stop =
+    let e = none-first (isKeyed kind key) ws none in
+    let d = first-beyond (isKeyed kind key) ws rest (omega arith) in
+    first-packed kind key (ws ++ rest) legal ∙ omega arith
+
+-- ---- the words of a list of keys
+
+-- `lay` gives words to a list, those of an element first one of the kind that holds its key
+pub record Laid {A : Type 0} (key : A → ℕ) (kind : ℕ) (lay : List A → List Word) : Type 0 where
+  pub first : A → Word
+  pub rest : A → List A → List Word
+  pub none : lay [] ≡ []
+  pub begins : (x : A) (xs : List A) → lay (x ∷ xs) ≡ first x ∷ rest x xs
+  pub kinds : (x : A) → kindIn (first x) ≡ kind
+  pub keys : (x : A) → keyIn (first x) ≡ key x
+  pub apart :
+      (k : ℕ) (xs ys : List A) → T (every (λ x. ltb (key x) k) xs) → T (every (λ y. leb k (key y)) ys)
+      → lay (xs ++ ys) ≡ lay xs ++ lay ys
+  pub passed : (k : ℕ) (xs : List A) → T (every (λ x. ltb (key x) k) xs) → T (every (λ w. not (isKeyed kind k w)) (lay xs))
+
+module _ {A : Type 0} (key : A → ℕ) (kind : ℕ) (lay : List A → List Word) (laid : Laid key kind lay) where
+  stops-there : (k : ℕ) (xs : List A) → T (every (λ x. leb k (key x)) xs) → firstAt (isKeyed kind k) (lay xs) ≡ 0
+  stops-there k [] t = rw (laid .none)
+  stops-there k (x ∷ xs) t =
+      rw (laid .begins x xs, laid .kinds x, laid .keys x, eq-eqb kind kind refl, T-true (leb k (key x)) (search ands))
+
+  pub stops-anywhere : (xs : List A) → firstAt (isKeyed kind 0) (lay xs) ≡ 0
+  stops-anywhere xs = stops-there 0 xs (from-zero xs)
+    where
+      from-zero : (ys : List A) → T (every (λ y. leb 0 (key y)) ys)
+      from-zero [] = tt
+      from-zero (y ∷ ys) = rw (leb·zero (key y)) (from-zero ys)
+
+  holds-there :
+      (k : ℕ) (ws : List Word) (xs : List A) → T (every isLegal (lay xs))
+      → holdsAt (widthOf kind) k (map packed (ws ++ lay xs)) (length ws) ≡ leads key k xs
+  holds-there k ws [] legal =
+      rw (laid .none, append-nil ws, length-map ws packed, le-ltb (length ws) (length ws) (omega arith))
+  holds-there k ws (x ∷ xs) legal =
+      let legal′ = rw (laid .begins x xs) at legal in
+      let e : length ws < length (map packed (ws ++ (laid .first x ∷ laid .rest x xs))) =
+      simp (length-map, length-append) (omega arith) in
+      let d : getD (map packed (ws ++ (laid .first x ∷ laid .rest x xs))) (length ws) 0 ≡ packed (laid .first x) =
+      ap (λ (l : List ℕ). getD l (length ws) 0) (map-append packed ws (laid .first x ∷ laid .rest x xs))
+      ∙ getD-at (map packed ws) (packed (laid .first x)) (map packed (laid .rest x xs)) 0 (length ws) (length-map ws packed) in
+      let g = key-said kind (laid .first x) (T-true (isLegal (laid .first x)) (search ands)) (laid .kinds x) in
+      rw (laid .begins x xs, lt-ltb _ _ e, d, g, laid .keys x)
+
+  module _
+      (k : ℕ) (xs : List A) (parts : xs ≡ only (isUnder key k) xs ++ (only (isEqual key k) xs ++ only (isOver key k) xs))
+      (legal : T (every isLegal (lay xs))) where
+    abbrev under : List Word
+    under = lay (only (isUnder key k) xs)
+
+    abbrev others : List A
+    others = only (isEqual key k) xs ++ only (isOver key k) xs
+
+    two-parts : lay xs ≡ under ++ lay others
+    two-parts =
+        ap lay parts ∙ laid .apart k (only (isUnder key k) xs) others (every-kept (isUnder key k) xs) (not-under key k xs)
+
+    -- the search stops where the words of the keys below end
+    pub sought : firstAt (isFrom kind (widthOf kind) k) (map packed (lay xs)) ≡ length under
+    sought =
+        ap (λ (l : List Word). firstAt (isFrom kind (widthOf kind) k) (map packed l)) two-parts
+        ∙ first-after kind k under (lay others) (rw two-parts at legal)
+        (laid .passed k (only (isUnder key k) xs) (every-kept (isUnder key k) xs)) (stops-there k others (not-under key k xs))
+
+    -- .. and the word there holds the key exactly where one of the list has it
+    pub found : holdsAt (widthOf kind) k (map packed (lay xs)) (length under) ≡ some (isEqual key k) xs
+    found =
+        ap (λ (l : List Word). holdsAt (widthOf kind) k (map packed l) (length under)) two-parts
+        ∙ holds-there k under others (every-split isLegal under (lay others) (rw two-parts at legal) .1)
+        ∙ sym (some-leads key k xs)
+
+-- ---- series
+
+every-series :
+    (q : Word → Bool) (p : ℕ) (ss : List Series) (rest : List Word)
+    → T (every (λ s. q (strikeWord s) && q (Expiration (s .month))) ss) → T (every q rest) → T (every q (seriesWords p ss rest))
+every-series q p [] rest t u = u
+every-series q p (s ∷ ss) rest t u =
+    go (eqb p (suc (s .month))) (every-series q (suc (s .month)) ss rest (search ands) u)
+  where
+    go :
+        (b : Bool) → T (every q (seriesWords (suc (s .month)) ss rest))
+        → T (every q (expirationUnless b (s .month) (strikeWord s ∷ seriesWords (suc (s .month)) ss rest)))
+    go true r = let a : T (q (strikeWord s)) = search ands in search and-intro
+    go false r =
+        let a : T (q (strikeWord s)) = search ands in
+        let b : T (q (Expiration (s .month))) = search ands in
+        search and-intro
+
+-- a key below k does not stop a search from k on
+not-from : (n k : ℕ) → T (ltb n k) → T (not (leb k n))
+not-from n k t = rw (lt-leb k n (ltb→lt n k t)) tt
+
+pub months-laid : Laid monthOf 5 (λ ss. seriesWords 0 ss [])
+months-laid = record {
+  first = λ s. Expiration (s .month);
+  rest = λ s ss. strikeWord s ∷ seriesWords (suc (s .month)) ss [];
+  none = refl;
+  begins = λ s ss. rw (eqb·zero-suc (s .month));
+  kinds = λ s. refl;
+  keys = λ s. refl;
+  apart = λ k xs ys a b. series-apart k 0 xs ys [] a b (omega arith);
+  passed = λ k xs t.
+      every-series (λ w. not (isKeyed 5 k w)) 0 xs []
+      (every-imply (λ s. ltb (s .month) k) (λ s. not (isKeyed 5 k (strikeWord s)) && not (isKeyed 5 k (Expiration (s .month))))
+      (λ s u. not-from (s .month) k u) xs t) tt;
+}
+
+pub strikes-laid : Laid strikeOf 6 (map strikeWord)
+strikes-laid = record {
+  first = strikeWord;
+  rest = λ s ss. map strikeWord ss;
+  none = refl;
+  begins = λ s ss. refl;
+  kinds = λ s. refl;
+  keys = λ s. refl;
+  apart = λ k xs ys a b. map-append strikeWord xs ys;
+  passed = λ k xs t.
+      every-map (λ s. ltb (s .strike) k) (λ w. not (isKeyed 6 k w)) strikeWord (λ s u. not-from (s .strike) k u) xs t;
+}
+
+-- ---- classes
+
+-- the words of series are no class words
+pub no-class : (k p : ℕ) (ss : List Series) (rest : List Word) → T (every (λ w. not (isKeyed 2 k w)) rest)
+    → T (every (λ w. not (isKeyed 2 k w)) (seriesWords p ss rest))
+no-class k p ss rest t = every-series (λ w. not (isKeyed 2 k w)) p ss rest (anything ss) t
+  where
+    anything :
+        (ss : List Series)
+        → T (every (λ s. not (isKeyed 2 k (strikeWord s)) && not (isKeyed 2 k (Expiration (s .month)))) ss)
+    anything [] = tt
+    anything (s ∷ ss) = anything ss
+
+pub classes-laid : Laid number 2 (λ xs. classesWords xs [])
+classes-laid = record {
+  first = λ x. Class (x .figures .number) (x .figures .dollar) (x .figures .half);
+  rest = λ x xs. Close (x .figures .close) ∷ Volume (x .figures .volume) ∷ seriesWords 0 (x .series) (classesWords xs []);
+  none = refl;
+  begins = λ x xs. refl;
+  kinds = λ x. refl;
+  keys = λ x. refl;
+  apart = λ k xs ys a b. classes-apart xs ys [];
+  passed = passed;
+}
+  where
+    passed :
+        (k : ℕ) (xs : List OpenClass) → T (every (λ x. ltb (number x) k) xs)
+        → T (every (λ w. not (isKeyed 2 k w)) (classesWords xs []))
+    passed k [] t = tt
+    passed k (x ∷ xs) t =
+        let a : T (not (leb k (number x))) = not-from (number x) k (search ands) in
+        let b = no-class k 0 (x .series) (classesWords xs []) (passed k xs (search ands)) in
+        search and-intro

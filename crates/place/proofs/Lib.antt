@@ -1,0 +1,7 @@
+pub mod Firsts
+pub mod Heads
+pub mod Words
+pub mod Laid
+pub mod Found
+pub mod Answers
+pub mod Owned

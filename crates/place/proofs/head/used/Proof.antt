@@ -1,0 +1,21 @@
+-- `used` reads the head: a book has a first word, and its field is the fact.
+use mathlib.Core.Path.{_∙_}
+use borrow.Author.Needs.{needs}
+use Rattle.place.proofs.Heads.{book-long, head-used}
+use Rattle.place.proofs.head.used.Statement.{statement}
+use Rattle.place.proofs.head.used.Tie as tie
+
+shared-slice-read-field-of : tie.Need-shared-slice-read-field-of
+shared-slice-read-field-of c = book-long _ (c .before .before .pre) .0
+
+field-of-requires : tie.Need-field-of-requires
+field-of-requires c κs = search needs
+
+cast-result : tie.Need-cast-result
+cast-result c = search needs
+
+returns : tie.Need-returns
+returns c = c .field-of .ensures ∙ head-used _ (c .before .before .before .pre)
+
+pub used-spec : {M : Type 1} → statement M
+used-spec = tie.close (tie.spec shared-slice-read-field-of field-of-requires cast-result returns)

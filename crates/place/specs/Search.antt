@@ -1,0 +1,53 @@
+-- The first of a list that passes a test, and the tests by which words are sought: no sentence of document 01. Assumes nothing.
+use Prim.Native.Nat.{ℕ, suc, _+_, _≤_}
+use mathlib.Core.Path.{_≡_}
+use mathlib.Core.Bool.{Bool, true, false, cond, _&&_}
+use mathlib.Core.List.{List, [], _∷_}
+use lib.ListN.{drop, getD, length}
+use lib.Dec.{eqb, leb, ltb}
+use Rattle.word.specs.declared.class.ClassRecord.{ClassRecord}
+use Rattle.word.specs.Field.{field}
+use Rattle.word.specs.Codec.{kindOf}
+use Rattle.place.specs.declared.lookup.Part.{Part}
+use Rattle.place.specs.declared.search.Found.{Found}
+
+module _ {A : Type 0} (test : A → Bool) where
+  -- how many stand before the first that passes the test
+  abbrev pub firstAt : List A → ℕ
+  firstAt [] = 0
+  firstAt (x ∷ xs) = cond {A = ℕ} (test x) 0 (suc (firstAt xs))
+
+-- a word of the kind whose lowest field, of `width` bits, holds at least `key`
+abbrev pub isFrom : ℕ → ℕ → ℕ → ℕ → Bool
+isFrom kind width key w = eqb (kindOf w) kind && leb key (field w 0 width)
+
+-- a word stands at this index, and its lowest field, of `width` bits, holds `key`
+abbrev pub holdsAt : ℕ → ℕ → List ℕ → ℕ → Bool
+holdsAt width key ws at = ltb at (length ws) && eqb (field (getD ws at 0) 0 width) key
+
+-- the first word of the kind that holds at least the key, or none
+pub record Finds (kind width key : ℕ) (ws : List ℕ) (r : Found) : Type 0 where
+  pub first : r .at ≡ firstAt (isFrom kind width key) ws
+  pub holds : r .holds ≡ holdsAt width key ws (r .at)
+  pub within : r .at ≤ length ws
+
+-- what the three words of a class say, which begin at this index
+abbrev pub figuresAt : ℕ → List ℕ → ClassRecord
+figuresAt at ws =
+    record {
+      number = field (getD ws at 0) 0 14;
+      close = field (getD ws (at + 1) 0) 0 20;
+      volume = field (getD ws (at + 2) 0) 0 24;
+      dollar = field (getD ws at 0) 14 2;
+      half = field (getD ws at 0) 16 2;
+    }
+
+-- the strikes that follow the expiration word at this index, to the next expiration word; or none there
+abbrev pub strikesAfter : Bool → ℕ → List ℕ → Part
+strikesAfter true at ws = record { from = at + 1; to = at + 1 + firstAt (isFrom 5 10 0) (drop (at + 1) ws) }
+strikesAfter false at ws = record { from = at; to = at }
+
+-- where the strikes of the month m stand in the words of series
+abbrev pub strikesIn : ℕ → List ℕ → Part
+strikesIn m ws =
+    strikesAfter (holdsAt 10 m ws (firstAt (isFrom 5 10 m) ws)) (firstAt (isFrom 5 10 m) ws) ws

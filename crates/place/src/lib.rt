@@ -1,0 +1,5 @@
+// Searches over the words of a book.
+pub mod head;
+pub mod lookup;
+pub mod own;
+mod search;

@@ -1,0 +1,141 @@
+-- The series that a rule leaves in a class, and the marked strikes of an expiration: its words give the bounds that its series have, by induction on the series, which rise by month. Assumes nothing.
+use Prim.Native.Nat.{ℕ, suc, _≤_, _<_}
+use mathlib.Core.Path.{_≡_, refl, ap, _∙_}
+use mathlib.Core.Bool.{Bool, true, false, cond, not, _&&_}
+use mathlib.Core.List.{List, [], _∷_, map}
+use mathlib.Core.Logic.{inl, inr}
+use native.Mathlib.Nat.{le-refl}
+use native.Mathlib.Omega.{arith}
+use lib.Dec.{T, eqb, ltb, ltb→lt, eqb→eq}
+use borrow.Author.Tests.{eqb-true, eqb-false, eq-eqb, ne-eqb}
+use Rattle.word.specs.Limits.{isMonth}
+use Rattle.word.specs.declared.codec.Word.{Word}
+use Rattle.word.specs.declared.codec.Word.the-variants.{Expiration}
+use Rattle.word.specs.Codec.{isLegal, packed}
+use Rattle.rule.specs.Lists.{every, only}
+use Rattle.book.specs.Facts.{Series, isMarked, precedes}
+use Rattle.book.specs.Layout.{strikeWord, expirationUnless, seriesWords}
+use Rattle.book.specs.Books.{rises, isSeries}
+use Rattle.book.proofs.Tests.{and-intro, ands, T-true}
+use Rattle.book.proofs.Alternatives.{or-cases}
+use Rattle.book.proofs.Forms.{areSeries}
+use Rattle.removal.specs.declared.marks.Bounds.{Bounds}
+use Rattle.removal.specs.declared.rules.Rule.{Rule}
+use Rattle.removal.specs.Marks.{said, noneMarked, widened, withStrike, boundsIn}
+use Rattle.removal.specs.Compaction.{stays, boundsFor}
+use Rattle.removal.proofs.Said.{said-packed}
+
+-- ---- what stays
+
+abbrev pub markedIn : ℕ → List Series → List Series
+markedIn month ss = only (λ t. eqb (t .month) month && isMarked t) ss
+
+abbrev pub widenedBy : Bounds → List Series → Bounds
+widenedBy b [] = b
+widenedBy b (s ∷ ss) = widenedBy (widened b (s .strike)) ss
+
+abbrev pub boundsAmong : Rule → List Series → ℕ → Bounds
+boundsAmong rule ss month = boundsFor rule (widenedBy noneMarked (markedIn month ss))
+
+-- whether s stays among the series ss of its class
+abbrev pub staysAmong : Rule → List Series → Series → Bool
+staysAmong rule ss s = stays rule (boundsAmong rule ss (s .month)) s
+
+abbrev pub staying : Rule → List Series → List Series
+staying rule ss = only (staysAmong rule ss) ss
+
+abbrev pub leaving : Rule → List Series → List Series
+leaving rule ss = only (λ s. not (staysAmong rule ss s)) ss
+
+-- ---- series in their order, with words that say them
+
+pub record Placed (p : ℕ) (s : Series) : Type 0 where
+  pub order : p ≤ suc (s .month)
+  pub expiration : said (packed (Expiration (s .month))) ≡ Expiration (s .month)
+  pub strike : said (packed (strikeWord s)) ≡ strikeWord s
+
+abbrev pub AllPlaced : ℕ → List Series → Type 0
+AllPlaced p [] = Unit {0}
+AllPlaced p (s ∷ ss) = Placed p s × AllPlaced (suc (s .month)) ss
+
+-- after its own expiration word
+pub placed-again : {p : ℕ} {s : Series} → Placed p s → Placed (suc (s .month)) s
+placed-again {s = s} a = record { order = le-refl (suc (s .month)); expiration = a .expiration; strike = a .strike }
+
+-- p stands for an earlier month
+pub unmet : {p : ℕ} {s : Series} → Placed p s → eqb p (suc (s .month)) ≡ false → p ≤ s .month
+unmet {p} {s} a e = go (a .order) (eqb-false p (suc (s .month)) e)
+  where
+    go : p ≤ suc (s .month) → (p ≡ suc (s .month) → ⊥) → p ≤ s .month
+    go l n = omega (arith, n)
+
+months-rise : (s t : Series) → T (precedes s t) → s .month ≤ t .month
+months-rise s t p =
+    elim (or-cases (ltb (s .month) (t .month)) (eqb (s .month) (t .month) && ltb (s .strike) (t .strike)) p) [
+      | inl a ↦ omega (arith, ltb→lt (s .month) (t .month) a)
+      | inr a ↦ omega (arith, eqb→eq (s .month) (t .month) (search ands))
+    ]
+
+module _ (now : ℕ) where
+  placed-one : (p : ℕ) (s : Series) → p ≤ suc (s .month) → T (isSeries now s) → Placed p s
+  placed-one p s l t =
+      let strike : T (isLegal (strikeWord s)) = search (ands, and-intro) in
+      let month : T (isMonth (s .month)) = search ands depth 12 in
+      record {
+        order = l;
+        expiration = said-packed (Expiration (s .month)) (T-true (isMonth (s .month)) month);
+        strike = said-packed (strikeWord s) (T-true (isLegal (strikeWord s)) strike);
+      }
+
+  placed-from :
+      (p : ℕ) (s : Series) (ss : List Series) → p ≤ suc (s .month) → T (every (isSeries now) (s ∷ ss))
+      → T (rises precedes (s ∷ ss)) → AllPlaced p (s ∷ ss)
+  placed-from p s [] l t r = (placed-one p s l (search ands), tt)
+  placed-from p s (u ∷ us) l t r =
+      let o : T (precedes s u) = search ands in (
+        placed-one p s l (search ands),
+        placed-from (suc (s .month)) u us (omega (arith, months-rise s u o)) (search ands) (search ands),
+      )
+
+  pub placed : (ss : List Series) → T (areSeries now ss) → AllPlaced 0 ss
+  placed [] t = tt
+  placed (s ∷ ss) t = placed-from 0 s ss (omega arith) (search ands) (search ands)
+
+-- ---- the marked strikes of an expiration, from its words
+
+none-later : (month p : ℕ) (ss : List Series) → suc month < p → AllPlaced p ss → markedIn month ss ≡ []
+none-later month p [] l a = refl
+none-later month p (s ∷ ss) l a =
+    let o = a .0 .order in
+    let e : eqb (s .month) month ≡ false = ne-eqb (s .month) month (λ q. omega arith) in
+    rw e (none-later month (suc (s .month)) ss (omega arith) (a .1))
+
+pub look-series :
+    (month : ℕ) (b : Bounds) (ss : List Series) (rest : List Word) → AllPlaced (suc month) ss
+    → ((d : Bounds) → boundsIn d (map packed rest) ≡ d)
+    → boundsIn b (map packed (seriesWords (suc month) ss rest)) ≡ widenedBy b (markedIn month ss)
+look-series month b [] rest a ends = ends b
+look-series month b (s ∷ ss) rest a ends =
+    go (eqb (suc month) (suc (s .month))) refl
+    (look-series (s .month) (withStrike b (s .strike) (s .put) (s .call)) ss rest (a .1) ends)
+  where
+    counted :
+        (m : Bool) (l : List Series) → widenedBy (cond m (widened b (s .strike)) b) l ≡ widenedBy b (cond m (s ∷ l) l)
+    counted true l = refl
+    counted false l = refl
+
+    go :
+        (here : Bool) → eqb (suc month) (suc (s .month)) ≡ here
+        → boundsIn (withStrike b (s .strike) (s .put) (s .call)) (map packed (seriesWords (suc (s .month)) ss rest))
+        ≡ widenedBy (withStrike b (s .strike) (s .put) (s .call)) (markedIn (s .month) ss)
+        → boundsIn b (map packed (expirationUnless here (s .month) (strikeWord s ∷ seriesWords (suc (s .month)) ss rest)))
+        ≡ widenedBy b (markedIn month (s ∷ ss))
+    go true e ih =
+        let q : suc month ≡ suc (s .month) = eqb-true (suc month) (suc (s .month)) e in
+        let m : s .month ≡ month = omega arith in
+        rw (a .0 .strike, eq-eqb (s .month) month m)
+        (ih ∙ ap (λ (i : ℕ). widenedBy (withStrike b (s .strike) (s .put) (s .call)) (markedIn i ss)) m
+        ∙ counted (isMarked s) (markedIn month ss))
+    go false e ih =
+        let l = unmet (a .0) e in
+        rw (a .0 .expiration, none-later month (suc (s .month)) (s ∷ ss) (omega arith) (placed-again (a .0), a .1))

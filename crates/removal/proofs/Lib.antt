@@ -1,0 +1,11 @@
+pub mod Said
+pub mod Parts
+pub mod Moving
+pub mod Steps
+pub mod Shifts
+pub mod Marked
+pub mod Expirations
+pub mod Kept
+pub mod Reviewed
+pub mod Whole
+pub mod CallFacts

@@ -1,0 +1,97 @@
+-- The review by the bounds of the marked strikes is the review of document 01: a test of the bounds asks of each marked strike what the sentence asks. Assumes nothing.
+use Prim.Native.Nat.{ℕ, _+_, _≤_, _<_}
+use mathlib.Core.Path.{_≡_, refl, sym, ap, _∙_}
+use mathlib.Core.Bool.{Bool, cond, not, _&&_, _||_, and-true, and-assoc, Bool·not-not}
+use mathlib.Core.List.{List, [], _∷_}
+use native.Mathlib.Omega.{arith}
+use lib.Dec.{T, eqb, leb, ltb, leb→le, le→leb, ltb→lt, lt→ltb}
+use borrow.Author.Tests.{le-leb, lt-ltb}
+use Rattle.rule.specs.Lists.{every, only}
+use Rattle.rule.specs.Terms.{cents}
+use Rattle.rule.specs.Spacing.{apart}
+use Rattle.book.specs.Facts.{Series, OpenClass, isMarked}
+use Rattle.book.specs.Books.{isSeries}
+use Rattle.book.specs.Calls.{isReviewed}
+use Rattle.book.proofs.Tests.{and-left, and-right, and-intro, ands, same-bool}
+use Rattle.removal.specs.declared.marks.Bounds.{Bounds}
+use Rattle.removal.specs.declared.rules.Rule.the-variants.{Review}
+use Rattle.removal.specs.Marks.{noneMarked, lower, higher, widened}
+use Rattle.removal.proofs.Expirations.{markedIn, widenedBy, staysAmong, staying, leaving}
+
+-- ---- the bounds
+
+-- a test q of bounds, of which each strike asks p
+widened-law :
+    (q : Bounds → Bool) (p : ℕ → Bool) → ((b : Bounds) (h : ℕ) → q (widened b h) ≡ (q b && p h)) → (b : Bounds)
+    (ss : List Series) → q (widenedBy b ss) ≡ (q b && every (λ t. p (t .strike)) ss)
+widened-law q p one b [] = sym (and-true (q b))
+widened-law q p one b (s ∷ ss) =
+    let each = every (λ t. p (t .strike)) ss in
+    widened-law q p one (widened b (s .strike)) ss
+    ∙ ap (λ (t : Bool). t && each) (one b (s .strike))
+    ∙ and-assoc (q b) (p (s .strike)) each
+
+above-asks : (h a k : ℕ) → leb (higher a (k + 1)) h ≡ (leb a h && ltb k h)
+above-asks h a k =
+    same-bool (leb (higher a (k + 1)) h) (leb a h && ltb k h)
+    (λ t.
+    let l : higher a (k + 1) ≤ h = leb→le (higher a (k + 1)) h t in
+    and-intro (leb a h) (ltb k h) (le→leb a h (omega arith)) (lt→ltb k h (omega arith)))
+    (λ t.
+    let l : a ≤ h = leb→le a h (and-left (leb a h) (ltb k h) t) in
+    let m : k < h = ltb→lt k h (and-right (leb a h) (ltb k h) t) in
+    le→leb (higher a (k + 1)) h (omega arith))
+
+lowest-asks : (h a k : ℕ) → ltb h (lower k a) ≡ (ltb h a && ltb h k)
+lowest-asks h a k =
+    same-bool (ltb h (lower k a)) (ltb h a && ltb h k)
+    (λ t.
+    let l : h < lower k a = ltb→lt h (lower k a) t in
+    and-intro (ltb h a) (ltb h k) (lt→ltb h a (omega arith)) (lt→ltb h k (omega arith)))
+    (λ t.
+    let l : h < a = ltb→lt h a (and-left (ltb h a) (ltb h k) t) in
+    let m : h < k = ltb→lt h k (and-right (ltb h a) (ltb h k) t) in
+    lt→ltb h (lower k a) (omega arith))
+
+-- above all, or below all
+beyond :
+    (h : ℕ) (ss : List Series) → h < 32768
+    → (leb (widenedBy noneMarked ss .above) h || ltb h (widenedBy noneMarked ss .lowest))
+    ≡ (every (λ t. ltb (t .strike) h) ss || every (λ t. ltb h (t .strike)) ss)
+beyond h ss l =
+    let above =
+    widened-law (λ b. leb (b .above) h) (λ k. ltb k h) (λ b k. above-asks h (b .above) k) noneMarked ss
+    ∙ ap (λ (t : Bool). t && every (λ t. ltb (t .strike) h) ss) (le-leb 0 h (omega arith)) in
+    let below =
+    widened-law (λ b. ltb h (b .lowest)) (λ k. ltb h k) (λ b k. lowest-asks h (b .lowest) k) noneMarked ss
+    ∙ ap (λ (t : Bool). t && every (λ t. ltb h (t .strike)) ss) (lt-ltb h 32768 l) in
+    λ i. above i || below i
+
+-- ---- the review
+
+-- two tests that agree where p holds
+only-same :
+    {A : Type 0} (p f g : A → Bool) → ((x : A) → T (p x) → f x ≡ g x) → (xs : List A) → T (every p xs) → only f xs ≡ only g xs
+only-same p f g agree [] t = refl
+only-same p f g agree (x ∷ xs) t =
+    let here : f x ≡ g x = agree x (search ands) in
+    let rest : only f xs ≡ only g xs = only-same p f g agree xs (search ands) in
+    λ i. cond (here i) (x ∷ rest i) (rest i)
+
+module _ (now close : ℕ) (x : OpenClass) (e : close ≡ x .figures .close) (t : T (every (isSeries now) (x .series))) where
+  agrees : (s : Series) → T (isSeries now s) → staysAmong (Review close) (x .series) s ≡ not (isReviewed x s)
+  agrees s u =
+      let l : s .strike ≤ 19999 = leb→le (s .strike) 19999 (search ands) in
+      λ i.
+      not ((eqb (s .ground) 1 || eqb (s .ground) 3)
+      && (ltb 500 (apart (cents (s .strike)) (e i))
+      && (not (isMarked s) && beyond (s .strike) (markedIn (s .month) (x .series)) (omega arith) i)))
+
+  pub review-leaves : staying (Review close) (x .series) ≡ only (λ s. not (isReviewed x s)) (x .series)
+  review-leaves =
+      only-same (isSeries now) (staysAmong (Review close) (x .series)) (λ s. not (isReviewed x s)) agrees (x .series) t
+
+  pub review-removes : leaving (Review close) (x .series) ≡ only (isReviewed x) (x .series)
+  review-removes =
+      only-same (isSeries now) (λ s. not (staysAmong (Review close) (x .series) s)) (isReviewed x)
+      (λ s u. ap not (agrees s u) ∙ Bool·not-not (isReviewed x s)) (x .series) t

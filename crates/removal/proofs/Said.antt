@@ -1,0 +1,60 @@
+-- What a word says by its kind, unchecked, and what follows of a choice by kind: by cases on the tests and on the words. Assumes nothing.
+use Prim.Native.Nat.{ℕ}
+use mathlib.Core.Path.{_≡_, refl, sym, ap, _∙_}
+use mathlib.Core.Bool.{Bool, true, false, cond, _&&_}
+use lib.Dec.{eqb}
+use borrow.Author.Tests.{eqb-true, ne-eqb}
+use Rattle.word.specs.Field.{field}
+use Rattle.word.specs.declared.codec.Word.{Word}
+use Rattle.word.specs.declared.codec.Word.the-variants.{Head, Class, Close, Volume, Expiration, Strike, Invalid}
+use Rattle.word.specs.Codec.{isLegal, packed, fieldsAs, kindOf, reading}
+use Rattle.word.proofs.Words.{reading-packed}
+use Rattle.removal.specs.Marks.{said, byKind}
+
+pub choose : {A : Type 0} (P : A → Type 0) (b : Bool) (x y : A) → (b ≡ true → P x) → (b ≡ false → P y) → P (cond b x y)
+choose P true x y p q = p refl
+choose P false x y p q = q refl
+
+pub said-is : (w k : ℕ) → kindOf w ≡ k → said w ≡ fieldsAs k w
+unfolding said
+said-is w k e = ap (λ (i : ℕ). fieldsAs i w) e
+
+-- in a book a word says what was packed
+pub said-packed : (x : Word) → isLegal x ≡ true → said (packed x) ≡ x
+unfolding said reading
+said-packed x legal = go (isLegal y && eqb (packed y) (packed x)) (reading-packed x legal)
+  where
+    y : Word
+    y = fieldsAs (kindOf (packed x)) (packed x)
+
+    go : (b : Bool) → cond b y Invalid ≡ x → y ≡ x
+    go true e = e
+    go false e = let z : true ≡ false = sym legal ∙ sym (ap isLegal e) in cc
+
+module _ {A : Type 0} (expiration : ℕ → A) (strike : (h ground put call : ℕ) → A) (other : A) where
+  -- a word that is no strike, and no expiration that makes a difference
+  pub by-other :
+      (w : ℕ) → (kindOf w ≡ 6 → ⊥) → (kindOf w ≡ 5 → expiration (field w 0 10) ≡ other)
+      → byKind expiration strike other (said w) ≡ other
+  unfolding said
+  by-other w n e =
+      let k = kindOf w in
+      let P : Word → Type 0 = λ x. byKind expiration strike other x ≡ other in
+      rw (ne-eqb k 6 n)
+      (choose P (eqb k 1) _ _ (λ t. refl)
+      (λ t. choose P (eqb k 2) _ _ (λ t. refl)
+      (λ t. choose P (eqb k 3) _ _ (λ t. refl)
+      (λ t. choose P (eqb k 4) _ _ (λ t. refl)
+      (λ t. choose P (eqb k 5) _ _ (λ t. e (eqb-true k 5 t))
+      (λ t. refl))))))
+
+  pub by-each :
+      (P : A → Type 0) → ((m : ℕ) → P (expiration m)) → ((h ground put call : ℕ) → P (strike h ground put call))
+      → P other → (x : Word) → P (byKind expiration strike other x)
+  by-each P e s o (Head now used) = o
+  by-each P e s o (Class number dollar half) = o
+  by-each P e s o (Close price) = o
+  by-each P e s o (Volume contracts) = o
+  by-each P e s o (Expiration month) = e month
+  by-each P e s o (Strike h ground put call) = s h ground put call
+  by-each P e s o Invalid = o

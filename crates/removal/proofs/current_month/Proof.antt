@@ -1,0 +1,20 @@
+-- `current_month` reads the month from the head: by what a run that is a book tells. Assumes nothing.
+use mathlib.Core.Path.{_∙_}
+use native.Mathlib.Omega.{arith}
+use borrow.Author.Needs.{needs}
+use Rattle.book.proofs.BookRuns.{book-run}
+use Rattle.removal.proofs.current_month.Statement.{statement}
+use Rattle.removal.proofs.current_month.Tie as tie
+
+shared-slice-read-field-of : tie.Need-shared-slice-read-field-of
+shared-slice-read-field-of c = let b = book-run (c .before .before .args .run .now) (c .before .before .pre) in omega arith
+
+field-of-requires : tie.Need-field-of-requires
+field-of-requires c κs = search needs
+
+returns : tie.Need-returns
+returns c = let s = c .before .before .before in
+    c .field-of .ensures ∙ book-run (s .args .run .now) (s .pre) .month
+
+pub current-month-spec : {M : Type 1} → statement M
+current-month-spec = tie.close (tie.spec shared-slice-read-field-of field-of-requires returns)

@@ -1,0 +1,44 @@
+-- `with_strike` widens the bounds by a marked strike: its callees ensure the parts, in the same shape. Assumes nothing.
+use borrow.Author.Tests.{not-true, not-false}
+use borrow.Author.Needs.{needs}
+use Rattle.removal.proofs.marks.with_strike.Statement.{statement}
+use Rattle.removal.proofs.marks.with_strike.Tie as tie
+
+is-marked-requires : tie.Need-is-marked-requires
+is-marked-requires c κs = search needs
+
+returns : tie.Need-returns
+returns c = rw (← c .before .is-marked .ensures, not-true (c .before .is-marked .result) (c .if1 .taken))
+
+field-of-requires : tie.Need-field-of-requires
+field-of-requires c κs = search needs
+
+lower-of-requires : tie.Need-lower-of-requires
+lower-of-requires c κs = search needs
+
+add-higher-of : tie.Need-add-higher-of
+add-higher-of c = search needs
+
+higher-of-requires : tie.Need-higher-of-requires
+higher-of-requires c κs = search needs
+
+returns-2 : tie.Need-returns-2
+returns-2 c = rw (
+  ← c .before .before .before .before .is-marked .ensures,
+  not-false (c .before .before .before .before .is-marked .result) (c .before .before .before .if1 .left),
+  ← c .before .before .field-of .ensures,
+  ← c .before .lower-of .ensures,
+  c .higher-of .ensures,
+)
+
+pub with-strike-spec : {M : Type 1} → statement M
+with-strike-spec =
+    tie.close
+    (tie.spec
+    is-marked-requires
+    returns
+    field-of-requires
+    lower-of-requires
+    add-higher-of
+    higher-of-requires
+    returns-2)

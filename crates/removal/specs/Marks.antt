@@ -1,0 +1,49 @@
+-- The bounds of the marked strikes of an expiration, read from its words: nothing of document 01, but the form in which the code works. Assumes nothing.
+use Prim.Native.Nat.{ℕ, _+_, _-_}
+use mathlib.Core.Bool.{Bool, cond, _||_}
+use mathlib.Core.List.{List, [], _∷_}
+use lib.Dec.{eqb}
+use Rattle.word.specs.declared.codec.Word.{Word}
+use Rattle.word.specs.declared.codec.Word.the-variants.{Head, Class, Close, Volume, Expiration, Strike, Invalid}
+use Rattle.word.specs.Codec.{fieldsAs, kindOf}
+use Rattle.removal.specs.declared.marks.Bounds.{Bounds}
+
+-- the fields of the word w by its kind, whatever their limits: in a book, what was packed
+unfoldable pub said : ℕ → Word
+said w = fieldsAs (kindOf w) w
+
+-- expirations and strikes are looked at, other words are not
+module _ {A : Type 0} (expiration : ℕ → A) (strike : (h ground put call : ℕ) → A) (other : A) where
+  abbrev pub byKind : Word → A
+  byKind (Head now used) = other
+  byKind (Class number dollar half) = other
+  byKind (Close price) = other
+  byKind (Volume contracts) = other
+  byKind (Expiration month) = expiration month
+  byKind (Strike h ground put call) = strike h ground put call
+  byKind Invalid = other
+
+abbrev pub noneMarked : Bounds
+noneMarked = record { lowest = 32768; above = 0 }
+
+-- the lower and the higher of two numbers
+abbrev pub lower : ℕ → ℕ → ℕ
+lower a b = a - (a - b)
+
+abbrev pub higher : ℕ → ℕ → ℕ
+higher a b = a + (b - a)
+
+-- with one marked strike more
+abbrev pub widened : Bounds → ℕ → Bounds
+widened b h = record { lowest = lower h (b .lowest); above = higher (b .above) (h + 1) }
+
+abbrev pub marks : ℕ → ℕ → Bool
+marks put call = eqb put 1 || eqb call 1
+
+abbrev pub withStrike : Bounds → ℕ → ℕ → ℕ → Bounds
+withStrike b h put call = cond (marks put call) (widened b h) b
+
+-- over the strikes that the words begin with
+abbrev pub boundsIn : Bounds → List ℕ → Bounds
+boundsIn b [] = b
+boundsIn b (w ∷ ws) = byKind (λ m. b) (λ h ground put call. boundsIn (withStrike b h put call) ws) b (said w)

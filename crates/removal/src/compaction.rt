@@ -1,0 +1,188 @@
+// The compaction of lent words in place.
+ghost use mathlib.Core.Path.{_≡_};
+ghost use Prim.Native.Nat.{_+_, _<_, _≤_};
+ghost use lib.ListN.{length, getD, drop, replicate};
+ghost use lib.Seq.{sets};
+ghost use Rattle.removal.specs.Marks.{noneMarked, boundsIn};
+ghost use Rattle.removal.specs.Compaction.{boundsFor, settled, strikeStep, stepAt, wordsOf, Compacted};
+use crate::marks::Bounds;
+use crate::marks::bounds_in;
+use crate::marks::none_marked;
+use crate::rules::Rule;
+use crate::rules::does_stay;
+use word::codec::kind;
+use word::field::field_of;
+
+// How far a compaction is: the month, the expiration word that waits for a strike that stays (0: none), the marked strikes of its expiration, and the strikes removed.
+pub struct Progress {
+    pub month: u32,
+    pub waiting: u32,
+    pub bounds: Bounds,
+    pub removed: usize,
+}
+
+// The progress after a word, and the words to be written: the first `count` of two.
+pub struct Step {
+    pub progress: Progress,
+    pub count: usize,
+    pub first: u32,
+    pub second: u32,
+}
+
+// What a compaction leaves: how many words stay, and how many strikes are removed.
+pub struct Kept {
+    pub words: usize,
+    pub removed: usize,
+}
+
+// No expiration word waits.
+fn settle(k: Progress) -> Progress
+    ensures { λ r. ⌜ r ≡ settled k ⌝ }
+{
+    let b = k.bounds;
+    Progress {
+        month: k.month,
+        waiting: 0,
+        bounds: b,
+        removed: k.removed,
+    }
+}
+
+// A strike word that stays, or is removed.
+fn strike_step(stays: bool, k: Progress, w: u32) -> Step
+    requires { ⌜ k .removed < 65535 ⌝ }
+    ensures { λ r. ⌜ r ≡ strikeStep stays k w ⌝ }
+{
+    if stays {
+        let next = settle(k);
+        if k.waiting == 0 {
+            return Step {
+                progress: next,
+                count: 1,
+                first: w,
+                second: 0,
+            };
+        }
+        return Step {
+            progress: next,
+            count: 2,
+            first: k.waiting,
+            second: w,
+        };
+    }
+    let b = k.bounds;
+    let next = Progress {
+        month: k.month,
+        waiting: k.waiting,
+        bounds: b,
+        removed: k.removed + 1,
+    };
+    Step {
+        progress: next,
+        count: 0,
+        first: 0,
+        second: 0,
+    }
+}
+
+// The marked strikes after `at`, where the rule asks for them.
+fn bounds_after(words: &[u32], at: usize, rule: Rule) -> Bounds
+    requires { ⌜ at < length (now words) ⌝ }
+    ensures { λ r. ⌜ r ≡ boundsFor rule (boundsIn noneMarked (drop (at + 1) (now (words .entry)))) ⌝ }
+{
+    match rule {
+        Rule::From(m) => none_marked(),
+        Rule::Except(m, h) => none_marked(),
+        Rule::Review(close) => {
+            let from = at + 1;
+            bounds_in(&words[from..])
+        }
+    }
+}
+
+// The step at the word `at`.
+fn step_at(words: &[u32], at: usize, rule: Rule, k: Progress) -> Step
+    requires { ⌜ (at < length (now words)) × (k .removed < 65535) ⌝ }
+    ensures { λ r. ⌜ r ≡ stepAt rule k (getD (now (words .entry)) at 0) (drop (at + 1) (now (words .entry))) ⌝ }
+{
+    let w = words[at];
+    let b = k.bounds;
+    let of = kind(w);
+    if of == 6 {
+        return strike_step(does_stay(rule, b, k.month, w), k, w);
+    }
+    if of == 5 {
+        let found = bounds_after(words, at, rule);
+        let next = Progress {
+            month: field_of(w, 0, 10),
+            waiting: w,
+            bounds: found,
+            removed: k.removed,
+        };
+        return Step {
+            progress: next,
+            count: 0,
+            first: 0,
+            second: 0,
+        };
+    }
+    Step {
+        progress: settle(k),
+        count: 1,
+        first: w,
+        second: 0,
+    }
+}
+
+// Writes the words of a step from `at` on, and returns the index after them.
+fn write(words: &mut [u32], at: usize, o: Step) -> usize
+    requires { ⌜ (o .count ≤ 2) × (at + o .count ≤ length (now words)) ⌝ }
+    ensures { λ r. ⌜ (r ≡ at + o .count) × (now (words .exit) ≡ sets (now (words .entry)) at (wordsOf o)) ⌝ }
+{
+    if o.count == 0 {
+        return at;
+    }
+    words[at] = o.first;
+    if o.count == 1 {
+        return at + 1;
+    }
+    let next = at + 1;
+    words[next] = o.second;
+    at + 2
+}
+
+pub fn zero_all(words: &mut [u32])
+    ensures { λ _. ⌜ now (words .exit) ≡ replicate (length (now (words .entry))) 0 ⌝ }
+{
+    let mut i = 0;
+    while i < words.len() {
+        words[i] = 0;
+        i += 1;
+    }
+}
+
+// Moves what stays to the front and zeroes the rest. An expiration word is written before its first strike that stays.
+pub fn compact(part: &mut [u32], rule: Rule) -> Kept
+    requires { ⌜ length (now part) ≤ 65535 ⌝ }
+    ensures { λ r. ⌜ Compacted rule (now (part .entry)) (now (part .exit)) (r .words) (r .removed) ⌝ }
+{
+    let mut k = Progress {
+        month: 0,
+        waiting: 0,
+        bounds: none_marked(),
+        removed: 0,
+    };
+    let mut read = 0;
+    let mut written = 0;
+    while read < part.len() {
+        let o = step_at(part, read, rule, k);
+        written = write(part, written, o);
+        k = o.progress;
+        read += 1;
+    }
+    zero_all(&mut part[written..]);
+    Kept {
+        words: written,
+        removed: k.removed,
+    }
+}
