@@ -12,6 +12,7 @@ pub mod SameFacts
 pub mod Permits
 pub mod Examples
 pub mod Answered
+pub mod Permission
 pub mod Parts
 pub mod Expirations
 pub mod Splices

@@ -1,0 +1,25 @@
+-- `judge_strike` keeps its contract over any words: a run that is no book is refused, and a book is handed on.
+use mathlib.Core.List.{[]}
+use borrow.Author.Needs.{needs}
+use Rattle.book.specs.Calls.{callJ}
+use Rattle.book.proofs.Answered.{made-no-book}
+use Rattle.call.proofs.Tested.{no-book, is-a-book}
+use Rattle.call.proofs.judge_strike.Statement.{statement}
+use Rattle.call.proofs.judge_strike.Tie as tie
+
+is-book-requires : tie.Need-is-book-requires
+is-book-requires c κs = search needs
+
+returns : tie.Need-returns
+returns c =
+    let s = c .before .before .before in
+    made-no-book (callJ (s .args .c) (s .args .m) (s .args .h)) (s .args .run .now) [] (no-book (c .before .is-book .ensures) (c .if1 .taken))
+
+judge-strike-requires : tie.Need-judge-strike-requires
+judge-strike-requires c κs = is-a-book (c .before .is-book .ensures) (c .if1 .left)
+
+returns-2 : tie.Need-returns-2
+returns-2 c = search needs
+
+pub judge-strike-spec : {M : Type 1} → statement M
+judge-strike-spec = tie.close (tie.spec is-book-requires returns judge-strike-requires returns-2)

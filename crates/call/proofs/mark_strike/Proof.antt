@@ -1,0 +1,31 @@
+-- `mark_strike` keeps its contract over any words: a run that is no book is refused, and a book is handed on.
+use mathlib.Core.List.{[]}
+use borrow.Author.Needs.{needs}
+use Rattle.book.specs.Calls.{callI}
+use Rattle.book.proofs.Answered.{made-no-book}
+use Rattle.call.proofs.Tested.{no-book, is-a-book}
+use Rattle.call.proofs.mark_strike.Statement.{statement}
+use Rattle.call.proofs.mark_strike.Tie as tie
+
+is-book-requires : tie.Need-is-book-requires
+is-book-requires c κs = search needs
+
+same-length : tie.Need-same-length
+same-length c = search needs
+
+returns : tie.Need-returns
+returns c =
+    let s = c .before .before .before .before in
+    made-no-book (callI (s .args .c) (s .args .m) (s .args .h) (s .args .a) (s .args .b)) (s .args .run .now) [] (no-book (c .before .is-book .ensures) (c .if1 .taken))
+
+mark-strike-requires : tie.Need-mark-strike-requires
+mark-strike-requires c κs = is-a-book (c .before .before .is-book .ensures) (c .before .if1 .left)
+
+same-length-2 : tie.Need-same-length-2
+same-length-2 c = search needs
+
+returns-2 : tie.Need-returns-2
+returns-2 c = search needs
+
+pub mark-strike-spec : {M : Type 1} → statement M
+mark-strike-spec = tie.close (tie.spec is-book-requires same-length returns mark-strike-requires same-length-2 returns-2)

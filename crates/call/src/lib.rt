@@ -1,0 +1,107 @@
+// The calls over any lent words. Each tests the run once and then makes the call as `class_call` or `strike_call` does on a book.
+ghost use mathlib.Core.List.{[]};
+ghost use Rattle.book.specs.Calls.{callM, callO, callC, callV, callD, callL, callJ, callX, callI, callR};
+ghost use Rattle.book.specs.Made.{Made};
+use scan::is_book;
+use word::answer::Answer;
+use word::answer::Refusal;
+
+// `M`: sets the current month, and removes the strikes of earlier months.
+pub fn set_month(run: &mut [u32], m: u32) -> Answer
+    ensures { λ r. ⌜ Made (callM m) (now (run .entry)) [] r (now (run .exit)) [] ⌝ }
+{
+    if !is_book(run) {
+        return Answer::Refused(Refusal::NotABook);
+    }
+    class_call::set_month(run, m)
+}
+
+// `O`: opens a class.
+pub fn open_class(run: &mut [u32], c: u32) -> Answer
+    ensures { λ r. ⌜ Made (callO c) (now (run .entry)) [] r (now (run .exit)) [] ⌝ }
+{
+    if !is_book(run) {
+        return Answer::Refused(Refusal::NotABook);
+    }
+    class_call::open_class(run, c)
+}
+
+// `C`: sets the close of a class.
+pub fn set_close(run: &mut [u32], c: u32, p: u32) -> Answer
+    ensures { λ r. ⌜ Made (callC c p) (now (run .entry)) [] r (now (run .exit)) [] ⌝ }
+{
+    if !is_book(run) {
+        return Answer::Refused(Refusal::NotABook);
+    }
+    class_call::set_close(run, c, p)
+}
+
+// `V`: sets the volume of a class.
+pub fn set_volume(run: &mut [u32], c: u32, n: u32) -> Answer
+    ensures { λ r. ⌜ Made (callV c n) (now (run .entry)) [] r (now (run .exit)) [] ⌝ }
+{
+    if !is_book(run) {
+        return Answer::Refused(Refusal::NotABook);
+    }
+    class_call::set_volume(run, c, n)
+}
+
+// `D`: gives the program p the designation d.
+pub fn designate(run: &mut [u32], c: u32, p: u32, d: u32) -> Answer
+    ensures { λ r. ⌜ Made (callD c p d) (now (run .entry)) [] r (now (run .exit)) [] ⌝ }
+{
+    if !is_book(run) {
+        return Answer::Refused(Refusal::NotABook);
+    }
+    class_call::designate(run, c, p, d)
+}
+
+// `L`: adds the strike h of the month m.
+pub fn list_strike(run: &mut [u32], c: u32, m: u32, h: u32) -> Answer
+    ensures { λ r. ⌜ Made (callL c m h) (now (run .entry)) [] r (now (run .exit)) [] ⌝ }
+{
+    if !is_book(run) {
+        return Answer::Refused(Refusal::NotABook);
+    }
+    strike_call::list_strike(run, c, m, h)
+}
+
+// `J`: judges the strike h of the month m, adding nothing.
+pub fn judge_strike(run: &[u32], c: u32, m: u32, h: u32) -> Answer
+    ensures { λ r. ⌜ Made (callJ c m h) (now (run .entry)) [] r (now (run .entry)) [] ⌝ }
+{
+    if !is_book(run) {
+        return Answer::Refused(Refusal::NotABook);
+    }
+    strike_call::judge_strike(run, c, m, h)
+}
+
+// `X`: delists the strike h of the month m.
+pub fn delist_strike(run: &mut [u32], c: u32, m: u32, h: u32) -> Answer
+    ensures { λ r. ⌜ Made (callX c m h) (now (run .entry)) [] r (now (run .exit)) [] ⌝ }
+{
+    if !is_book(run) {
+        return Answer::Refused(Refusal::NotABook);
+    }
+    strike_call::delist_strike(run, c, m, h)
+}
+
+// `I`: sets the put mark a and the call mark b of the strike h of the month m.
+pub fn mark_strike(run: &mut [u32], c: u32, m: u32, h: u32, a: u32, b: u32) -> Answer
+    ensures { λ r. ⌜ Made (callI c m h a b) (now (run .entry)) [] r (now (run .exit)) [] ⌝ }
+{
+    if !is_book(run) {
+        return Answer::Refused(Refusal::NotABook);
+    }
+    strike_call::mark_strike(run, c, m, h, a, b)
+}
+
+// `R`: reviews a class, and answers how many strikes it removed.
+pub fn review_class(run: &mut [u32], c: u32) -> Answer
+    ensures { λ r. ⌜ Made (callR c) (now (run .entry)) [] r (now (run .exit)) [] ⌝ }
+{
+    if !is_book(run) {
+        return Answer::Refused(Refusal::NotABook);
+    }
+    class_call::review_class(run, c)
+}

@@ -1,0 +1,115 @@
+-- The ways out of `D`, over plain variables: by what a claim draws, which is the number of the conditions in all cases of their tests. Assumes nothing.
+use Prim.Native.Nat.{ℕ}
+use mathlib.Core.Path.{_≡_, refl, sym, ap, _∙_}
+use mathlib.Core.Bool.{Bool, true, false, cond, not, _&&_}
+use mathlib.Core.List.{List, [], _∷_}
+use lib.ListN.{length}
+use lib.Dec.{T, eqb}
+use borrow.Author.Tests.{not-false}
+use Rattle.word.specs.declared.class.ClassRecord.{ClassRecord}
+use Rattle.word.specs.declared.answer.Answer.{Answer}
+use Rattle.word.specs.declared.answer.Answer.the-variants.{Done, Refused}
+use Rattle.word.specs.declared.answer.Refusal.{Refusal}
+use Rattle.word.specs.declared.answer.Refusal.the-variants.{NotOpen, NoClose, NotQualified, CapReached}
+use Rattle.word.specs.Limits.{isDesignation}
+use Rattle.word.specs.Class.{withDollar, withHalf}
+use Rattle.word.specs.Answers.{refusalNumber, answerNumber, answerValue}
+use Rattle.book.specs.Facts.{isOpen, withDesignation}
+use Rattle.book.specs.Layout.{factsOf}
+use Rattle.book.specs.Books.{areFigures, isBook}
+use Rattle.book.specs.Calls.{callD, isWritten, isCapReached, Condition, draws, first, conditions, changed, listed, acceptedValue}
+use Rattle.book.specs.Made.{Made}
+use Rattle.book.proofs.Tests.{ands, and-intro, T-true, true-T}
+use Rattle.book.proofs.Answered.{made-refused}
+use Rattle.place.specs.declared.lookup.Lookup.the-variants.{NotOpen as NoClass, Open}
+use Rattle.place.specs.Lookups.{lookupOf}
+use Rattle.class_call.specs.declared.programs.Claim.{Claim}
+use Rattle.class_call.specs.declared.programs.Claim.the-variants.{Granted, Refused as NotGranted}
+use Rattle.class_call.specs.Claims.{isQualified, isNew, claimOf}
+use Rattle.class_call.proofs.Ways.{decided, not-open, found-open, found-figures, found-limits}
+use Rattle.class_call.proofs.FigureWays.{Storable, Stored, storable, figures-stored}
+
+-- the answer that a claim makes
+abbrev answerOf : Claim → Answer
+answerOf Granted = Done
+answerOf (NotGranted why) = Refused why
+
+-- what `D` asks of an open class
+abbrev asked : (new none qualified reached : Bool) → List Condition
+asked new none qualified reached =
+    draws 8 (new && none) ∷ draws 9 (new && not qualified) ∷ draws 10 (new && reached) ∷ []
+
+abbrev claimBy : (new none qualified reached : Bool) → Claim
+claimBy new none qualified reached =
+    cond (not new)
+    Granted
+    (cond none
+    (NotGranted NoClose)
+    (cond (not qualified) (NotGranted NotQualified) (cond reached (NotGranted CapReached) Granted)))
+
+claim-draws :
+    (new none qualified reached : Bool)
+    → (first (asked new none qualified reached) ≡ answerNumber (answerOf (claimBy new none qualified reached)))
+    × (0 ≡ answerValue (answerOf (claimBy new none qualified reached)))
+claim-draws false none qualified reached = (refl, refl)
+claim-draws true true qualified reached = (refl, refl)
+claim-draws true false false reached = (refl, refl)
+claim-draws true false true true = (refl, refl)
+claim-draws true false true false = (refl, refl)
+
+no-value : (b : Bool) → 0 ≡ cond {A = ℕ} b 0 0
+no-value true = refl
+no-value false = refl
+
+-- the figures with the designation d in the program that `dollar` tells
+module _ (d : ℕ) (r : ClassRecord) where
+  number-kept : (dollar : Bool) → cond dollar (withDollar d r) (withHalf d r) .number ≡ r .number
+  number-kept true = refl
+  number-kept false = refl
+
+  in-limits : (dollar : Bool) → T (areFigures r) → T (isDesignation d) → T (areFigures (cond dollar (withDollar d r) (withHalf d r)))
+  in-limits true old given = search (ands, and-intro) depth 12
+  in-limits false old given = search (ands, and-intro) depth 12
+
+module _ (c p d : ℕ) (w : List ℕ) (book : T (isBook w)) (within : not (isWritten (callD c p d)) ≡ false) where
+  pub designation-not-open : (at : ℕ) → lookupOf c (factsOf w) ≡ NoClass at → Made (callD c p d) w [] (Refused NotOpen) w []
+  unfolding conditions
+  designation-not-open at look = not-open (callD c p d) w book within c at _ refl look
+
+  module _ (at : ℕ) (r : ClassRecord) (look : lookupOf c (factsOf w) ≡ Open at r) where
+    drawn :
+        (claim : Claim) → claim ≡ claimOf (factsOf w) r p d
+        → (first (conditions (length w) (callD c p d) (factsOf w)) ≡ answerNumber (answerOf claim)) × (0 ≡ answerValue (answerOf claim))
+    unfolding conditions claimOf
+    drawn claim e =
+        let f = factsOf w in
+        let k = claim-draws (isNew p d r) (eqb (r .close) 0) (isQualified p r) (isCapReached f p) in (
+          rw (T-true (isOpen c (f .classes)) (found-open w book c at r look), ← found-figures w book c at r look)
+              (k .0 ∙ ap (λ (x : Claim). answerNumber (answerOf x)) (sym e)),
+          k .1 ∙ ap (λ (x : Claim). answerValue (answerOf x)) (sym e),
+        )
+
+    pub designation-refused :
+        (claim : Claim) (why : Refusal) → claim ≡ claimOf (factsOf w) r p d → claim ≡ NotGranted why
+        → Made (callD c p d) w [] (Refused why) w []
+    unfolding listed
+    designation-refused claim why e refused =
+        let k = drawn (NotGranted why) (sym refused ∙ e) in
+        made-refused (callD c p d) w [] book why
+        (decided (length w) (callD c p d) (factsOf w) within ∙ k .0)
+        (sym (k .1) ∙ no-value (eqb (refusalNumber why) 15))
+
+    module _ (new : ClassRecord) (e : new ≡ withDesignation p d r) where
+      pub designation-storable : Storable w at new
+      designation-storable =
+          let given = true-T (isWritten (callD c p d)) (not-false (isWritten (callD c p d)) within) in
+          storable w book c at r look new (withDesignation p d r) e
+          (in-limits d r (eqb p 1) (found-limits w book c at r look) (search ands))
+
+      pub designation-set :
+          (w′ : List ℕ) (claim : Claim) → claim ≡ claimOf (factsOf w) r p d → claim ≡ Granted → Stored w at new w′
+          → Made (callD c p d) w [] Done w′ []
+      unfolding changed listed acceptedValue
+      designation-set w′ claim drew granted stored =
+          figures-stored (callD c p d) w book within c at r look (withDesignation p d) (number-kept d r (eqb p 1)) refl new e w′
+          (drawn Granted (sym granted ∙ drew) .0) refl stored

@@ -1,0 +1,211 @@
+-- The ways out of `M`, `O` and `R`, and those that calls share, over plain variables: by the law of each way out and the number of the call's conditions. Assumes nothing.
+use Prim.Native.Nat.{ℕ, _+_, _-_, _≤_, _<_}
+use mathlib.Core.Path.{_≡_, refl, ap, _∙_}
+use mathlib.Core.Bool.{true, false, not}
+use mathlib.Core.List.{List, [], _∷_}
+use native.Mathlib.Omega.{arith}
+use lib.ListN.{length, take, drop}
+use lib.Dec.{T, leb→le}
+use borrow.Author.Tests.{not-false, lt-ltb, le-ltb, eq-eqb, ne-eqb}
+use Rattle.word.specs.declared.class.ClassRecord.{ClassRecord}
+use Rattle.word.specs.declared.answer.Answer.the-variants.{Done, Removed, Refused}
+use Rattle.word.specs.declared.answer.Refusal.the-variants.{BeyondLimits, AlreadyOpen, NotOpen, MonthOutside, NoClose, OutOfWords}
+use Rattle.word.specs.Limits.{isClassNumber}
+use Rattle.book.specs.Facts.{Facts, newClass, isOpen, wordsOf, wordsTaken}
+use Rattle.book.specs.Layout.{seriesWords, used, layout, factsOf}
+use Rattle.book.specs.Books.{areFigures, isBook}
+use Rattle.book.specs.Calls.{Call, callM, callO, callR, isWritten, class, isNotOpen, isReviewed, Condition, draws, first, conditions, changed, numberOf, listed, acceptedValue}
+use Rattle.book.specs.Places.{classPlace}
+use Rattle.book.specs.Made.{Made}
+use Rattle.book.proofs.Tests.{ands, T-true, true-T}
+use Rattle.book.proofs.Lists.{length-only}
+use Rattle.book.proofs.ClassLaws.{number-of, sum-put}
+use Rattle.book.proofs.BookRuns.{book-run}
+use Rattle.book.proofs.Layouts.{used-taken}
+use Rattle.book.proofs.Splices.{words-opened}
+use Rattle.book.proofs.ClassWords.{class-good}
+use Rattle.book.proofs.Answered.{made-refused, made-accepted}
+use Rattle.place.specs.declared.lookup.Lookup.the-variants.{NotOpen as NoClass, Open}
+use Rattle.place.specs.Lookups.{lookupOf}
+use Rattle.place.specs.Search.{firstAt, isFrom}
+use Rattle.place.proofs.Heads.{book-good}
+use Rattle.place.proofs.Found.{class-ended}
+use Rattle.place.proofs.Answers.{lookup-open, lookup-not-open, series-within}
+
+-- ---- any call
+
+pub beyond-limits : (x : Call) (w : List ℕ) → T (isBook w) → not (isWritten x) ≡ true → Made x w [] (Refused BeyondLimits) w []
+unfolding numberOf
+beyond-limits x w book e = made-refused x w [] book BeyondLimits (rw e) refl
+
+-- within its limits the conditions decide
+pub decided : (n : ℕ) (x : Call) (f : Facts) → not (isWritten x) ≡ false → numberOf n x f ≡ first (conditions n x f)
+unfolding numberOf
+decided n x f e = rw e
+
+-- a call that asks first for the class c
+pub not-open :
+    (x : Call) (w : List ℕ) → T (isBook w) → not (isWritten x) ≡ false → (c at : ℕ) (rest : List Condition)
+    → conditions (length w) x (factsOf w) ≡ draws 4 (isNotOpen (factsOf w) c) ∷ rest
+    → lookupOf c (factsOf w) ≡ NoClass at → Made x w [] (Refused NotOpen) w []
+not-open x w book within c at rest asks look =
+    made-refused x w [] book NotOpen
+    (decided (length w) x (factsOf w) within ∙ ap first asks ∙ rw (lookup-not-open c (factsOf w) at look .0))
+    refl
+
+-- ---- a class that is found
+
+module _
+    (w : List ℕ) (book : T (isBook w)) (c at : ℕ) (r : ClassRecord) (look : lookupOf c (factsOf w) ≡ Open at r) where
+  pub found-open : T (isOpen c (factsOf w .classes))
+  found-open = lookup-open c (factsOf w) at r look .0
+
+  pub found-at : at ≡ classPlace c (factsOf w)
+  found-at = lookup-open c (factsOf w) at r look .1 .0
+
+  pub found-figures : r ≡ class (factsOf w) c .figures
+  found-figures = lookup-open c (factsOf w) at r look .1 .1
+
+  pub found-number : r .number ≡ c
+  found-number = ap (λ (x : ClassRecord). x .number) found-figures ∙ number-of c (factsOf w .classes)
+
+  pub found-limits : T (areFigures r)
+  found-limits =
+      let g = class-good (length w) (factsOf w) c (book-good w book) found-open in
+      rw found-figures (search ands)
+
+  pub found-within : at + 3 ≤ used (factsOf w)
+  found-within = series-within w book c at r look
+
+  pub found-room : at + 3 ≤ length w
+  found-room = omega (arith, found-within, book-run w book)
+
+-- ---- `M`
+
+module _ (m : ℕ) (w : List ℕ) (book : T (isBook w)) (within : not (isWritten (callM m)) ≡ false) where
+  pub month-limit : m ≤ 1023
+  month-limit = leb→le m 1023 (true-T (isWritten (callM m)) (not-false (isWritten (callM m)) within))
+
+  pub month-outside : m < factsOf w .now → Made (callM m) w [] (Refused MonthOutside) w []
+  unfolding conditions
+  month-outside l =
+      made-refused (callM m) w [] book MonthOutside
+      (decided (length w) (callM m) (factsOf w) within ∙ rw (lt-ltb m (factsOf w .now) l))
+      refl
+
+  pub month-set :
+      (w′ : List ℕ) → factsOf w .now ≤ m → w′ ≡ layout (length w) (changed (callM m) (factsOf w))
+      → Made (callM m) w [] Done w′ []
+  unfolding conditions listed acceptedValue
+  month-set w′ l words =
+      made-accepted (callM m) w [] book Done w′ refl
+      (decided (length w) (callM m) (factsOf w) within ∙ rw (le-ltb m (factsOf w .now) l))
+      refl words
+
+-- ---- `O`
+
+module _ (c : ℕ) (w : List ℕ) (book : T (isBook w)) (within : not (isWritten (callO c)) ≡ false) where
+  pub already-open :
+      (at : ℕ) (r : ClassRecord) → lookupOf c (factsOf w) ≡ Open at r → Made (callO c) w [] (Refused AlreadyOpen) w []
+  unfolding conditions
+  already-open at r look =
+      made-refused (callO c) w [] book AlreadyOpen
+      (decided (length w) (callO c) (factsOf w) within
+      ∙ rw (T-true (isOpen c (factsOf w .classes)) (found-open w book c at r look)))
+      refl
+
+  module _ (at : ℕ) (look : lookupOf c (factsOf w) ≡ NoClass at) (end : ℕ) (e : end ≡ used (factsOf w)) where
+    pub out-of-words : length w < end + 3 → Made (callO c) w [] (Refused (OutOfWords 0)) w []
+    unfolding conditions listed
+    out-of-words l =
+        let k : length w < wordsTaken (changed (callO c) (factsOf w)) =
+        omega (arith, words-opened c (factsOf w), used-taken (factsOf w)) in
+        made-refused (callO c) w [] book (OutOfWords 0)
+        (decided (length w) (callO c) (factsOf w) within
+        ∙ rw (lookup-not-open c (factsOf w) at look .0, lt-ltb (length w) _ k))
+        refl
+
+    module _ (room : end + 3 ≤ length w) where
+      pub class-insertable :
+          T (isBook w)
+          × (T (isClassNumber c)
+          × (T (not (isOpen c (factsOf w .classes))) × ((at ≡ classPlace c (factsOf w)) × (used (factsOf w) + 3 ≤ length w))))
+      class-insertable =
+          let x = lookup-not-open c (factsOf w) at look in (
+            book,
+            (
+              true-T (isClassNumber c) (not-false (isClassNumber c) within),
+              (rw (x .0) tt, (x .1, omega arith)),
+            ),
+          )
+
+      pub class-opened :
+          (w′ : List ℕ) → w′ ≡ layout (length w) (changed (callO c) (factsOf w)) → Made (callO c) w [] Done w′ []
+      unfolding conditions listed acceptedValue
+      class-opened w′ words =
+          let k : wordsTaken (changed (callO c) (factsOf w)) ≤ length w =
+          omega (arith, words-opened c (factsOf w), used-taken (factsOf w)) in
+          made-accepted (callO c) w [] book Done w′ refl
+          (decided (length w) (callO c) (factsOf w) within
+          ∙ rw (lookup-not-open c (factsOf w) at look .0, le-ltb (length w) _ k))
+          refl words
+
+-- ---- `R`
+
+module _ (c : ℕ) (w : List ℕ) (book : T (isBook w)) (within : not (isWritten (callR c)) ≡ false) where
+  pub review-not-open : (at : ℕ) → lookupOf c (factsOf w) ≡ NoClass at → Made (callR c) w [] (Refused NotOpen) w []
+  unfolding conditions
+  review-not-open at look = not-open (callR c) w book within c at _ refl look
+
+  module _ (at : ℕ) (r : ClassRecord) (look : lookupOf c (factsOf w) ≡ Open at r) where
+    pub review-no-close : r .close ≡ 0 → Made (callR c) w [] (Refused NoClose) w []
+    unfolding conditions
+    review-no-close e =
+        made-refused (callR c) w [] book NoClose
+        (decided (length w) (callR c) (factsOf w) within
+        ∙ rw (
+          T-true (isOpen c (factsOf w .classes)) (found-open w book c at r look),
+          ← found-figures w book c at r look,
+          eq-eqb (r .close) 0 e,
+        ))
+        refl
+
+    -- with what `next_class` and `review` ensure
+    module _
+        (to k : ℕ) (w′ : List ℕ)
+        (e : to ≡ at + 3 + firstAt (isFrom 2 14 0) (take (used (factsOf w) - (at + 3)) (drop (at + 3) w)))
+        (done : (c : ℕ) → T (isOpen c (factsOf w .classes)) → at + 3 ≡ classPlace c (factsOf w) + 3
+        → to ≡ at + 3 + length (seriesWords 0 (class (factsOf w) c .series) [])
+        → r .close ≡ class (factsOf w) c .figures .close
+        → (k ≡ acceptedValue (callR c) (factsOf w)) × (w′ ≡ layout (length w) (changed (callR c) (factsOf w)))) where
+      reviewed : (k ≡ acceptedValue (callR c) (factsOf w)) × (w′ ≡ layout (length w) (changed (callR c) (factsOf w)))
+      reviewed =
+          let o = found-open w book c at r look in
+          let p : at + 3 ≡ classPlace c (factsOf w) + 3 = omega (arith, found-at w book c at r look) in
+          done c o p (class-ended w book c o (at + 3) to p e) (ap (λ (x : ClassRecord). x .close) (found-figures w book c at r look))
+
+      pub review-count : k ≤ 65535
+      unfolding acceptedValue
+      review-count =
+          let x = class (factsOf w) c in
+          let b = book-run w book in
+          omega (
+            arith,
+            reviewed .0,
+            length-only (isReviewed x) (x .series),
+            sum-put wordsOf (newClass c) (factsOf w .classes) (found-open w book c at r look),
+            b .facts .room,
+            b .short,
+          )
+
+      pub review-made : (r .close ≡ 0 → ⊥) → Made (callR c) w [] (Removed k) w′ []
+      unfolding conditions listed
+      review-made n =
+          made-accepted (callR c) w [] book (Removed k) w′ refl
+          (decided (length w) (callR c) (factsOf w) within
+          ∙ rw (
+            T-true (isOpen c (factsOf w .classes)) (found-open w book c at r look),
+            ← found-figures w book c at r look,
+            ne-eqb (r .close) 0 n,
+          ))
+          (reviewed .0) (reviewed .1)

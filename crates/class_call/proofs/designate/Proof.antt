@@ -1,0 +1,121 @@
+-- `designate` keeps the contract of `D`: each way out by its law. Assumes nothing.
+use mathlib.Core.Path.{sym, _∙_}
+use Rattle.book.specs.Calls.{callD}
+use Rattle.class_call.proofs.Ways.{beyond-limits}
+use Rattle.class_call.proofs.DesignationWays.{designation-not-open, designation-refused, designation-storable, designation-set}
+use borrow.Author.Needs.{needs}
+use Rattle.class_call.proofs.designate.Statement.{statement}
+use Rattle.class_call.proofs.designate.Tie as tie
+
+is-class-number-requires : tie.Need-is-class-number-requires
+is-class-number-requires c κs = search needs
+
+is-program-requires : tie.Need-is-program-requires
+is-program-requires c κs = search needs
+
+is-designation-requires : tie.Need-is-designation-requires
+is-designation-requires c κs = search needs
+
+returns : tie.Need-returns
+returns c =
+    beyond-limits (callD _ _ _) _ (c .before .before .before .before .before .pre)
+    (rw (c .before .before .before .is-class-number .ensures, c .before .before .is-program .ensures, c .before .is-designation .ensures)
+    at (c .if1 .taken))
+
+look-up-requires : tie.Need-look-up-requires
+look-up-requires c κs = search needs
+
+enum-known-found : tie.Need-enum-known-found
+enum-known-found c = search needs
+
+enum-told : tie.Need-enum-told
+enum-told c = search needs
+
+same-length : tie.Need-same-length
+same-length c = search needs
+
+returns-2 : tie.Need-returns-2
+returns-2 c =
+    let l = c .before .before in
+    let i = l .before .before in
+    designation-not-open _ _ _ _ (i .before .before .before .before .before .pre)
+    (rw (i .before .before .before .is-class-number .ensures, i .before .before .is-program .ensures, i .before .is-designation .ensures)
+    at (i .if1 .left))
+    _ (sym (l .look-up .ensures) ∙ c .enum-told .given .1)
+
+claim-of-requires : tie.Need-claim-of-requires
+claim-of-requires c κs = search needs
+
+enum-known-claim : tie.Need-enum-known-claim
+enum-known-claim c = search needs
+
+same-length-2 : tie.Need-same-length-2
+same-length-2 c = search needs
+
+returns-3 : tie.Need-returns-3
+returns-3 c =
+    let a = c .before .before .before in
+    let k = a .before .before .before in
+    let l = k .before .before in
+    let i = l .before .before in
+    designation-refused _ _ _ _ (i .before .before .before .before .before .pre)
+    (rw (i .before .before .before .is-class-number .ensures, i .before .before .is-program .ensures, i .before .is-designation .ensures)
+    at (i .if1 .left))
+    _ _ (sym (l .look-up .ensures) ∙ k .found .given .1) _ _ (a .claim-of .ensures) (c .before .claim .given .1)
+
+enum-told-2 : tie.Need-enum-told-2
+enum-told-2 c = search needs
+
+with-designation-requires : tie.Need-with-designation-requires
+with-designation-requires c κs = search needs
+
+store-figures-requires : tie.Need-store-figures-requires
+store-figures-requires c κs =
+    let k = c .before .before .before .before .before .before .before in
+    let l = k .before .before in
+    let i = l .before .before in
+    let s = i .before .before .before .before .before in
+    designation-storable _ (s .args .p) (s .args .d) _ (s .pre)
+    (rw (i .before .before .before .is-class-number .ensures, i .before .before .is-program .ensures, i .before .is-designation .ensures)
+    at (i .if1 .left))
+    _ _ (sym (l .look-up .ensures) ∙ k .found .given .1) _ (c .with-designation .ensures)
+
+same-length-3 : tie.Need-same-length-3
+same-length-3 c = search needs
+
+returns-4 : tie.Need-returns-4
+returns-4 c =
+    let n = c .before .before .before in
+    let t = n .before .before in
+    let a = t .before .before in
+    let k = a .before .before .before in
+    let l = k .before .before in
+    let i = l .before .before in
+    designation-set _ _ _ _ (i .before .before .before .before .before .pre)
+    (rw (i .before .before .before .is-class-number .ensures, i .before .before .is-program .ensures, i .before .is-designation .ensures)
+    at (i .if1 .left))
+    _ _ (sym (l .look-up .ensures) ∙ k .found .given .1) _ (n .with-designation .ensures) _ _
+    (a .claim-of .ensures) (t .enum-told2 .given .1) (c .before .before .store-figures .ensures)
+
+pub designate-spec : {M : Type 1} → statement M
+designate-spec =
+    tie.close
+    (tie.spec
+    is-class-number-requires
+    is-program-requires
+    is-designation-requires
+    returns
+    look-up-requires
+    enum-known-found
+    enum-told
+    same-length
+    returns-2
+    claim-of-requires
+    enum-known-claim
+    same-length-2
+    returns-3
+    enum-told-2
+    with-designation-requires
+    store-figures-requires
+    same-length-3
+    returns-4)

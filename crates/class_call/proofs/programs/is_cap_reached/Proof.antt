@@ -1,0 +1,34 @@
+-- `is_cap_reached` tells whether the cap of the program is reached: each counter is that of its program. Assumes nothing.
+use borrow.Author.Tests.{eq-eqb, ne-eqb}
+use borrow.Author.Needs.{needs}
+use Rattle.class_call.proofs.programs.is_cap_reached.Statement.{statement}
+use Rattle.class_call.proofs.programs.is_cap_reached.Tie as tie
+
+own-dollars-requires : tie.Need-own-dollars-requires
+own-dollars-requires c κs = search needs
+
+is-full-requires : tie.Need-is-full-requires
+is-full-requires c κs = search needs
+
+returns : tie.Need-returns
+returns c = rw (eq-eqb _ _ (c .before .before .if1 .taken), ← c .before .own-dollars .ensures, c .is-full .ensures)
+
+own-halves-requires : tie.Need-own-halves-requires
+own-halves-requires c κs = search needs
+
+is-full-requires-2 : tie.Need-is-full-requires-2
+is-full-requires-2 c κs = search needs
+
+returns-2 : tie.Need-returns-2
+returns-2 c = rw (ne-eqb _ _ (c .before .before .if1 .left), ← c .before .own-halves .ensures, c .is-full2 .ensures)
+
+pub is-cap-reached-spec : {M : Type 1} → statement M
+is-cap-reached-spec =
+    tie.close
+    (tie.spec
+    own-dollars-requires
+    is-full-requires
+    returns
+    own-halves-requires
+    is-full-requires-2
+    returns-2)

@@ -1,0 +1,134 @@
+// The calls on months and classes, over a run that is known to be a book: `M`, `O`, `C`, `V`, `D` and `R`.
+ghost use mathlib.Core.List.{[]};
+ghost use lib.Dec.{T};
+ghost use Rattle.book.specs.Books.{isBook};
+ghost use Rattle.book.specs.Calls.{callM, callO, callC, callV, callD, callR};
+ghost use Rattle.book.specs.Made.{Made};
+use crate::programs::Claim;
+use crate::programs::claim_of;
+use crate::programs::is_program;
+use crate::programs::with_designation;
+use edit::insert_class;
+use edit::store_figures;
+use place::head::current;
+use place::head::used;
+use place::lookup::Lookup;
+use place::lookup::look_up;
+use place::lookup::next_class;
+use removal::expire;
+use removal::review;
+use word::answer::Answer;
+use word::answer::Refusal;
+use word::limits::is_class_number;
+use word::limits::is_designation;
+use word::limits::is_month;
+use word::limits::is_price;
+use word::limits::is_volume;
+
+pub mod programs;
+
+// `M`: sets the current month, and removes the strikes of earlier months.
+pub fn set_month(run: &mut [u32], m: u32) -> Answer
+    requires { ⌜ T (isBook (now run)) ⌝ }
+    ensures { λ r. ⌜ Made (callM m) (now (run .entry)) [] r (now (run .exit)) [] ⌝ }
+{
+    if !is_month(m) {
+        return Answer::Refused(Refusal::BeyondLimits);
+    }
+    if m < current(run) {
+        return Answer::Refused(Refusal::MonthOutside);
+    }
+    expire(run, m);
+    Answer::Done
+}
+
+// `O`: opens a class.
+pub fn open_class(run: &mut [u32], c: u32) -> Answer
+    requires { ⌜ T (isBook (now run)) ⌝ }
+    ensures { λ r. ⌜ Made (callO c) (now (run .entry)) [] r (now (run .exit)) [] ⌝ }
+{
+    if !is_class_number(c) {
+        return Answer::Refused(Refusal::BeyondLimits);
+    }
+    let found = look_up(run, c);
+    let Lookup::NotOpen(at) = found else {
+        return Answer::Refused(Refusal::AlreadyOpen);
+    };
+    if run.len() < used(run) + 3 {
+        return Answer::Refused(Refusal::OutOfWords(0));
+    }
+    insert_class(run, at, c);
+    Answer::Done
+}
+
+// `C`: sets the close.
+pub fn set_close(run: &mut [u32], c: u32, p: u32) -> Answer
+    requires { ⌜ T (isBook (now run)) ⌝ }
+    ensures { λ r. ⌜ Made (callC c p) (now (run .entry)) [] r (now (run .exit)) [] ⌝ }
+{
+    if !(is_class_number(c) & is_price(p)) {
+        return Answer::Refused(Refusal::BeyondLimits);
+    }
+    let found = look_up(run, c);
+    let Lookup::Open(at, figures) = found else {
+        return Answer::Refused(Refusal::NotOpen);
+    };
+    store_figures(run, at, figures.with_close(p));
+    Answer::Done
+}
+
+// `V`: sets the volume.
+pub fn set_volume(run: &mut [u32], c: u32, n: u32) -> Answer
+    requires { ⌜ T (isBook (now run)) ⌝ }
+    ensures { λ r. ⌜ Made (callV c n) (now (run .entry)) [] r (now (run .exit)) [] ⌝ }
+{
+    if !(is_class_number(c) & is_volume(n)) {
+        return Answer::Refused(Refusal::BeyondLimits);
+    }
+    let found = look_up(run, c);
+    let Lookup::Open(at, figures) = found else {
+        return Answer::Refused(Refusal::NotOpen);
+    };
+    store_figures(run, at, figures.with_volume(n));
+    Answer::Done
+}
+
+// `D`: gives the program p the designation d.
+pub fn designate(run: &mut [u32], c: u32, p: u32, d: u32) -> Answer
+    requires { ⌜ T (isBook (now run)) ⌝ }
+    ensures { λ r. ⌜ Made (callD c p d) (now (run .entry)) [] r (now (run .exit)) [] ⌝ }
+{
+    if !(is_class_number(c) & (is_program(p) & is_designation(d))) {
+        return Answer::Refused(Refusal::BeyondLimits);
+    }
+    let found = look_up(run, c);
+    let Lookup::Open(at, figures) = found else {
+        return Answer::Refused(Refusal::NotOpen);
+    };
+    let claim = claim_of(run, figures, p, d);
+    if let Claim::Refused(why) = claim {
+        return Answer::Refused(why);
+    }
+    store_figures(run, at, with_designation(figures, p, d));
+    Answer::Done
+}
+
+// `R`: the review.
+pub fn review_class(run: &mut [u32], c: u32) -> Answer
+    requires { ⌜ T (isBook (now run)) ⌝ }
+    ensures { λ r. ⌜ Made (callR c) (now (run .entry)) [] r (now (run .exit)) [] ⌝ }
+{
+    if !is_class_number(c) {
+        return Answer::Refused(Refusal::BeyondLimits);
+    }
+    let found = look_up(run, c);
+    let Lookup::Open(at, figures) = found else {
+        return Answer::Refused(Refusal::NotOpen);
+    };
+    if figures.close == 0 {
+        return Answer::Refused(Refusal::NoClose);
+    }
+    let from = at + 3;
+    let to = next_class(run, from);
+    Answer::Removed(review(run, from, to, figures.close) as u32)
+}

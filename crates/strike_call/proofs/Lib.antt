@@ -1,0 +1,5 @@
+-- The laws that the functions' proofs cite.
+pub mod Outcomes
+pub mod Standing
+pub mod Judgements
+pub mod Listing

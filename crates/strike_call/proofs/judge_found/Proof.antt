@@ -1,0 +1,97 @@
+-- `judge_found` meets its contract: each test is the condition of the facts in its turn, and the rules judge beside the words of the expiration's strikes. Assumes nothing.
+use mathlib.Core.Path.{sym, _∙_}
+use native.Mathlib.Omega.{arith}
+use borrow.Author.Needs.{needs}
+use Rattle.book.proofs.BookRuns.{book-run}
+use Rattle.strike_call.proofs.Judgements.{found-outside, found-standing, found-no-close, found-judged}
+use Rattle.strike_call.proofs.judge_found.Statement.{statement}
+use Rattle.strike_call.proofs.judge_found.Tie as tie
+
+current-requires : tie.Need-current-requires
+current-requires c κs = search needs
+
+is-outside-requires : tie.Need-is-outside-requires
+is-outside-requires c κs =
+    let s = c .before .before .before in
+    omega (arith, book-run (s .args .run .now) (s .pre .book) .early, c .current .ensures)
+
+returns : tie.Need-returns
+returns c =
+    λ k o e.
+    let q = c .before in
+    let s = q .before .before .before .before in
+    let a = s .args in
+    let w = a .run .now in
+    found-outside w (s .pre .book) k (a .m) (a .h) o (a .found) e _ (q .before .current .ensures)
+    (sym (q .is-outside .ensures) ∙ c .if1 .taken)
+
+returns-2 : tie.Need-returns-2
+returns-2 c =
+    λ k o e.
+    let q = c .before .before in
+    let s = q .before .before .before .before in
+    let a = s .args in
+    let w = a .run .now in
+    found-standing w (s .pre .book) k (a .m) (a .h) o (a .found) e _ (q .before .current .ensures)
+    (sym (q .is-outside .ensures) ∙ c .before .if1 .left) (c .if2 .taken)
+
+returns-3 : tie.Need-returns-3
+returns-3 c =
+    λ k o e.
+    let t = c .before .before in
+    let q = t .before .before in
+    let s = q .before .before .before .before in
+    let a = s .args in
+    let w = a .run .now in
+    found-no-close w (s .pre .book) k (a .m) (a .h) o (a .found) e _ (q .before .current .ensures)
+    (sym (q .is-outside .ensures) ∙ t .before .if1 .left) (t .if2 .left) (c .if3 .taken)
+
+mul-judge : tie.Need-mul-judge
+mul-judge c = search needs
+
+sub-judge : tie.Need-sub-judge
+sub-judge c = search needs
+
+part-judge-start : tie.Need-part-judge-start
+part-judge-start c = search needs
+
+part-judge-end : tie.Need-part-judge-end
+part-judge-end c = search needs
+
+judge-requires : tie.Need-judge-requires
+judge-requires c κs =
+    let q = c .before .before .before .before .before in
+    let s = q .before .before .before .before in
+    record {
+      close = s .pre .close;
+      current = omega (arith, book-run (s .args .run .now) (s .pre .book) .early, q .before .current .ensures);
+      strike = s .pre .strike;
+    }
+
+returns-4 : tie.Need-returns-4
+returns-4 c =
+    λ k o e.
+    let u = c .before .before in
+    let t = u .before .before in
+    let q = t .before .before in
+    let s = q .before .before .before .before in
+    let a = s .args in
+    let w = a .run .now in
+    found-judged w (s .pre .book) k (a .m) (a .h) o (a .found) e _ (q .before .current .ensures)
+    (sym (q .is-outside .ensures) ∙ t .before .if1 .left) (t .if2 .left) (u .if3 .left) _ (c .judge .ensures)
+
+pub judge-found-spec : {M : Type 1} → statement M
+judge-found-spec =
+    tie.close
+    (tie.spec
+    current-requires
+    is-outside-requires
+    returns
+    returns-2
+    returns-3
+    mul-judge
+    sub-judge
+    part-judge-start
+    part-judge-end
+    judge-requires
+    returns-4)

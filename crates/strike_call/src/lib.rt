@@ -1,0 +1,182 @@
+// The calls on strikes, over a run that is known to be a book: `L`, `J`, `X` and `I`.
+ghost use mathlib.Core.List.{[]};
+ghost use mathlib.Core.Path.{_≡_};
+ghost use Prim.Native.Nat.{ℕ};
+ghost use lib.Dec.{T};
+ghost use lib.ListN.{length};
+ghost use Rattle.place.specs.Lookups.{strikeSearchOf};
+ghost use Rattle.book.specs.Books.{isBook};
+ghost use Rattle.book.specs.Calls.{callI, callJ, callL, callX, changed, isWritten};
+ghost use Rattle.book.specs.Facts.{isOpen};
+ghost use Rattle.book.specs.Layout.{factsOf, layout};
+ghost use Rattle.book.specs.Made.{Made};
+ghost use Rattle.strike_call.specs.Judging.{Judges, Sought, foundAnswer};
+use edit::insert_strike;
+use edit::store_marks;
+use place::head;
+use place::lookup::Lookup;
+use place::lookup::StrikeLookup;
+use place::lookup::StrikeSearch;
+use place::lookup::look_up;
+use place::lookup::look_up_strike;
+use place::lookup::next_class;
+use removal::delist;
+use rule::judgement::judge;
+use rule::terms::Setting;
+use rule::terms::is_outside;
+use word::answer::Answer;
+use word::answer::Refusal;
+use word::field::field_of;
+use word::limits::is_class_number;
+use word::limits::is_mark;
+use word::limits::is_month;
+use word::limits::is_strike;
+use word::strike::Strike;
+
+// The judgement of a strike, and where its word would be put: `stands` says whether its expiration has strikes already.
+struct Judged {
+    answer: Answer,
+    at: usize,
+    stands: bool,
+}
+
+// Whether the numbers that name a strike are within their limits.
+fn is_written(c: u32, m: u32, h: u32) -> bool
+    ensures { λ r. ⌜ r ≡ isWritten (callJ c m h) ⌝ }
+{
+    is_class_number(c) & (is_month(m) & is_strike(h))
+}
+
+// What the conditions before the rules and then the rules say of a strike that was looked up: 5, 6, 8, 11, 12, 13 or its ground.
+fn judge_found(run: &[u32], found: StrikeSearch, m: u32, h: u32) -> Answer
+    requires { ⌜ Sought h (now run) found ⌝ }
+    ensures { λ r. ⌜ (let f = factsOf (now (run .entry)) in
+        (c : ℕ) → T (isOpen c (f .classes)) → found ≡ strikeSearchOf c m h f → r ≡ foundAnswer c m h f) ⌝ }
+{
+    let class = found.figures;
+    let setting = Setting {
+        class,
+        current: head::current(run),
+        month: m,
+    };
+    if is_outside(setting) {
+        return Answer::Refused(Refusal::MonthOutside);
+    }
+    if found.standing {
+        return Answer::Refused(Refusal::AlreadyStanding);
+    }
+    if class.close == 0 {
+        return Answer::Refused(Refusal::NoClose);
+    }
+    let from = found.from;
+    let to = found.to;
+    judge(setting, Strike(h), &run[from..to])
+}
+
+// What `J` answers, and where `L` would put the strike.
+fn judge_at(run: &[u32], c: u32, m: u32, h: u32) -> Judged
+    requires { ⌜ T (isBook (now run)) ⌝ }
+    ensures { λ r. ⌜ Judges c m h (factsOf (now (run .entry))) r ⌝ }
+{
+    if !is_written(c, m, h) {
+        return Judged {
+            answer: Answer::Refused(Refusal::BeyondLimits),
+            at: 0,
+            stands: false,
+        };
+    }
+    let search = look_up_strike(run, c, m, h);
+    let StrikeLookup::Open(found) = search else {
+        return Judged {
+            answer: Answer::Refused(Refusal::NotOpen),
+            at: 0,
+            stands: false,
+        };
+    };
+    Judged {
+        answer: judge_found(run, found, m, h),
+        at: found.at,
+        stands: found.from < found.to,
+    }
+}
+
+// `J`: the judgement of a strike.
+pub fn judge_strike(run: &[u32], c: u32, m: u32, h: u32) -> Answer
+    requires { ⌜ T (isBook (now run)) ⌝ }
+    ensures { λ r. ⌜ Made (callJ c m h) (now (run .entry)) [] r (now (run .entry)) [] ⌝ }
+{
+    judge_at(run, c, m, h).answer
+}
+
+// `L`: adds a strike.
+pub fn list_strike(run: &mut [u32], c: u32, m: u32, h: u32) -> Answer
+    requires { ⌜ T (isBook (now run)) ⌝ }
+    ensures { λ r. ⌜ Made (callL c m h) (now (run .entry)) [] r (now (run .exit)) [] ⌝ }
+{
+    let judged = judge_at(run, c, m, h);
+    let answer = judged.answer;
+    let Answer::Ground(g) = answer else {
+        return answer;
+    };
+    let needed = if judged.stands { 1 } else { 2 };
+    if run.len() < head::used(run) + needed {
+        return Answer::Refused(Refusal::OutOfWords(0));
+    }
+    insert_strike(run, judged.at, judged.stands, m, h, g);
+    answer
+}
+
+// The strike h of the month m goes from the open class c.
+fn remove_strike(run: &mut [u32], c: u32, m: u32, h: u32)
+    requires { ⌜ T (isBook (now run)) × T (isOpen c (factsOf (now run) .classes)) ⌝ }
+    ensures { λ _. ⌜ now (run .exit) ≡ layout (length (now (run .entry))) (changed (callX c m h) (factsOf (now (run .entry)))) ⌝ }
+{
+    let search = look_up(run, c);
+    if let Lookup::Open(at, _) = search {
+        let from = at + 3;
+        let to = next_class(run, from);
+        delist(run, from, to, m, h);
+    }
+}
+
+// `X`: delists a strike.
+pub fn delist_strike(run: &mut [u32], c: u32, m: u32, h: u32) -> Answer
+    requires { ⌜ T (isBook (now run)) ⌝ }
+    ensures { λ r. ⌜ Made (callX c m h) (now (run .entry)) [] r (now (run .exit)) [] ⌝ }
+{
+    if !is_written(c, m, h) {
+        return Answer::Refused(Refusal::BeyondLimits);
+    }
+    let search = look_up_strike(run, c, m, h);
+    let StrikeLookup::Open(found) = search else {
+        return Answer::Refused(Refusal::NotOpen);
+    };
+    if !found.standing {
+        return Answer::Refused(Refusal::NotStanding);
+    }
+    let at = found.at;
+    if field_of(run[at], 18, 2) != 0 {
+        return Answer::Refused(Refusal::OpenInterest);
+    }
+    remove_strike(run, c, m, h);
+    Answer::Done
+}
+
+// `I`: sets the marks of open interest.
+pub fn mark_strike(run: &mut [u32], c: u32, m: u32, h: u32, a: u32, b: u32) -> Answer
+    requires { ⌜ T (isBook (now run)) ⌝ }
+    ensures { λ r. ⌜ Made (callI c m h a b) (now (run .entry)) [] r (now (run .exit)) [] ⌝ }
+{
+    if !(is_written(c, m, h) & (is_mark(a) & is_mark(b))) {
+        return Answer::Refused(Refusal::BeyondLimits);
+    }
+    let search = look_up_strike(run, c, m, h);
+    let StrikeLookup::Open(found) = search else {
+        return Answer::Refused(Refusal::NotOpen);
+    };
+    if !found.standing {
+        return Answer::Refused(Refusal::NotStanding);
+    }
+    store_marks(run, found.at, a, b);
+    Answer::Done
+}
