@@ -1,8 +1,8 @@
 -- How an answer keeps a call's contract: one law for each way out, over any call. Assumes nothing.
 use Prim.Native.Nat.{ℕ}
-use mathlib.Core.Path.{_≡_, sym, ap, _∙_}
+use mathlib.Core.Path.{_≡_, sym}
 use mathlib.Core.Bool.{true, false, cond}
-use mathlib.Core.List.{List, []}
+use mathlib.Core.List.{List}
 use lib.ListN.{length}
 use lib.Dec.{T, eqb}
 use Rattle.word.specs.declared.answer.Answer.{Answer}

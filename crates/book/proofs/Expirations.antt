@@ -1,9 +1,9 @@
 -- The series of a class on either side of a month and a strike: the words that they take, and what a new series and new marks make of them, from the three parts by month and then by strike. Assumes nothing.
 use Prim.Native.Nat.{ℕ, suc, _+_, _≤_, _<_, zero-le}
-use mathlib.Core.Path.{_≡_, refl, sym, ap, _∙_}
-use mathlib.Core.Bool.{Bool, true, false, cond, not, _&&_}
+use mathlib.Core.Path.{_≡_, refl, sym, ap, _∙_, subst}
+use mathlib.Core.Bool.{Bool, true, false, cond, not}
 use mathlib.Core.List.{List, [], _∷_, _++_, map, map-append, append-assoc}
-use mathlib.Core.Logic.{_⊎_, inl, inr}
+use mathlib.Core.Logic.{inl, inr}
 use native.Mathlib.Omega.{arith}
 use lib.ListN.{length, length-append, length-map}
 use lib.Dec.{T, eqb, leb, ltb, leb→le, le→leb, ltb→lt, lt→ltb, eqb→eq, eqb-refl, not-T}
@@ -11,16 +11,16 @@ use borrow.Author.Tests.{eq-eqb, ne-eqb, not-true}
 use Rattle.word.specs.declared.codec.Word.{Word}
 use Rattle.word.specs.declared.codec.Word.the-variants.{Expiration}
 use Rattle.rule.specs.Lists.{every, some, only}
-use Rattle.book.specs.Facts.{Series, isAt, inMonth, withMarks, precedes, insertSeries}
+use Rattle.book.specs.Facts.{Series, isAt, stands, inMonth, withMarks, precedes, insertSeries}
 use Rattle.book.specs.Layout.{strikeWord, expirationUnless, seriesWords}
 use Rattle.book.specs.Books.{isSeries}
 use Rattle.book.proofs.Tests.{and-intro, ands, T-true}
-use Rattle.book.proofs.Alternatives.{or-cases, or-left, or-right}
+use Rattle.book.proofs.Alternatives.{or-left, or-right}
 use Rattle.book.proofs.Lists.{every-imply, every-only, ordered, rises-ordered, rises-only}
 use Rattle.book.proofs.Forms.{areSeries}
 use Rattle.book.proofs.Layouts.{seriesWords-append}
-use Rattle.book.proofs.SeriesLaws.{isWith, series-order, markedAt}
-use Rattle.book.proofs.Parts.{only-absent, every-kept, some-only, some-after, map-same, every-append, ordered-imply, inserted-between, isUnder, isEqual, isOver, three-parts, distinct-parts}
+use Rattle.book.proofs.SeriesLaws.{Precedes, to-precedes, months-rise, isWith, series-order, markedAt}
+use Rattle.book.proofs.Parts.{only-absent, every-kept, some-only, some-both, some-after, map-same, every-append, ordered-imply, inserted-between, isUnder, isEqual, isOver, not-under, three-parts, distinct-parts, Single, single}
 
 abbrev pub monthOf : Series → ℕ
 monthOf s = s .month
@@ -61,6 +61,12 @@ words-in m (s ∷ here) late rest t u =
     rw (e, eq-eqb (suc m) (suc m) refl)
     (ap (λ (ws : List Word). strikeWord s ∷ ws) (words-in m here late rest (search ands) u))
 
+pub series-apart :
+    (p m : ℕ) (early ss : List Series) (rest : List Word) → p ≤ m → T (every (isUnder monthOf m) early)
+    → T (every (λ s. leb m (s .month)) ss) → seriesWords p (early ++ ss) rest ≡ seriesWords p early [] ++ seriesWords 0 ss rest
+series-apart p m early ss rest l t u =
+    words-from p m early ss rest l t u ∙ seriesWords-append p early [] (seriesWords 0 ss rest)
+
 -- the words of one expiration between those of earlier and of later ones
 month-words :
     (m : ℕ) (early here late : List Series) (rest : List Word) → T (every (isUnder monthOf m) early)
@@ -69,19 +75,9 @@ month-words :
     ≡ seriesWords 0 early []
     ++ expirationUnless (not (some (isEqual monthOf m) here)) m (map strikeWord here ++ seriesWords 0 late rest)
 month-words m early here late rest t u v =
-    words-from 0 m early (here ++ late) rest zero-le t from
-    ∙ ap (seriesWords 0 early) (headed here u)
-    ∙ seriesWords-append 0 early []
-    (expirationUnless (not (some (isEqual monthOf m) here)) m (map strikeWord here ++ seriesWords 0 late rest))
+    series-apart 0 m early (here ++ late) rest zero-le t (not-under monthOf m here late u v)
+    ∙ ap (λ (ws : List Word). seriesWords 0 early [] ++ ws) (headed here u)
   where
-    from : T (every (λ s. leb m (s .month)) (here ++ late))
-    from =
-        every-append (λ s. leb m (s .month)) here late
-        (every-imply (isEqual monthOf m) (λ s. leb m (s .month))
-        (λ s e. le→leb m (s .month) (omega (arith, eqb→eq (s .month) m e))) here u)
-        (every-imply (isOver monthOf m) (λ s. leb m (s .month))
-        (λ s l. le→leb m (s .month) (omega (arith, ltb→lt m (s .month) l))) late v)
-
     headed :
         (ss : List Series) → T (every (isEqual monthOf m) ss)
         → seriesWords 0 (ss ++ late) rest
@@ -92,16 +88,33 @@ month-words m early here late rest t u v =
         rw (e, ne-eqb 0 (suc m) (λ q. omega arith), eq-eqb m m refl)
         (ap (λ (ws : List Word). Expiration m ∷ strikeWord s ∷ ws) (words-in m ss late rest (search ands) v))
 
+module _ (now m : ℕ) (ss : List Series) (t : T (areSeries now ss)) where
+  pub month-parts : ss ≡ only (isUnder monthOf m) ss ++ (inMonth m ss ++ only (isOver monthOf m) ss)
+  month-parts =
+      three-parts monthOf m ss
+      (ordered-imply (isSeries now) precedes (λ s u. leb (s .month) (u .month))
+      (λ s u a b p. le→leb (s .month) (u .month) (months-rise s u p)) ss (search ands)
+      (rises-ordered isWith precedes series-order ss (search ands)))
+
+  -- the words before the month m, its expiration and its strikes, and the words after them
+  pub series-words :
+      (rest : List Word)
+      → seriesWords 0 ss rest
+      ≡ seriesWords 0 (only (isUnder monthOf m) ss) []
+      ++ expirationUnless (not (some (isEqual monthOf m) ss)) m
+      (map strikeWord (inMonth m ss) ++ seriesWords 0 (only (isOver monthOf m) ss) rest)
+  series-words rest =
+      let early = only (isUnder monthOf m) ss in
+      let late = only (isOver monthOf m) ss in
+      ap (λ (l : List Series). seriesWords 0 l rest) month-parts
+      ∙ month-words m early (inMonth m ss) late rest (every-kept (isUnder monthOf m) ss)
+      (every-kept (isEqual monthOf m) ss) (every-kept (isOver monthOf m) ss)
+      ∙ ap
+      (λ (b : Bool).
+      seriesWords 0 early [] ++ expirationUnless (not b) m (map strikeWord (inMonth m ss) ++ seriesWords 0 late rest))
+      (some-only (isEqual monthOf m) ss)
+
 -- ---- the series on either side of a month and a strike
-
-abbrev Precedes : Series → Series → Type 0
-Precedes s t = (s .month < t .month) ⊎ ((s .month ≡ t .month) × (s .strike < t .strike))
-
-precedes-cases : (s t : Series) → T (precedes s t) → Precedes s t
-precedes-cases s t p = elim (or-cases (ltb (s .month) (t .month)) (eqb (s .month) (t .month) && ltb (s .strike) (t .strike)) p) [
-  | inl a ↦ inl (ltb→lt (s .month) (t .month) a)
-  | inr b ↦ inr (eqb→eq (s .month) (t .month) (search ands), ltb→lt (s .strike) (t .strike) (search ands))
-]
 
 module _ (ss : List Series) (m h : ℕ) where
   -- the series of earlier months; of the month m those below the strike h, at it and above it; the series of later months
@@ -205,23 +218,12 @@ module _ (ss : List Series) (m h : ℕ) where
           simp (append-assoc, none)
 
   module _ (now : ℕ) (t : T (areSeries now ss)) where
-    month-parts : ss ≡ early ++ (inMonth m ss ++ late)
-    month-parts =
-        three-parts monthOf m ss
-        (ordered-imply (isSeries now) precedes (λ s u. leb (s .month) (u .month))
-        (λ s u a b p. le→leb (s .month) (u .month) (months s u (precedes-cases s u p))) ss (search ands)
-        (rises-ordered isWith precedes series-order ss (search ands)))
-      where
-        months : (s u : Series) → Precedes s u → s .month ≤ u .month
-        months s u (inl a) = omega arith
-        months s u (inr b) = omega arith
-
-    pub strikes-in-order : T (ordered (λ s u. ltb (s .strike) (u .strike)) (inMonth m ss))
+    strikes-in-order : T (ordered (λ s u. ltb (s .strike) (u .strike)) (inMonth m ss))
     strikes-in-order =
         ordered-imply (isEqual monthOf m) precedes (λ s u. ltb (s .strike) (u .strike))
         (λ s u e e′ p.
         lt→ltb (s .strike) (u .strike)
-        (strikes s u (eqb→eq (s .month) m e) (eqb→eq (u .month) m e′) (precedes-cases s u p)))
+        (strikes s u (eqb→eq (s .month) m e) (eqb→eq (u .month) m e′) (to-precedes s u p)))
         (inMonth m ss) (every-kept (isEqual monthOf m) ss)
         (rises-ordered isWith precedes series-order (inMonth m ss)
         (rises-only isWith precedes series-order (isEqual monthOf m) ss (search ands)))
@@ -233,18 +235,46 @@ module _ (ss : List Series) (m h : ℕ) where
     pub strike-parts : inMonth m ss ≡ low ++ (placed ++ high)
     strike-parts = distinct-parts strikeOf h (inMonth m ss) strikes-in-order
 
+    -- the series at m and h, where one stands
+    pub record Stander : Type 0 where
+      pub it : Series
+      pub month : it .month ≡ m
+      pub strike : it .strike ≡ h
+      pub limits : T (isSeries now it)
+      pub alone : placed ≡ it ∷ []
+
+    pub stander : T (stands m h ss) → Stander
+    stander u = record {
+      it = one .it;
+      month = eqb→eq (one .it .month) m (passes (isEqual monthOf m) (every-kept (isEqual monthOf m) ss));
+      strike = one .has;
+      limits =
+          passes (isSeries now)
+          (every-only (isSeries now) (isSeries now) (isEqual monthOf m) (λ s k l. l) ss (search ands));
+      alone = one .alone;
+    }
+      where
+        one : Single strikeOf h (inMonth m ss)
+        one =
+            single strikeOf h (inMonth m ss) strikes-in-order (rw (some-both (isEqual monthOf m) (isEqual strikeOf h) ss) u)
+
+        passes : (p : Series → Bool) → T (every p (inMonth m ss)) → T (p (one .it))
+        passes p l =
+            let k : T (every p (one .it ∷ [])) =
+            subst (λ (xs : List Series). T (every p xs)) (one .alone)
+            (every-only p p (isEqual strikeOf h) (λ s a b. b) (inMonth m ss) l) in
+            search ands
+
     around-placed : ss ≡ around placed
-    around-placed = month-parts ∙ ap (λ (l : List Series). early ++ (l ++ late)) strike-parts ∙ simp append-assoc
+    around-placed = month-parts now m ss t ∙ ap (λ (l : List Series). early ++ (l ++ late)) strike-parts ∙ simp append-assoc
 
     pub placed-words : (rest : List Word) → seriesWords 0 ss rest ≡ wordsBefore ++ (map strikeWord placed ++ wordsAfter rest)
     placed-words rest =
-        ap (λ (l : List Series). seriesWords 0 l rest) month-parts
-        ∙ month-words m early (inMonth m ss) late rest (every-kept (isUnder monthOf m) ss)
-        (every-kept (isEqual monthOf m) ss) (every-kept (isOver monthOf m) ss)
-        ∙ (λ i.
-        seriesWords 0 early []
-        ++ expirationUnless (not (some-only (isEqual monthOf m) ss i)) m
-        (map strikeWord (strike-parts i) ++ seriesWords 0 late rest))
+        series-words now m ss t rest
+        ∙ ap
+        (λ (l : List Series).
+        seriesWords 0 early [] ++ expirationUnless (not has) m (map strikeWord l ++ seriesWords 0 late rest))
+        strike-parts
         ∙ go has
       where
         go :
@@ -261,8 +291,8 @@ module _ (ss : List Series) (m h : ℕ) where
         ap (insertSeries s) (around-placed ∙ ap around none)
         ∙ inserted-between precedes s (early ++ low) (high ++ late)
         (every-before (λ u. not (precedes s u))
-        (λ u l. not-T (precedes s u) (λ p. earlier u l (precedes-cases s u p)))
-        (λ u q l. not-T (precedes s u) (λ p. lower u q l (precedes-cases s u p))))
+        (λ u l. not-T (precedes s u) (λ p. earlier u l (to-precedes s u p)))
+        (λ u q l. not-T (precedes s u) (λ p. lower u q l (to-precedes s u p))))
         (every-after (precedes s)
         (λ u l. let a : T (ltb (s .month) (u .month)) = lt→ltb (s .month) (u .month) (omega arith) in search or-left)
         (λ u q l.

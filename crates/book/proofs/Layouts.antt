@@ -19,6 +19,7 @@ use Rattle.book.specs.Facts.{Series, OpenClass, Facts, fresh, sum, expir
 use Rattle.book.specs.Layout.{strikeWord, expirationUnless, seriesWords, figuresWords, classesWords, used, layout, Tail, begun, addClass, addSeries, setClose, setVolume, readFrom, factsIn, factsOf}
 use Rattle.book.specs.Books.{isSeries, areFigures, isClass, isWellFormed, sameWords, isBook}
 use Rattle.book.proofs.Tests.{and-intro, ands, T-true}
+use Rattle.book.proofs.LegalWords.{strike-legal, month-legal}
 
 -- ---- reading the words of facts
 
@@ -119,15 +120,13 @@ layout-length n f fits = simp (length-append, length-map, length-replicate) (ome
 -- ---- the words of well-formed facts are legal
 
 module _ (now : ℕ) where
-  strike-legal :
+  expiration-legal :
       (s : Series) (rest : List Word) (stands : Bool) → T (isSeries now s) → T (every isLegal rest)
       → T (every isLegal (expirationUnless stands (s .month) (strikeWord s ∷ rest)))
-  strike-legal s rest true good legal =
-      let l : T (isLegal (strikeWord s)) = search (ands, and-intro) in
-      search and-intro
-  strike-legal s rest false good legal =
-      let l : T (isLegal (strikeWord s)) = search (ands, and-intro) in
-      let m : T (isMonth (s .month)) = search ands depth 12 in
+  expiration-legal s rest true good legal = let l = strike-legal now s good in search and-intro
+  expiration-legal s rest false good legal =
+      let l = strike-legal now s good in
+      let m = month-legal now s good in
       search and-intro
 
   series-legal :
@@ -135,7 +134,7 @@ module _ (now : ℕ) where
       → T (every isLegal (seriesWords p ss rest))
   series-legal p [] rest good legal = legal
   series-legal p (s ∷ ss) rest good legal =
-      strike-legal s (seriesWords (suc (s .month)) ss rest) (eqb p (suc (s .month))) (search ands)
+      expiration-legal s (seriesWords (suc (s .month)) ss rest) (eqb p (suc (s .month))) (search ands)
       (series-legal (suc (s .month)) ss rest (search ands) legal)
 
   classes-legal : (xs : List OpenClass) → T (every (isClass now) xs) → T (every isLegal (classesWords xs []))

@@ -1,7 +1,9 @@
+-- The laws that other crates cite.
 pub mod Tests
 pub mod Alternatives
 pub mod Lists
 pub mod Forms
+pub mod LegalWords
 pub mod SeriesLaws
 pub mod ClassLaws
 pub mod Layouts
@@ -15,9 +17,7 @@ pub mod Answered
 pub mod Permission
 pub mod Parts
 pub mod Expirations
-pub mod Splices
 pub mod Splits
 pub mod ClassWords
+pub mod Splices
 pub mod Runs
-pub mod ClassParts
-pub mod BookRuns

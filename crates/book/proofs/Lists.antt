@@ -42,7 +42,7 @@ module _ {A : Type 0} where
       go true e rest = let a : T (q x) = f x (rw e tt) (search ands) in search and-intro
       go false e rest = rest
 
-  not-some : (p : A → Bool) (xs : List A) → T (not (some p xs)) → T (every (λ x. not (p x)) xs)
+  pub not-some : (p : A → Bool) (xs : List A) → T (not (some p xs)) → T (every (λ x. not (p x)) xs)
   not-some p [] t = tt
   not-some p (x ∷ xs) t =
       let a : T (not (p x)) = nor-left (p x) (some p xs) t in

@@ -5,13 +5,13 @@ use mathlib.Core.Bool.{Bool, true, false, cond, not, _&&_, _||_}
 use mathlib.Core.List.{List, [], _∷_, _++_, map}
 use mathlib.Core.Logic.{_⊎_, inl, inr}
 use native.Mathlib.Omega.{arith}
-use lib.Dec.{T, eqb, leb, ltb, leb→le, le→leb, ltb→lt}
+use lib.Dec.{T, eqb, leb, ltb, leb→le, le→leb, ltb→lt, eqb→eq}
 use borrow.Author.Tests.{eqb-true, lt-ltb, le-ltb, eq-eqb, ne-eqb, not-true}
 use Rattle.rule.specs.Lists.{every, some, only}
 use Rattle.book.specs.Facts.{inserted}
 use Rattle.book.proofs.Tests.{and-intro, ands, T-true}
-use Rattle.book.proofs.Alternatives.{or-left, or-right, nor-left, nor-right, trichotomy}
-use Rattle.book.proofs.Lists.{ordered}
+use Rattle.book.proofs.Alternatives.{or-left, or-right, trichotomy}
+use Rattle.book.proofs.Lists.{every-imply, not-some, ordered}
 
 module _ {A : Type 0} where
   -- none is kept by p where each passes q, which p excludes
@@ -21,10 +21,8 @@ module _ {A : Type 0} where
   only-none p q f (x ∷ xs) t = rw (f x (search ands)) (only-none p q f xs (search ands))
 
   pub only-absent : (p : A → Bool) (xs : List A) → T (not (some p xs)) → only p xs ≡ []
-  only-absent p [] t = refl
-  only-absent p (x ∷ xs) t =
-      rw (not-true (p x) (T-true (not (p x)) (nor-left (p x) (some p xs) t)))
-      (only-absent p xs (nor-right (p x) (some p xs) t))
+  only-absent p xs t =
+      only-none p (λ x. not (p x)) (λ x u. not-true (p x) (T-true (not (p x)) u)) xs (not-some p xs t)
 
   pub every-kept : (p : A → Bool) (xs : List A) → T (every p (only p xs))
   every-kept p [] = tt
@@ -120,6 +118,12 @@ module _ {A : Type 0} (key : A → ℕ) (k : ℕ) where
 
   abbrev pub isOver : A → Bool
   isOver x = ltb k (key x)
+
+  pub not-under : (xs ys : List A) → T (every isEqual xs) → T (every isOver ys) → T (every (λ x. leb k (key x)) (xs ++ ys))
+  not-under xs ys t u =
+      every-append (λ x. leb k (key x)) xs ys
+      (every-imply isEqual (λ x. leb k (key x)) (λ x e. le→leb k (key x) (omega (arith, eqb→eq (key x) k e))) xs t)
+      (every-imply isOver (λ x. leb k (key x)) (λ x l. le→leb k (key x) (omega (arith, ltb→lt k (key x) l))) ys u)
 
   pub three-parts :
       (xs : List A) → T (ordered (λ x y. leb (key x) (key y)) xs)

@@ -1,18 +1,19 @@
 -- The words of a run at the places of an open class and its expirations: from the words of the book by their parts. Assumes nothing.
 use Prim.Native.Nat.{ℕ, _+_, _-_, _*_, _/_, _%_, _^_, _≤_, _<_}
-use mathlib.Core.Path.{_≡_, refl, sym, ap, _∙_, subst}
-use mathlib.Core.Bool.{Bool, true, false, cond, not, _||_}
+use mathlib.Core.Path.{_≡_, refl, sym, ap, _∙_}
+use mathlib.Core.Bool.{Bool, true, false, cond, not, _||_, or-false}
 use mathlib.Core.List.{List, [], _∷_, _++_, map, map-append, append-assoc}
 use native.Mathlib.Omega.{arith}
 use lib.ListN.{length, take, drop, getD, replicate, length-append, length-map}
 use lib.Seq.{take-at, drop-at, getD-append-add}
-use lib.Dec.{T, eqb, ltb, leb→le, eqb→eq}
+use lib.Dec.{T, eqb, ltb}
 use borrow.Author.Tests.{ltb-true, ltb-false, eqb-true, eqb-false, lt-ltb, le-ltb, eq-eqb, ne-eqb}
 use Rattle.word.specs.declared.codec.Word.{Word}
 use Rattle.word.specs.declared.codec.Word.the-variants.{Head}
 use Rattle.word.specs.Field.{field}
 use Rattle.word.specs.Codec.{packed}
 use Rattle.word.proofs.Fields.{field-packed}
+use Rattle.word.proofs.Words.{strike-fields}
 use Rattle.rule.specs.Lists.{every, some, only}
 use Rattle.rule.specs.Spacing.{standingIn as standingOf}
 use Rattle.book.specs.Facts.{Series, Facts, number, isOpen, isAt, isMarked, inMonth}
@@ -21,11 +22,12 @@ use Rattle.book.specs.Books.{isSeries, isWellFormed}
 use Rattle.book.specs.Calls.{class, isStanding, hasOpenInterest, standingIn}
 use Rattle.book.specs.Places.{hasExpiration, strikesPlace, strikesEnd, strikePlace}
 use Rattle.book.proofs.Tests.{ands}
+use Rattle.book.proofs.LegalWords.{fits, strike-legal}
 use Rattle.book.proofs.Lists.{every-only}
 use Rattle.book.proofs.Forms.{areSeries, well}
 use Rattle.book.proofs.Layouts.{used-taken}
-use Rattle.book.proofs.Parts.{every-kept, only-both, some-both, isUnder, isEqual, isOver, Single, single}
-use Rattle.book.proofs.Expirations.{monthOf, strikeOf, low, high, strikes-in-order, strike-parts}
+use Rattle.book.proofs.Parts.{only-both, some-both, isUnder, isEqual, isOver}
+use Rattle.book.proofs.Expirations.{monthOf, strikeOf, low, high, strike-parts, Stander, stander}
 use Rattle.book.proofs.Splits.{some-length}
 use Rattle.book.proofs.ClassWords.{series-good, book-words}
 
@@ -35,33 +37,29 @@ module _ (n : ℕ) (f : Facts) where
   abbrev pub bookWords : List Word
   bookWords = Head (f .now) (used f) ∷ classesWords (f .classes) []
 
-  run-words :
-      (ws rest : List Word) → bookWords ≡ ws ++ rest
-      → layout n f ≡ map packed ws ++ (map packed rest ++ replicate (n - used f) 0)
+  pub run-parts :
+      (ws mid rest : List Word) → bookWords ≡ ws ++ (mid ++ rest)
+      → layout n f ≡ map packed ws ++ (map packed mid ++ (map packed rest ++ replicate (n - used f) 0))
   unfolding layout
-  run-words ws rest e =
-      ap (λ (l : List Word). map packed l ++ replicate (n - used f) 0) e
-      ∙ ap (λ (l : List ℕ). l ++ replicate (n - used f) 0) (map-append packed ws rest)
-      ∙ append-assoc (map packed ws) (map packed rest) (replicate (n - used f) 0)
+  run-parts ws mid rest e =
+      ap (λ (l : List Word). map packed l ++ replicate (n - used f) 0) e ∙ simp (map-append, append-assoc)
 
   -- the words from `from` to `to`, as a part of the run is lent
   pub run-part :
       (from to : ℕ) (ws mid rest : List Word) → bookWords ≡ ws ++ (mid ++ rest)
       → from ≡ length ws → to ≡ length ws + length mid → take (to - from) (drop from (layout n f)) ≡ map packed mid
   run-part from to ws mid rest e a b =
-      let zeros : List ℕ = replicate (n - used f) 0 in
-      ap (λ (l : List ℕ). take (to - from) (drop from l)) (run-words ws (mid ++ rest) e)
-      ∙ ap (take (to - from)) (drop-at (map packed ws) (map packed (mid ++ rest) ++ zeros) from (length-map ws packed ∙ sym a))
-      ∙ ap (λ (l : List ℕ). take (to - from) (l ++ zeros)) (map-append packed mid rest)
-      ∙ ap (take (to - from)) (append-assoc (map packed mid) (map packed rest) zeros)
-      ∙ take-at (map packed mid) (map packed rest ++ zeros) (to - from) (length-map mid packed ∙ omega arith)
+      let after : List ℕ = map packed rest ++ replicate (n - used f) 0 in
+      ap (λ (l : List ℕ). take (to - from) (drop from l)) (run-parts ws mid rest e)
+      ∙ ap (take (to - from)) (drop-at (map packed ws) (map packed mid ++ after) from (length-map ws packed ∙ sym a))
+      ∙ take-at (map packed mid) after (to - from) (length-map mid packed ∙ omega arith)
 
   -- the word k places after the words ws
   pub run-word :
       (i k : ℕ) (ws rest : List Word) → bookWords ≡ ws ++ rest → i ≡ length ws + k
       → getD (layout n f) i 0 ≡ getD (map packed rest ++ replicate (n - used f) 0) k 0
   run-word i k ws rest e a =
-      (λ j. getD (run-words ws rest e j) (before j) 0)
+      (λ j. getD (run-parts ws [] rest e j) (before j) 0)
       ∙ getD-append-add (map packed ws) (map packed rest ++ replicate (n - used f) 0) k 0
     where
       before : i ≡ length (map packed ws) + k
@@ -72,40 +70,24 @@ module _ (n : ℕ) (f : Facts) where
 
 -- ---- the fields of a strike word
 
--- "h in bits 0–14, ground in 15–17", and both marks as one number
-pub strike-fields :
-    (now : ℕ) (s : Series) → T (isSeries now s)
-    → (field (packed (strikeWord s)) 0 15 ≡ s .strike)
-    × (field (packed (strikeWord s)) 15 3 ≡ s .ground)
-    × (field (packed (strikeWord s)) 18 2 ≡ s .put + s .call * 2)
-strike-fields now s t =
-    let w = packed (strikeWord s) in
-    let h : s .strike ≤ 19999 = leb→le (s .strike) 19999 (search ands) in
-    let g : s .ground ≤ 3 = leb→le (s .ground) 3 (search ands) in
-    let a : s .put ≤ 1 = leb→le (s .put) 1 (search ands) in
-    let b : s .call ≤ 1 = leb→le (s .call) 1 (search ands) in (
-      omega arith,
-      field-packed w (s .strike) (s .ground) (s .put + s .call * 2 + 6 * 2 ^ 10) 15 3 (omega arith) (omega arith) (omega arith),
-      field-packed w (s .strike + s .ground * 2 ^ 15) (s .put + s .call * 2) (6 * 2 ^ 8) 18 2
-          (omega arith) (omega arith) (omega arith),
-    )
-
 standing-words :
     (now : ℕ) (ss : List Series) → T (every (isSeries now) ss)
     → map standingOf (map packed (map strikeWord ss)) ≡ map (λ s. record { strike = s .strike; ground = s .ground }) ss
 standing-words now [] t = refl
 standing-words now (s ∷ ss) t =
-    let e = strike-fields now s (search ands) in
+    let e = strike-fields (packed (strikeWord s)) (s .strike) (s .ground) (s .put) (s .call) (fits (strikeWord s) (strike-legal now s (search ands))) refl in
     let d = standing-words now ss (search ands) in
     λ i. record { strike = e .0 i; ground = e .1 i } ∷ d i
 
 -- a strike is marked exactly where its word has a mark
-pub marks-say : (now : ℕ) (s : Series) → T (isSeries now s) → not (eqb (field (packed (strikeWord s)) 18 2) 0) ≡ isMarked s
+marks-say : (now : ℕ) (s : Series) → T (isSeries now s) → not (eqb (field (packed (strikeWord s)) 18 2) 0) ≡ isMarked s
 marks-say now s t =
-    let a : s .put ≤ 1 = leb→le (s .put) 1 (search ands) in
-    let b : s .call ≤ 1 = leb→le (s .call) 1 (search ands) in
-    ap (λ (k : ℕ). not (eqb k 0)) (strike-fields now s t .2)
-    ∙ go (s .put) (s .call) a b (eqb (s .put) 1) refl (eqb (s .call) 1) refl
+    let small = fits (strikeWord s) (strike-legal now s t) in
+    let both : field (packed (strikeWord s)) 18 2 ≡ s .put + s .call * 2 =
+    field-packed (packed (strikeWord s)) (s .strike + s .ground * 2 ^ 15) (s .put + s .call * 2) (6 * 2 ^ 8) 18 2
+    (omega arith) (omega arith) (omega arith) in
+    ap (λ (k : ℕ). not (eqb k 0)) both
+    ∙ go (s .put) (s .call) (omega arith) (omega arith) (eqb (s .put) 1) refl (eqb (s .call) 1) refl
   where
     go :
         (put call : ℕ) → put ≤ 1 → call ≤ 1 → (x : Bool) → eqb put 1 ≡ x → (y : Bool) → eqb call 1 ≡ y
@@ -205,9 +187,9 @@ module _ (n : ℕ) (f : Facts) (c m h : ℕ) (w : T (isWellFormed n f)) (o : T (
   strike-stands t = (
     s,
     record {
-      month = eqb→eq (s .month) m (passed (isEqual monthOf m) (every-kept (isEqual monthOf m) (class f c .series)));
-      strike = found .has;
-      limits = passed (isSeries (f .now)) (strikes-good n f c m w o);
+      month = found .month;
+      strike = found .strike;
+      limits = found .limits;
       word =
           run-word n f (strikePlace c m h f) 0 (beforeStrikes n f c m w o ++ map strikeWord lowerStrikes)
           (strikeWord s ∷ (map strikeWord higherStrikes ++ afterStrikes n f c m w o)) around
@@ -229,10 +211,8 @@ module _ (n : ℕ) (f : Facts) (c m h : ℕ) (w : T (isWellFormed n f)) (o : T (
       series : T (areSeries (f .now) (class f c .series))
       series = series-good n f c w o
 
-      found : Single strikeOf h (inMonth m (class f c .series))
-      found =
-          single strikeOf h (inMonth m (class f c .series)) (strikes-in-order (class f c .series) m h (f .now) series)
-          (subst T (sym (some-both (isEqual monthOf m) (isEqual strikeOf h) (class f c .series))) t)
+      found : Stander (class f c .series) m h (f .now) series
+      found = stander (class f c .series) m h (f .now) series t
 
       s : Series
       s = found .it
@@ -256,17 +236,6 @@ module _ (n : ℕ) (f : Facts) (c m h : ℕ) (w : T (isWellFormed n f)) (o : T (
               → ws ++ (map strikeWord (ss ++ (s ∷ ts)) ++ rest)
               ≡ (ws ++ map strikeWord ss) ++ (strikeWord s ∷ (map strikeWord ts ++ rest))
           regroup ws rest ss ts = simp (map-append, append-assoc)
-
-      passed : (p : Series → Bool) → T (every p (inMonth m (class f c .series))) → T (p s)
-      passed p u =
-          let v : T (every p (only (isEqual strikeOf h) (inMonth m (class f c .series)))) =
-          every-only p p (isEqual strikeOf h) (λ x k y. y) (inMonth m (class f c .series)) u in
-          let z = rw (found .alone) at v in
-          search ands
-
-      or-false : (b : Bool) → (b || false) ≡ b
-      or-false true = refl
-      or-false false = refl
 
   -- a word that stands says whether the strike has open interest
   pub interest-says :

@@ -11,31 +11,35 @@ use Rattle.rule.specs.Lists.{every, only}
 use Rattle.word.specs.Limits.{isMark}
 use Rattle.book.specs.Facts.{Series, isAt, stands, withMarks, precedes, insertSeries, expirations}
 use Rattle.book.specs.Books.{rises, isSeries}
-use Rattle.book.proofs.Tests.{and-intro, ands}
+use Rattle.book.proofs.Tests.{and-intro, ands, equal-test}
 use Rattle.book.proofs.Forms.{areSeries}
 use Rattle.book.proofs.Alternatives.{or-cases, or-left, or-right, trichotomy}
 use Rattle.book.proofs.Lists.{every-map, every-only, same-keys, StrictOrder, rises-only, every-inserted, rises-inserted}
 
 -- ---- the order
 
-abbrev Precedes : Series → Series → Type 0
+abbrev pub Precedes : Series → Series → Type 0
 Precedes s t = (s .month < t .month) ⊎ ((s .month ≡ t .month) × (s .strike < t .strike))
 
-to-precedes : (s t : Series) → T (precedes s t) → Precedes s t
+pub to-precedes : (s t : Series) → T (precedes s t) → Precedes s t
 to-precedes s t p = elim (or-cases (ltb (s .month) (t .month)) (eqb (s .month) (t .month) && ltb (s .strike) (t .strike)) p) [
   | inl a ↦ inl (ltb→lt (s .month) (t .month) a)
   | inr b ↦ inr (eqb→eq (s .month) (t .month) (search ands), ltb→lt (s .strike) (t .strike) (search ands))
 ]
 
-same-numbers : (a b : ℕ) → a ≡ b → T (eqb a b)
-same-numbers a b e = rw e (eqb-refl b)
+pub months-rise : (s t : Series) → T (precedes s t) → s .month ≤ t .month
+months-rise s t p = go (to-precedes s t p)
+  where
+    go : Precedes s t → s .month ≤ t .month
+    go (inl a) = omega arith
+    go (inr b) = omega arith
 
 of-precedes : (s t : Series) → Precedes s t → T (precedes s t)
 of-precedes s t (inl a) =
     let l : T (ltb (s .month) (t .month)) = lt→ltb (s .month) (t .month) a in
     search or-left
 of-precedes s t (inr b) =
-    let e : T (eqb (s .month) (t .month)) = same-numbers (s .month) (t .month) (b .0) in
+    let e : T (eqb (s .month) (t .month)) = equal-test (s .month) (t .month) (b .0) in
     let l : T (ltb (s .strike) (t .strike)) = lt→ltb (s .strike) (t .strike) (b .1) in
     search (or-right, and-intro)
 
@@ -80,8 +84,8 @@ series-order = record {
     compare s t (inr (inl a)) (inl b) = forth s t (inr (a, b))
     compare s t (inr (inl a)) (inr (inr b)) = back s t (inr (sym a, b))
     compare s t (inr (inl a)) (inr (inl b)) =
-        let month : T (eqb (t .month) (s .month)) = same-numbers (t .month) (s .month) (sym a) in
-        let strike : T (eqb (t .strike) (s .strike)) = same-numbers (t .strike) (s .strike) (sym b) in
+        let month : T (eqb (t .month) (s .month)) = equal-test (t .month) (s .month) (sym a) in
+        let strike : T (eqb (t .strike) (s .strike)) = equal-test (t .strike) (s .strike) (sym b) in
         search (or-left, and-intro)
 
 -- ---- the expirations of a kept part

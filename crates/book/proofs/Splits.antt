@@ -5,12 +5,11 @@ use mathlib.Core.Bool.{Bool, true, false, cond, _||_}
 use mathlib.Core.List.{List, [], _∷_, _++_}
 use native.Mathlib.Omega.{arith}
 use lib.ListN.{length}
-use lib.Dec.{T, eqb, leb, ltb, eqb→eq, ltb→lt, le→leb}
+use lib.Dec.{T, eqb, ltb, ltb→lt}
 use borrow.Author.Tests.{lt-ltb, ne-eqb}
 use Rattle.rule.specs.Lists.{every, some, only}
 use Rattle.book.proofs.Tests.{and-intro, ands, T-true}
-use Rattle.book.proofs.Lists.{every-imply}
-use Rattle.book.proofs.Parts.{every-append, every-kept, isEqual, isOver}
+use Rattle.book.proofs.Parts.{every-kept, isEqual, isOver}
 
 module _ {A : Type 0} where
   pub every-split : (p : A → Bool) (xs ys : List A) → T (every p (xs ++ ys)) → T (every p xs) × T (every p ys)
@@ -31,14 +30,6 @@ module _ {A : Type 0} where
       go false e = e
 
 module _ {A : Type 0} (key : A → ℕ) (k : ℕ) where
-  pub not-under : (xs : List A) → T (every (λ x. leb k (key x)) (only (isEqual key k) xs ++ only (isOver key k) xs))
-  not-under xs =
-      every-append (λ x. leb k (key x)) (only (isEqual key k) xs) (only (isOver key k) xs)
-      (every-imply (isEqual key k) (λ x. leb k (key x))
-      (λ x t. le→leb k (key x) (omega (arith, eqb→eq (key x) k t))) (only (isEqual key k) xs) (every-kept (isEqual key k) xs))
-      (every-imply (isOver key k) (λ x. leb k (key x))
-      (λ x t. le→leb k (key x) (omega (arith, ltb→lt k (key x) t))) (only (isOver key k) xs) (every-kept (isOver key k) xs))
-
   -- the first of them has the key k
   abbrev pub leads : List A → Bool
   leads [] = false

@@ -1,7 +1,8 @@
--- Tests joined by `and`, and a passed test as `T b` or as `b ≡ true`: by cases on the test. Assumes nothing.
+-- Tests joined by `and`, a passed test as `T b` or as `b ≡ true`, and the test of equal numbers: by cases on the test. Assumes nothing.
+use Prim.Native.Nat.{ℕ}
 use mathlib.Core.Path.{_≡_, refl}
 use mathlib.Core.Bool.{Bool, true, false, _&&_}
-use lib.Dec.{T}
+use lib.Dec.{T, eqb, eqb-refl}
 
 pub and-left : (a b : Bool) → T (a && b) → T a
 and-left true b t = tt
@@ -24,6 +25,9 @@ T-true false t = absurd t
 
 pub true-T : (b : Bool) → b ≡ true → T b
 true-T b e = rw e tt
+
+pub equal-test : (m n : ℕ) → m ≡ n → T (eqb m n)
+equal-test m n e = rw e (eqb-refl n)
 
 pub same-bool : (a b : Bool) → (T a → T b) → (T b → T a) → a ≡ b
 same-bool true true f g = refl

@@ -20,7 +20,6 @@ use Rattle.book.specs.Made.{Made}
 use Rattle.book.proofs.Tests.{ands, T-true, true-T}
 use Rattle.book.proofs.Lists.{length-only}
 use Rattle.book.proofs.ClassLaws.{number-of, sum-put}
-use Rattle.book.proofs.BookRuns.{book-run}
 use Rattle.book.proofs.Layouts.{used-taken}
 use Rattle.book.proofs.Splices.{words-opened}
 use Rattle.book.proofs.ClassWords.{class-good}
@@ -28,7 +27,7 @@ use Rattle.book.proofs.Answered.{made-refused, made-accepted}
 use Rattle.place.specs.declared.lookup.Lookup.the-variants.{NotOpen as NoClass, Open}
 use Rattle.place.specs.Lookups.{lookupOf}
 use Rattle.place.specs.Search.{firstAt, isFrom}
-use Rattle.place.proofs.Heads.{book-good}
+use Rattle.place.proofs.Heads.{book-good, book-form, book-room, book-long}
 use Rattle.place.proofs.Found.{class-ended}
 use Rattle.place.proofs.Answers.{lookup-open, lookup-not-open, series-within}
 
@@ -78,7 +77,7 @@ module _
   found-within = series-within w book c at r look
 
   pub found-room : at + 3 ≤ length w
-  found-room = omega (arith, found-within, book-run w book)
+  found-room = omega (arith, found-within, book-room w book, book-long w book)
 
 -- ---- `M`
 
@@ -188,14 +187,13 @@ module _ (c : ℕ) (w : List ℕ) (book : T (isBook w)) (within : not (isWritten
       unfolding acceptedValue
       review-count =
           let x = class (factsOf w) c in
-          let b = book-run w book in
           omega (
             arith,
             reviewed .0,
             length-only (isReviewed x) (x .series),
             sum-put wordsOf (newClass c) (factsOf w .classes) (found-open w book c at r look),
-            b .facts .room,
-            b .short,
+            book-form w book .room,
+            book-long w book,
           )
 
       pub review-made : (r .close ≡ 0 → ⊥) → Made (callR c) w [] (Removed k) w′ []

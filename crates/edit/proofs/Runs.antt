@@ -1,78 +1,21 @@
 -- What is read in the run of a book, and what words stored and words put in make of it: the run in the parts that an edit leaves and replaces. Assumes nothing.
-use Prim.Native.Nat.{ℕ, zero, suc, _+_, _-_, _*_, _^_, _≤_, _<_}
+use Prim.Native.Nat.{ℕ, zero, suc, _+_, _-_}
 use mathlib.Core.Path.{_≡_, refl, sym, ap, _∙_}
-use mathlib.Core.List.{List, [], _∷_, _++_, map, map-append, append-assoc}
+use mathlib.Core.List.{List, [], _∷_, _++_, map, append-assoc}
 use native.Mathlib.Omega.{arith}
-use lib.Dec.{T, leb→le}
+use lib.Dec.{T}
 use lib.ListN.{length, getD, set, take, drop, replicate, length-append, length-map}
 use lib.Seq.{append-snoc, drop-append-add, getD-append-seam, set-append-seam, take-at, drop-at, sets}
 use Rattle.word.specs.declared.codec.Word.{Word}
 use Rattle.word.specs.declared.codec.Word.the-variants.{Head}
-use Rattle.word.specs.Codec.{isLegal, packed, Fits}
-use Rattle.word.specs.Field.{field}
-use Rattle.word.proofs.Fields.{field-packed}
-use Rattle.word.proofs.Words.{legal-fits}
-use Rattle.book.specs.Facts.{Series, Facts}
-use Rattle.book.specs.Layout.{strikeWord, classesWords, used, layout, factsOf}
-use Rattle.book.specs.Books.{isSeries, isBook}
-use Rattle.book.proofs.Tests.{and-intro, ands, T-true}
-use Rattle.book.proofs.Forms.{Well, well}
-use Rattle.book.proofs.Layouts.{used-taken, book-facts}
+use Rattle.word.specs.Codec.{packed}
+use Rattle.book.specs.Facts.{Facts}
+use Rattle.book.specs.Layout.{used, layout, factsOf}
+use Rattle.book.specs.Books.{isBook}
 use Rattle.book.proofs.Splices.{Spliced, used-spliced}
+use Rattle.book.proofs.Runs.{run-parts}
+use Rattle.place.proofs.Heads.{book-is}
 use Rattle.edit.specs.Insertion.{insertWords}
-
--- ---- what is read
-
-pub record Book (ws : List ℕ) : Type 0 where
-  pub form : Well (length ws) (factsOf ws)
-  pub laid : layout (length ws) (factsOf ws) ≡ ws
-  pub fits : used (factsOf ws) ≤ length ws
-  pub short : length ws ≤ 65535
-
-pub book : (ws : List ℕ) → T (isBook ws) → Book ws
-book ws t =
-    let p = book-facts ws t in
-    let w = well (length ws) (factsOf ws) (p .0) in
-    let run = w .run in
-    record {
-      form = w;
-      laid = p .1;
-      fits = omega (arith, used-taken (factsOf ws), w .room);
-      short = leb→le (length ws) 65535 (search ands);
-    }
-
-pub begins : (ws : List ℕ) → T (isBook ws) → 0 < length ws
-begins ws t = omega (arith, book ws t .fits)
-
-head-is : (ws : List ℕ) → T (isBook ws) → getD ws 0 0 ≡ packed (Head (factsOf ws .now) (used (factsOf ws)))
-unfolding layout
-head-is ws t = ap (λ (l : List ℕ). getD l 0 0) (sym (book ws t .laid))
-
-month-fits : (ws : List ℕ) → T (isBook ws) → factsOf ws .now < 2 ^ 10
-month-fits ws t = omega (arith, leb→le (factsOf ws .now) 1023 (book ws t .form .month))
-
-pub now-read : (ws : List ℕ) → T (isBook ws) → field (getD ws 0 0) 0 10 ≡ factsOf ws .now
-now-read ws t = let fits = month-fits ws t in rw (head-is ws t) (omega arith)
-
-pub count-read : (ws : List ℕ) → T (isBook ws) → field (getD ws 0 0) 10 16 ≡ used (factsOf ws)
-count-read ws t =
-    let now = factsOf ws .now in
-    let count = used (factsOf ws) in
-    rw (head-is ws t)
-    (field-packed (packed (Head now count)) now count (1 * 2 ^ 2) 10 16 (omega arith)
-    (omega (arith, book ws t .fits, book ws t .short)) (month-fits ws t))
-
-strike-fits : (now : ℕ) (s : Series) → T (isSeries now s) → Fits (strikeWord s)
-strike-fits now s t = legal-fits (strikeWord s) (T-true (isLegal (strikeWord s)) (search (ands, and-intro)))
-
-pub strike-read : (now : ℕ) (s : Series) → T (isSeries now s) → field (packed (strikeWord s)) 0 15 ≡ s .strike
-strike-read now s t = let fits = strike-fits now s t in omega arith
-
-pub ground-read : (now : ℕ) (s : Series) → T (isSeries now s) → field (packed (strikeWord s)) 15 3 ≡ s .ground
-ground-read now s t =
-    let fits = strike-fits now s t in
-    field-packed (packed (strikeWord s)) (s .strike) (s .ground) (s .put + s .call * 2 + 6 * 2 ^ 10) 15 3 (omega arith)
-    (omega arith) (omega arith)
 
 -- ---- words stored, and words put in
 
@@ -117,16 +60,6 @@ drop-zeros (suc k) (suc m) =
 
 -- ---- the run of edited facts
 
-layout-parts :
-    (n : ℕ) (f : Facts) (front mid back : List Word) → classesWords (f .classes) [] ≡ front ++ (mid ++ back)
-    → layout n f
-    ≡ map packed (Head (f .now) (used f) ∷ front)
-    ++ (map packed mid ++ (map packed back ++ replicate (n - used f) 0))
-unfolding layout
-layout-parts n f front mid back e =
-    ap (λ (ws : List Word). packed (Head (f .now) (used f)) ∷ (map packed ws ++ replicate (n - used f) 0)) e
-    ∙ simp (map-append, append-assoc)
-
 module _
     (ws : List ℕ) (t : T (isBook ws)) {at : ℕ} {old new : List Word} {g : Facts}
     (s : Spliced at old new (factsOf ws) g) where
@@ -146,7 +79,10 @@ module _
   at-is = s .place ∙ ap suc (sym (length-map (s .front) packed))
 
   was : ws ≡ front ++ (map packed old ++ (back ++ zeros))
-  was = sym (book ws t .laid) ∙ layout-parts (length ws) f (s .front) old (s .back) (s .was)
+  was =
+      sym (book-is ws t)
+      ∙ run-parts (length ws) f (Head (f .now) (used f) ∷ s .front) old (s .back)
+      (ap (λ (l : List Word). Head (f .now) (used f) ∷ l) (s .was))
 
   -- the run after an edit that leaves `count` words used
   is :
@@ -156,7 +92,8 @@ module _
       ≡ layout (length ws) g
   is count e =
       sym
-      (layout-parts (length ws) g (s .front) new (s .back) (s .is)
+      (run-parts (length ws) g (Head (g .now) (used g) ∷ s .front) new (s .back)
+      (ap (λ (l : List Word). Head (g .now) (used g) ∷ l) (s .is))
       ∙ (λ i.
       map packed (Head (s .month i) (e i) ∷ s .front)
       ++ (map packed new ++ (back ++ replicate (length ws - e i) 0))))

@@ -14,6 +14,7 @@ ghost use Rattle.book.specs.Facts.{insertSeries, isOpen, withFigures, withSerie
 ghost use Rattle.book.specs.Layout.{factsOf, layout, used};
 ghost use Rattle.book.specs.Places.{classPlace, hasExpiration, strikePlace};
 ghost use Rattle.edit.specs.Insertion.{HasRoom, insertWords, pushed};
+use place::head;
 use word::class::ClassRecord;
 use word::codec::class_word;
 use word::codec::close_word;
@@ -63,20 +64,12 @@ fn push3(s: &mut [u32], a: u32, b: u32, c: u32)
     s[2] = c;
 }
 
-// How many words of the book are used.
-fn words_used(run: &[u32]) -> usize
-    requires { ⌜ T (isBook (now run)) ⌝ }
-    ensures { λ r. ⌜ r ≡ used (factsOf (now (run .entry))) ⌝ }
-{
-    field_of(run[0], 10, 16) as usize
-}
-
 // The head of the book, with another count of the words used.
 fn head_counting(run: &[u32], count: usize) -> u32
     requires { ⌜ T (isBook (now run)) × (count ≤ length (now run)) ⌝ }
     ensures { λ r. ⌜ r ≡ packed (Head (factsOf (now (run .entry)) .now) count) ⌝ }
 {
-    head_word(field_of(run[0], 0, 10), count as u32)
+    head_word(head::current(run), count as u32)
 }
 
 // One new word before the word at `at`, counted in the head.
@@ -84,7 +77,7 @@ fn insert1(run: &mut [u32], at: usize, a: u32)
     requires { ⌜ HasRoom 1 at (now run) ⌝ }
     ensures { λ _. ⌜ now (run .exit) ≡ insertWords at (a ∷ []) (now (run .entry)) ⌝ }
 {
-    let count = words_used(run);
+    let count = head::used(run);
     let head = head_counting(run, count + 1);
     let end = count + 1;
     push1(&mut run[at..end], a);
@@ -95,7 +88,7 @@ fn insert2(run: &mut [u32], at: usize, a: u32, b: u32)
     requires { ⌜ HasRoom 2 at (now run) ⌝ }
     ensures { λ _. ⌜ now (run .exit) ≡ insertWords at (a ∷ b ∷ []) (now (run .entry)) ⌝ }
 {
-    let count = words_used(run);
+    let count = head::used(run);
     let head = head_counting(run, count + 2);
     let end = count + 2;
     push2(&mut run[at..end], a, b);
@@ -106,7 +99,7 @@ fn insert3(run: &mut [u32], at: usize, a: u32, b: u32, c: u32)
     requires { ⌜ HasRoom 3 at (now run) ⌝ }
     ensures { λ _. ⌜ now (run .exit) ≡ insertWords at (a ∷ b ∷ c ∷ []) (now (run .entry)) ⌝ }
 {
-    let count = words_used(run);
+    let count = head::used(run);
     let head = head_counting(run, count + 3);
     let end = count + 3;
     push3(&mut run[at..end], a, b, c);

@@ -6,13 +6,14 @@ use mathlib.Core.List.{List, [], _∷_, _++_, map, map-append, append-nil, appen
 use native.Mathlib.Omega.{arith}
 use lib.ListN.{length, take, drop, getD, replicate, length-append, length-map}
 use lib.Seq.{drop-at}
-use lib.Dec.{T, leb, leb→le}
+use lib.Dec.{T, leb→le}
 use borrow.Author.Tests.{ltb-false}
 use Rattle.word.specs.declared.class.ClassRecord.{ClassRecord}
 use Rattle.word.specs.declared.codec.Word.{Word}
 use Rattle.word.specs.declared.codec.Word.the-variants.{Head, Class, Close, Volume, Expiration}
 use Rattle.word.specs.Field.{field}
 use Rattle.word.specs.Codec.{isLegal, packed}
+use Rattle.word.proofs.Words.{class-fields}
 use Rattle.rule.specs.Lists.{every, some, only}
 use Rattle.book.specs.Facts.{Series, Facts, number, isOpen, inMonth}
 use Rattle.book.specs.Layout.{strikeWord, seriesWords, figuresWords, classesWords, used, factsOf}
@@ -20,18 +21,18 @@ use Rattle.book.specs.Books.{areFigures, isSeries, isBook}
 use Rattle.book.specs.Calls.{class, isStanding}
 use Rattle.book.specs.Places.{classPlace, strikesPlace, strikesEnd, strikePlace}
 use Rattle.book.proofs.Tests.{and-intro, ands, true-T}
-use Rattle.book.proofs.Lists.{every-map, ordered}
-use Rattle.book.proofs.Forms.{areSeries, well}
+use Rattle.book.proofs.Lists.{every-map}
+use Rattle.book.proofs.Forms.{areSeries}
 use Rattle.book.proofs.Layouts.{words-legal}
-use Rattle.book.proofs.Parts.{every-kept, some-both, isUnder, isEqual, isOver, three-parts, distinct-parts}
-use Rattle.book.proofs.Expirations.{monthOf, strikeOf, low, placed, high, strike-parts}
+use Rattle.book.proofs.Parts.{every-kept, some-both, isUnder, isEqual, isOver, distinct-parts}
+use Rattle.book.proofs.Expirations.{monthOf, strikeOf, month-parts, series-words, low, placed, high, strike-parts}
 use Rattle.book.proofs.Splits.{every-split, some-length}
-use Rattle.book.proofs.ClassWords.{series-words, class-good, series-good, months-rise, class-words, numbers-rise}
+use Rattle.book.proofs.ClassWords.{class-good, series-good, class-words, numbers-rise}
 use Rattle.book.proofs.Runs.{bookWords, run-part, run-word, strikes-good, strikes-part}
 use Rattle.place.specs.declared.lookup.Part.{Part}
 use Rattle.place.specs.Search.{firstAt, isFrom, holdsAt, figuresAt, strikesAfter, strikesIn}
-use Rattle.place.proofs.Heads.{book-good, book-is}
-use Rattle.place.proofs.Words.{isKeyed, class-said}
+use Rattle.place.proofs.Heads.{book-good, book-form, book-is}
+use Rattle.place.proofs.Words.{isKeyed}
 use Rattle.place.proofs.Laid.{first-after, stops-anywhere, sought, found, months-laid, strikes-laid, no-class, classes-laid}
 
 -- the three words of legal figures say them
@@ -45,18 +46,15 @@ figures-said r t at ws x y z =
     let d : r .half ≤ 2 = leb→le (r .half) 2 (search ands) in
     let e : r .close ≤ 999999 = leb→le (r .close) 999999 (search ands) in
     let g : r .volume ≤ 9999999 = leb→le (r .volume) 9999999 (search ands) in
-    let class = class-said (r .number) (r .dollar) (r .half) (omega arith) in
-    let number : field (getD ws at 0) 0 14 ≡ r .number = ap (λ (w : ℕ). field w 0 14) x ∙ class .0 in
+    let class = class-fields (getD ws at 0) (r .number) (r .dollar) (r .half) (omega arith) (sym x) in
     let close : field (getD ws (at + 1) 0) 0 20 ≡ r .close = omega arith in
     let volume : field (getD ws (at + 2) 0) 0 24 ≡ r .volume = omega arith in
-    let dollar : field (getD ws at 0) 14 2 ≡ r .dollar = ap (λ (w : ℕ). field w 14 2) x ∙ class .1 .0 in
-    let half : field (getD ws at 0) 16 2 ≡ r .half = ap (λ (w : ℕ). field w 16 2) x ∙ class .1 .1 in
-    λ i. record { number = number i; close = close i; volume = volume i; dollar = dollar i; half = half i }
+    λ i. record { number = class .0 i; close = close i; volume = volume i; dollar = class .1 i; half = class .2 i }
 
 -- ---- the strikes of a month in the words of series
 
 module _
-    (now m : ℕ) (ss : List Series) (good : T (areSeries now ss)) (o : T (ordered (λ s t. leb (s .month) (t .month)) ss))
+    (now m : ℕ) (ss : List Series) (good : T (areSeries now ss))
     (legal : T (every isLegal (seriesWords 0 ss []))) where
   abbrev words : List ℕ
   words = map packed (seriesWords 0 ss [])
@@ -80,7 +78,7 @@ module _
   strikes-part-in true e =
       let strikes = map strikeWord (inMonth m ss) in
       let lead = early ++ (Expiration m ∷ []) in
-      let parts : seriesWords 0 ss [] ≡ lead ++ (strikes ++ late) = series-words now m ss good ∙ rw e (simp append-assoc) in
+      let parts : seriesWords 0 ss [] ≡ lead ++ (strikes ++ late) = series-words now m ss good [] ∙ rw e (simp append-assoc) in
       let long : length (map packed lead) ≡ length early + 1 = simp (length-map, length-append) (omega arith) in
       let after : drop (length early + 1) words ≡ map packed (strikes ++ late) =
       ap (λ (l : List Word). drop (length early + 1) (map packed l)) parts
@@ -104,11 +102,11 @@ module _
   strikes-found =
       (λ i. strikesAfter (holdsAt 10 m words (at-early i)) (at-early i) words)
       ∙ ap (λ (b : Bool). strikesAfter b (length early) words)
-      (found monthOf 5 (λ ts. seriesWords 0 ts []) months-laid m ss (three-parts monthOf m ss o) legal)
+      (found monthOf 5 (λ ts. seriesWords 0 ts []) months-laid m ss (month-parts now m ss good) legal)
       ∙ strikes-part-in (some (isEqual monthOf m) ss) refl
     where
       at-early : firstAt (isFrom 5 10 m) words ≡ length early
-      at-early = sought monthOf 5 (λ ts. seriesWords 0 ts []) months-laid m ss (three-parts monthOf m ss o) legal
+      at-early = sought monthOf 5 (λ ts. seriesWords 0 ts []) months-laid m ss (month-parts now m ss good) legal
 
 -- ---- classes
 
@@ -126,7 +124,7 @@ module _ (ws : List ℕ) (b : T (isBook ws)) where
   pub legal : T (every isLegal (classesWords (facts .classes) []))
   legal =
       true-T (every isLegal (classesWords (facts .classes) []))
-      (words-legal (facts .now) (facts .classes) (well (length ws) facts (book-good ws b) .limits))
+      (words-legal (facts .now) (facts .classes) (book-form ws b .limits))
 
   pub body : (end : ℕ) → end ≡ used facts → take (end - 1) (drop 1 ws) ≡ map packed (classesWords (facts .classes) [])
   body end e =
@@ -226,7 +224,6 @@ module _ (ws : List ℕ) (b : T (isBook ws)) where
         let p =
         ap (strikesIn m) (series-part from end e d)
         ∙ strikes-found (facts .now) m (class facts c .series) (series-good (length ws) facts c (book-good ws b) o)
-        (months-rise (length ws) facts c (book-good ws b) o)
         (every-split isLegal series upper tail-legal .0) in
         (omega (arith, ap (λ (x : Part). x .from) p), omega (arith, ap (λ (x : Part). x .to) p))
 

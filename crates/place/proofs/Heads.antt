@@ -1,6 +1,6 @@
 -- A book is the layout of its facts, and its first word says the current month and the words used: by the fields of a head word. Assumes nothing.
-use Prim.Native.Nat.{ℕ, _*_, _^_, _≤_}
-use mathlib.Core.Path.{_≡_, refl, ap, _∙_}
+use Prim.Native.Nat.{ℕ, _≤_}
+use mathlib.Core.Path.{_≡_, refl, sym}
 use mathlib.Core.List.{List, [], _∷_}
 use native.Mathlib.Omega.{arith}
 use lib.ListN.{length, getD}
@@ -8,17 +8,20 @@ use lib.Dec.{T, leb→le}
 use Rattle.word.specs.declared.codec.Word.the-variants.{Head}
 use Rattle.word.specs.Field.{field}
 use Rattle.word.specs.Codec.{packed}
-use Rattle.word.proofs.Fields.{field-packed}
+use Rattle.word.proofs.Words.{head-fields}
 use Rattle.book.specs.Layout.{used, layout, factsOf, classesWords}
 use Rattle.book.specs.Books.{isWellFormed, isBook}
 use Rattle.book.proofs.Tests.{ands}
-use Rattle.book.proofs.Forms.{well}
+use Rattle.book.proofs.Forms.{Well, well}
 use Rattle.book.proofs.Layouts.{book-facts}
 use Rattle.book.proofs.Runs.{run-word, used-within}
 
 module _ (ws : List ℕ) (b : T (isBook ws)) where
   pub book-good : T (isWellFormed (length ws) (factsOf ws))
   book-good = book-facts ws b .0
+
+  pub book-form : Well (length ws) (factsOf ws)
+  book-form = well (length ws) (factsOf ws) book-good
 
   pub book-is : layout (length ws) (factsOf ws) ≡ ws
   book-is = book-facts ws b .1
@@ -28,7 +31,7 @@ module _ (ws : List ℕ) (b : T (isBook ws)) where
 
   pub book-long : (1 ≤ length ws) × (length ws ≤ 65535)
   book-long =
-      let w = well (length ws) (factsOf ws) book-good .run in
+      let w = book-form .run in
       (leb→le 1 (length ws) (search ands), leb→le (length ws) 65535 (search ands))
 
   head-is : getD ws 0 0 ≡ packed (Head (factsOf ws .now) (used (factsOf ws)))
@@ -37,15 +40,9 @@ module _ (ws : List ℕ) (b : T (isBook ws)) where
       let e = run-word (length ws) f 0 0 [] (Head (f .now) (used f) ∷ classesWords (f .classes) []) refl refl in
       rw book-is at e
 
-  pub head-month : field (getD ws 0 0) 0 10 ≡ factsOf ws .now
-  head-month =
-      let f = factsOf ws in
-      let l : f .now ≤ 1023 = leb→le (f .now) 1023 (well (length ws) f book-good .month) in
-      ap (λ (w : ℕ). field w 0 10) head-is ∙ omega (arith, book-room, book-long)
+  pub book-month : factsOf ws .now ≤ 1023
+  book-month = leb→le (factsOf ws .now) 1023 (book-form .month)
 
-  pub head-used : field (getD ws 0 0) 10 16 ≡ used (factsOf ws)
-  head-used =
-      let f = factsOf ws in
-      let l : f .now ≤ 1023 = leb→le (f .now) 1023 (well (length ws) f book-good .month) in
-      field-packed (getD ws 0 0) (f .now) (used f) (1 * 2 ^ 2) 10 16 (head-is ∙ omega arith)
-      (omega (arith, book-room, book-long)) (omega arith)
+  pub head-says : (field (getD ws 0 0) 0 10 ≡ factsOf ws .now) × (field (getD ws 0 0) 10 16 ≡ used (factsOf ws))
+  head-says =
+      head-fields (getD ws 0 0) (factsOf ws .now) (used (factsOf ws)) (omega (arith, book-month, book-room, book-long)) (sym head-is)

@@ -11,18 +11,19 @@ use borrow.Author.Tests.{not-true, eq-eqb, lt-ltb, le-ltb, lt-leb}
 use Rattle.word.specs.declared.codec.Word.{Word}
 use Rattle.word.specs.declared.codec.Word.the-variants.{Class, Close, Volume, Expiration}
 use Rattle.word.specs.Codec.{isLegal, packed}
+use Rattle.word.proofs.Words.{kindIn}
 use Rattle.rule.specs.Lists.{every, some, only}
 use Rattle.book.specs.Facts.{Series, OpenClass, number}
 use Rattle.book.specs.Layout.{strikeWord, expirationUnless, seriesWords, classesWords}
 use Rattle.book.proofs.Tests.{and-intro, ands, T-true}
 use Rattle.book.proofs.Lists.{every-imply, every-map}
-use Rattle.book.proofs.Parts.{every-kept, isUnder, isEqual, isOver}
-use Rattle.book.proofs.Splits.{every-split, not-under, leads, some-leads}
-use Rattle.book.proofs.Expirations.{monthOf, strikeOf}
-use Rattle.book.proofs.ClassWords.{classes-apart, series-apart}
+use Rattle.book.proofs.Parts.{every-kept, isUnder, isEqual, isOver, not-under}
+use Rattle.book.proofs.Splits.{every-split, leads, some-leads}
+use Rattle.book.proofs.Expirations.{monthOf, strikeOf, series-apart}
+use Rattle.book.proofs.ClassWords.{classes-apart}
 use Rattle.place.specs.Search.{firstAt, isFrom, holdsAt}
 use Rattle.place.proofs.Firsts.{first-beyond}
-use Rattle.place.proofs.Words.{kindIn, keyIn, widthOf, isKeyed, key-said, from-packed}
+use Rattle.place.proofs.Words.{keyIn, widthOf, isKeyed, key-said, from-packed}
 
 -- ---- packed words
 
@@ -99,16 +100,20 @@ module _ {A : Type 0} (key : A → ℕ) (kind : ℕ) (lay : List A → List Word
     abbrev others : List A
     others = only (isEqual key k) xs ++ only (isOver key k) xs
 
+    from-there : T (every (λ x. leb k (key x)) others)
+    from-there =
+        not-under key k (only (isEqual key k) xs) (only (isOver key k) xs) (every-kept (isEqual key k) xs) (every-kept (isOver key k) xs)
+
     two-parts : lay xs ≡ under ++ lay others
     two-parts =
-        ap lay parts ∙ laid .apart k (only (isUnder key k) xs) others (every-kept (isUnder key k) xs) (not-under key k xs)
+        ap lay parts ∙ laid .apart k (only (isUnder key k) xs) others (every-kept (isUnder key k) xs) from-there
 
     -- the search stops where the words of the keys below end
     pub sought : firstAt (isFrom kind (widthOf kind) k) (map packed (lay xs)) ≡ length under
     sought =
         ap (λ (l : List Word). firstAt (isFrom kind (widthOf kind) k) (map packed l)) two-parts
         ∙ first-after kind k under (lay others) (rw two-parts at legal)
-        (laid .passed k (only (isUnder key k) xs) (every-kept (isUnder key k) xs)) (stops-there k others (not-under key k xs))
+        (laid .passed k (only (isUnder key k) xs) (every-kept (isUnder key k) xs)) (stops-there k others from-there)
 
     -- .. and the word there holds the key exactly where one of the list has it
     pub found : holdsAt (widthOf kind) k (map packed (lay xs)) (length under) ≡ some (isEqual key k) xs
@@ -147,7 +152,7 @@ months-laid = record {
   begins = λ s ss. rw (eqb·zero-suc (s .month));
   kinds = λ s. refl;
   keys = λ s. refl;
-  apart = λ k xs ys a b. series-apart k 0 xs ys [] a b (omega arith);
+  apart = λ k xs ys a b. series-apart 0 k xs ys [] (omega arith) a b;
   passed = λ k xs t.
       every-series (λ w. not (isKeyed 5 k w)) 0 xs []
       (every-imply (λ s. ltb (s .month) k) (λ s. not (isKeyed 5 k (strikeWord s)) && not (isKeyed 5 k (Expiration (s .month))))

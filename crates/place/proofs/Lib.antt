@@ -1,3 +1,4 @@
+-- The laws that the functions' proofs and other crates cite.
 pub mod Firsts
 pub mod Heads
 pub mod Words

@@ -13,16 +13,16 @@ use Rattle.word.specs.declared.codec.Word.the-variants.{Head, Class, Close, Vol
 use Rattle.word.specs.Field.{field}
 use Rattle.word.specs.Caps.{own}
 use Rattle.word.specs.Codec.{isLegal, packed, Fits, kindOf}
-use Rattle.word.proofs.Words.{legal-fits}
+use Rattle.word.proofs.Words.{kindIn, kind-packed, class-fields}
 use Rattle.rule.specs.Lists.{every}
 use Rattle.book.specs.Facts.{Series, OpenClass, Facts, sum, owned}
 use Rattle.book.specs.Layout.{strikeWord, expirationUnless, seriesWords, classesWords, used, factsOf}
 use Rattle.book.specs.Books.{isBook}
-use Rattle.book.proofs.Tests.{ands, T-true}
+use Rattle.book.proofs.LegalWords.{fits}
+use Rattle.book.proofs.Tests.{ands}
 use Rattle.book.proofs.Forms.{well}
 use Rattle.place.specs.Search.{firstAt, isFrom}
 use Rattle.place.proofs.Heads.{book-good, book-room}
-use Rattle.place.proofs.Words.{kind-said, class-said}
 use Rattle.place.proofs.Firsts.{first-most}
 use Rattle.place.proofs.Found.{legal, body}
 
@@ -45,25 +45,25 @@ addedBy p (Expiration m) = 0
 addedBy p (Strike h g a b) = 0
 addedBy p Invalid = 0
 
-added-packed : (p : ℕ) (x : Word) → isLegal x ≡ true → added p (packed x) ≡ addedBy p x
-added-packed p (Head now k) l = rw (kind-said (Head now k) l)
-added-packed p (Class n d e) l =
-    rw (kind-said (Class n d e) l) (go (eqb p 1) (legal-fits (Class n d e) l))
+added-packed : (p : ℕ) (x : Word) → Fits x → added p (packed x) ≡ addedBy p x
+added-packed p x small = rw (kind-packed x (packed x) small refl) (go x small)
   where
-    go :
-        (b : Bool) → Fits (Class n d e)
-        → own (field (packed (Class n d e)) (cond {A = ℕ} b 14 16) 2) ≡ own (cond {A = ℕ} b d e)
-    go true fits = ap own (class-said n d e fits .1 .0)
-    go false fits = ap own (class-said n d e fits .1 .1)
-added-packed p (Close price) l = rw (kind-said (Close price) l)
-added-packed p (Volume v) l = rw (kind-said (Volume v) l)
-added-packed p (Expiration m) l = rw (kind-said (Expiration m) l)
-added-packed p (Strike h g a b) l = rw (kind-said (Strike h g a b) l)
-added-packed p Invalid l = rw (kind-said Invalid l)
+    go : (y : Word) → Fits y → cond {A = ℕ} (eqb (kindIn y) 2) (own (field (packed y) (lowOf p) 2)) 0 ≡ addedBy p y
+    go (Head now k) f = refl
+    go (Class n d e) f = in-program (eqb p 1)
+      where
+        in-program : (b : Bool) → own (field (packed (Class n d e)) (cond {A = ℕ} b 14 16) 2) ≡ own (cond {A = ℕ} b d e)
+        in-program true = ap own (class-fields (packed (Class n d e)) n d e f refl .1)
+        in-program false = ap own (class-fields (packed (Class n d e)) n d e f refl .2)
+    go (Close price) f = refl
+    go (Volume v) f = refl
+    go (Expiration m) f = refl
+    go (Strike h g a b) f = refl
+    go Invalid f = refl
 
 sum-packed : (p : ℕ) (ws : List Word) → T (every isLegal ws) → sum (added p) (map packed ws) ≡ sum (addedBy p) ws
 sum-packed p [] l = refl
-sum-packed p (w ∷ ws) l = λ i. added-packed p w (T-true (isLegal w) (search ands)) i + sum-packed p ws (search ands) i
+sum-packed p (w ∷ ws) l = λ i. added-packed p w (fits w (search ands)) i + sum-packed p ws (search ands) i
 
 sum-series : (p q : ℕ) (ss : List Series) (rest : List Word) → sum (addedBy p) (seriesWords q ss rest) ≡ sum (addedBy p) rest
 sum-series p q [] rest = refl

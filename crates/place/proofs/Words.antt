@@ -1,5 +1,5 @@
 -- The tests of a search on packed words: by the kind of a word and its lowest field. Assumes nothing.
-use Prim.Native.Nat.{ℕ, _+_, _*_, _^_, _≤_, _<_}
+use Prim.Native.Nat.{ℕ, _≤_, _<_}
 use mathlib.Core.Path.{_≡_, refl, sym, ap, _∙_}
 use mathlib.Core.Bool.{Bool, true, false, cond, _&&_}
 use native.Mathlib.Omega.{arith}
@@ -9,22 +9,12 @@ use Rattle.word.specs.declared.codec.Word.{Word}
 use Rattle.word.specs.declared.codec.Word.the-variants.{Head, Class, Close, Volume, Expiration, Strike, Invalid}
 use Rattle.word.specs.Field.{field}
 use Rattle.word.specs.Codec.{isLegal, packed, Fits, kindOf}
-use Rattle.word.proofs.Fields.{field-packed}
-use Rattle.word.proofs.Words.{legal-fits}
+use Rattle.word.proofs.Words.{legal-fits, kindIn, kind-packed}
 use Rattle.place.specs.Search.{isFrom}
 
 -- a word at least a number of a higher kind is not of the kind
 pub higher-kind : (kind width key bits w : ℕ) → kind < kindOf bits → bits ≤ w → isFrom kind width key w ≡ false
 higher-kind kind width key bits w h l = rw (ne-eqb (kindOf w) kind (λ e. omega arith))
-
-abbrev pub kindIn : Word → ℕ
-kindIn (Head now used) = 1
-kindIn (Class number dollar half) = 2
-kindIn (Close price) = 3
-kindIn (Volume contracts) = 4
-kindIn (Expiration month) = 5
-kindIn (Strike h ground put call) = 6
-kindIn Invalid = 0
 
 -- the lowest field
 abbrev pub keyIn : Word → ℕ
@@ -45,15 +35,6 @@ widthOf kind =
     (cond {A = ℕ} (eqb kind 4) 24
     (cond {A = ℕ} (eqb kind 5) 10 15))))
 
-kind-packed : (x : Word) → Fits x → kindOf (packed x) ≡ kindIn x
-kind-packed (Head now used) fits = omega arith
-kind-packed (Class number dollar half) fits = omega arith
-kind-packed (Close price) fits = omega arith
-kind-packed (Volume contracts) fits = omega arith
-kind-packed (Expiration month) fits = omega arith
-kind-packed (Strike h ground put call) fits = omega arith
-kind-packed Invalid fits = omega arith
-
 key-packed : (x : Word) → Fits x → field (packed x) 0 (widthOf (kindIn x)) ≡ keyIn x
 key-packed (Head now used) fits = omega arith
 key-packed (Class number dollar half) fits = omega arith
@@ -62,22 +43,6 @@ key-packed (Volume contracts) fits = omega arith
 key-packed (Expiration month) fits = omega arith
 key-packed (Strike h ground put call) fits = omega arith
 key-packed Invalid fits = omega arith
-
-pub kind-said : (x : Word) → isLegal x ≡ true → kindOf (packed x) ≡ kindIn x
-kind-said x legal = kind-packed x (legal-fits x legal)
-
-pub class-said :
-    (n d e : ℕ) → Fits (Class n d e)
-    → (field (packed (Class n d e)) 0 14 ≡ n)
-    × ((field (packed (Class n d e)) 14 2 ≡ d) × (field (packed (Class n d e)) 16 2 ≡ e))
-class-said n d e fits =
-    let w = packed (Class n d e) in (
-      omega arith,
-      (
-        field-packed w n d (e + 2 * 2 ^ 12) 14 2 (omega arith) (omega arith) (omega arith),
-        field-packed w (n + d * 2 ^ 14) e (2 * 2 ^ 10) 16 2 (omega arith) (omega arith) (omega arith),
-      ),
-    )
 
 -- a word of the kind whose lowest field holds at least the key
 abbrev pub isKeyed : ℕ → ℕ → Word → Bool
@@ -90,7 +55,7 @@ pub from-packed :
     (kind key : ℕ) (x : Word) → isLegal x ≡ true
     → isFrom kind (widthOf kind) key (packed x) ≡ isKeyed kind key x
 from-packed kind key x legal =
-    ap (λ (k : ℕ). eqb k kind && leb key (field (packed x) 0 (widthOf kind))) (kind-said x legal)
+    ap (λ (k : ℕ). eqb k kind && leb key (field (packed x) 0 (widthOf kind))) (kind-packed x (packed x) (legal-fits x legal) refl)
     ∙ go (eqb (kindIn x) kind) refl
   where
     go : (b : Bool) → eqb (kindIn x) kind ≡ b → (b && leb key (field (packed x) 0 (widthOf kind))) ≡ (b && leb key (keyIn x))

@@ -3,21 +3,20 @@ use Prim.Native.Nat.{ℕ, suc, _≤_, _<_}
 use mathlib.Core.Path.{_≡_, refl, ap, _∙_}
 use mathlib.Core.Bool.{Bool, true, false, cond, not, _&&_}
 use mathlib.Core.List.{List, [], _∷_, map}
-use mathlib.Core.Logic.{inl, inr}
 use native.Mathlib.Nat.{le-refl}
 use native.Mathlib.Omega.{arith}
-use lib.Dec.{T, eqb, ltb, ltb→lt, eqb→eq}
+use lib.Dec.{T, eqb}
 use borrow.Author.Tests.{eqb-true, eqb-false, eq-eqb, ne-eqb}
-use Rattle.word.specs.Limits.{isMonth}
 use Rattle.word.specs.declared.codec.Word.{Word}
 use Rattle.word.specs.declared.codec.Word.the-variants.{Expiration}
-use Rattle.word.specs.Codec.{isLegal, packed}
+use Rattle.word.specs.Codec.{packed}
 use Rattle.rule.specs.Lists.{every, only}
 use Rattle.book.specs.Facts.{Series, isMarked, precedes}
 use Rattle.book.specs.Layout.{strikeWord, expirationUnless, seriesWords}
 use Rattle.book.specs.Books.{rises, isSeries}
-use Rattle.book.proofs.Tests.{and-intro, ands, T-true}
-use Rattle.book.proofs.Alternatives.{or-cases}
+use Rattle.book.proofs.Tests.{ands}
+use Rattle.book.proofs.LegalWords.{strike-legal, month-legal}
+use Rattle.book.proofs.SeriesLaws.{months-rise}
 use Rattle.book.proofs.Forms.{areSeries}
 use Rattle.removal.specs.declared.marks.Bounds.{Bounds}
 use Rattle.removal.specs.declared.rules.Rule.{Rule}
@@ -69,23 +68,13 @@ unmet {p} {s} a e = go (a .order) (eqb-false p (suc (s .month)) e)
     go : p ≤ suc (s .month) → (p ≡ suc (s .month) → ⊥) → p ≤ s .month
     go l n = omega (arith, n)
 
-months-rise : (s t : Series) → T (precedes s t) → s .month ≤ t .month
-months-rise s t p =
-    elim (or-cases (ltb (s .month) (t .month)) (eqb (s .month) (t .month) && ltb (s .strike) (t .strike)) p) [
-      | inl a ↦ omega (arith, ltb→lt (s .month) (t .month) a)
-      | inr a ↦ omega (arith, eqb→eq (s .month) (t .month) (search ands))
-    ]
-
 module _ (now : ℕ) where
   placed-one : (p : ℕ) (s : Series) → p ≤ suc (s .month) → T (isSeries now s) → Placed p s
-  placed-one p s l t =
-      let strike : T (isLegal (strikeWord s)) = search (ands, and-intro) in
-      let month : T (isMonth (s .month)) = search ands depth 12 in
-      record {
-        order = l;
-        expiration = said-packed (Expiration (s .month)) (T-true (isMonth (s .month)) month);
-        strike = said-packed (strikeWord s) (T-true (isLegal (strikeWord s)) strike);
-      }
+  placed-one p s l t = record {
+    order = l;
+    expiration = said-packed (Expiration (s .month)) (month-legal now s t);
+    strike = said-packed (strikeWord s) (strike-legal now s t);
+  }
 
   placed-from :
       (p : ℕ) (s : Series) (ss : List Series) → p ≤ suc (s .month) → T (every (isSeries now) (s ∷ ss))

@@ -10,12 +10,13 @@ use lib.ListN.{length}
 use borrow.Author.Tests.{eqb-true, eq-eqb, ne-eqb}
 use Rattle.word.specs.declared.codec.Word.{Word}
 use Rattle.word.specs.declared.codec.Word.the-variants.{Class, Close, Volume, Expiration}
-use Rattle.word.specs.Codec.{isLegal, packed}
+use Rattle.word.specs.Codec.{packed}
 use Rattle.rule.specs.Lists.{every, only}
 use Rattle.book.specs.Facts.{Series, OpenClass, withSeries, sum}
 use Rattle.book.specs.Layout.{strikeWord, expirationUnless, seriesWords, figuresWords, classesWords}
-use Rattle.book.specs.Books.{areFigures, isClass}
-use Rattle.book.proofs.Tests.{and-intro, ands, T-true}
+use Rattle.book.specs.Books.{isClass}
+use Rattle.book.proofs.Tests.{ands}
+use Rattle.book.proofs.LegalWords.{figures-legal}
 use Rattle.book.proofs.Forms.{areSeries}
 use Rattle.removal.specs.declared.marks.Bounds.{Bounds}
 use Rattle.removal.specs.declared.rules.Rule.{Rule}
@@ -212,14 +213,8 @@ module _ (rule : Rule) where
 
     figures : (x : OpenClass) → T (isClass now x) → Figures x
     figures x t =
-        let class = Class (x .figures .number) (x .figures .dollar) (x .figures .half) in
-        let f : T (areFigures (x .figures)) = search ands in
-        record {
-          class = said-packed class (T-true (isLegal class) (search (ands, and-intro)));
-          close = said-packed (Close (x .figures .close)) (T-true (isLegal (Close (x .figures .close))) (search ands depth 12));
-          volume =
-              said-packed (Volume (x .figures .volume)) (T-true (isLegal (Volume (x .figures .volume))) (search ands depth 12));
-        }
+        let l = figures-legal (x .figures) (search ands) in
+        record { class = said-packed _ (l .0); close = said-packed _ (l .1 .0); volume = said-packed _ (l .1 .1) }
 
     leaves-figures :
         (x : OpenClass) → Figures x → (k : Progress) (ws left : List Word) (n : ℕ) → Leaves (settled k) ws left n

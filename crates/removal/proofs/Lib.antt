@@ -1,3 +1,4 @@
+-- The laws that the functions' proofs cite.
 pub mod Said
 pub mod Parts
 pub mod Moving

@@ -1,14 +1,15 @@
 -- What a word says by its kind, unchecked, and what follows of a choice by kind: by cases on the tests and on the words. Assumes nothing.
 use Prim.Native.Nat.{ℕ}
-use mathlib.Core.Path.{_≡_, refl, sym, ap, _∙_}
-use mathlib.Core.Bool.{Bool, true, false, cond, _&&_}
-use lib.Dec.{eqb}
+use mathlib.Core.Path.{_≡_, refl, ap}
+use mathlib.Core.Bool.{Bool, true, false, cond}
+use lib.Dec.{T, eqb}
 use borrow.Author.Tests.{eqb-true, ne-eqb}
 use Rattle.word.specs.Field.{field}
 use Rattle.word.specs.declared.codec.Word.{Word}
 use Rattle.word.specs.declared.codec.Word.the-variants.{Head, Class, Close, Volume, Expiration, Strike, Invalid}
-use Rattle.word.specs.Codec.{isLegal, packed, fieldsAs, kindOf, reading}
-use Rattle.word.proofs.Words.{reading-packed}
+use Rattle.word.specs.Codec.{isLegal, packed, fieldsAs, kindOf}
+use Rattle.word.proofs.Words.{fields-packed}
+use Rattle.book.proofs.LegalWords.{fits}
 use Rattle.removal.specs.Marks.{said, byKind}
 
 pub choose : {A : Type 0} (P : A → Type 0) (b : Bool) (x y : A) → (b ≡ true → P x) → (b ≡ false → P y) → P (cond b x y)
@@ -20,16 +21,9 @@ unfolding said
 said-is w k e = ap (λ (i : ℕ). fieldsAs i w) e
 
 -- in a book a word says what was packed
-pub said-packed : (x : Word) → isLegal x ≡ true → said (packed x) ≡ x
-unfolding said reading
-said-packed x legal = go (isLegal y && eqb (packed y) (packed x)) (reading-packed x legal)
-  where
-    y : Word
-    y = fieldsAs (kindOf (packed x)) (packed x)
-
-    go : (b : Bool) → cond b y Invalid ≡ x → y ≡ x
-    go true e = e
-    go false e = let z : true ≡ false = sym legal ∙ sym (ap isLegal e) in cc
+pub said-packed : (x : Word) → T (isLegal x) → said (packed x) ≡ x
+unfolding said
+said-packed x legal = fields-packed x (fits x legal)
 
 module _ {A : Type 0} (expiration : ℕ → A) (strike : (h ground put call : ℕ) → A) (other : A) where
   -- a word that is no strike, and no expiration that makes a difference

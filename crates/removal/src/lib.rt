@@ -13,27 +13,13 @@ ghost use Rattle.removal.specs.Compaction.{RemovedFrom};
 use crate::compaction::compact;
 use crate::gap::close_gap;
 use crate::rules::Rule;
+use place::head;
 use word::codec::head_word;
-use word::field::field_of;
 
 pub mod compaction;
 pub mod gap;
 pub mod marks;
 pub mod rules;
-
-fn current_month(run: &[u32]) -> u32
-    requires { ⌜ T (isBook (now run)) ⌝ }
-    ensures { λ r. ⌜ r ≡ factsOf (now (run .entry)) .now ⌝ }
-{
-    field_of(run[0], 0, 10)
-}
-
-fn used_words(run: &[u32]) -> usize
-    requires { ⌜ T (isBook (now run)) ⌝ }
-    ensures { λ r. ⌜ r ≡ used (factsOf (now (run .entry))) ⌝ }
-{
-    field_of(run[0], 10, 16) as usize
-}
 
 // Compacts the words from `from` to `to`, moves those after them down, up to `end`, and writes the head. Returns how many strikes are removed.
 fn remove(run: &mut [u32], from: usize, to: usize, end: usize, month: u32, rule: Rule) -> usize
@@ -54,7 +40,7 @@ pub fn expire(run: &mut [u32], m: u32)
     requires { ⌜ T (isBook (now run)) × (m ≤ 1023) ⌝ }
     ensures { λ _. ⌜ now (run .exit) ≡ layout (length (now (run .entry))) (changed (callM m) (factsOf (now (run .entry)))) ⌝ }
 {
-    let end = used_words(run);
+    let end = head::used(run);
     let rule = Rule::From(m);
     remove(run, 1, end, end, m, rule);
 }
@@ -64,8 +50,8 @@ pub fn delist(run: &mut [u32], from: usize, to: usize, m: u32, h: u32)
     requires { ⌜ T (isBook (now run)) × ((from ≤ to) × (to ≤ used (factsOf (now run)))) ⌝ }
     ensures { λ _. ⌜ ((c : ℕ) → T (isOpen c (factsOf (now (run .entry)) .classes)) → from ≡ classPlace c (factsOf (now (run .entry))) + 3 → to ≡ from + length (seriesWords 0 (class (factsOf (now (run .entry))) c .series) []) → now (run .exit) ≡ layout (length (now (run .entry))) (changed (callX c m h) (factsOf (now (run .entry))))) ⌝ }
 {
-    let end = used_words(run);
-    let month = current_month(run);
+    let end = head::used(run);
+    let month = head::current(run);
     let rule = Rule::Except(m, h);
     remove(run, from, to, end, month, rule);
 }
@@ -75,8 +61,8 @@ pub fn review(run: &mut [u32], from: usize, to: usize, close: u32) -> usize
     requires { ⌜ T (isBook (now run)) × ((from ≤ to) × (to ≤ used (factsOf (now run)))) ⌝ }
     ensures { λ r. ⌜ ((c : ℕ) → T (isOpen c (factsOf (now (run .entry)) .classes)) → from ≡ classPlace c (factsOf (now (run .entry))) + 3 → to ≡ from + length (seriesWords 0 (class (factsOf (now (run .entry))) c .series) []) → close ≡ class (factsOf (now (run .entry))) c .figures .close → (r ≡ acceptedValue (callR c) (factsOf (now (run .entry)))) × (now (run .exit) ≡ layout (length (now (run .entry))) (changed (callR c) (factsOf (now (run .entry)))))) ⌝ }
 {
-    let end = used_words(run);
-    let month = current_month(run);
+    let end = head::used(run);
+    let month = head::current(run);
     let rule = Rule::Review(close);
     remove(run, from, to, end, month, rule)
 }

@@ -1,10 +1,10 @@
 // Which strikes stay.
 ghost use mathlib.Core.Path.{_≡_};
-ghost use Rattle.rule.specs.Spacing.{apart};
 ghost use Rattle.removal.specs.declared.rules.Rule.the-variants.{Review};
 ghost use Rattle.removal.specs.Compaction.{seriesIn, stays};
 use crate::marks::Bounds;
 use crate::marks::is_marked;
+use rule::spacing::distance;
 use word::field::field_of;
 use word::strike::Strike;
 
@@ -13,15 +13,6 @@ pub enum Rule {
     From(u32),
     Except(u32, u32),
     Review(u32),
-}
-
-fn distance(a: u32, b: u32) -> u32
-    ensures { λ r. ⌜ r ≡ apart a b ⌝ }
-{
-    if a < b {
-        return b - a;
-    }
-    a - b
 }
 
 // Whether the strike of the word w stays in the review.

@@ -1,6 +1,6 @@
 // The distance that a new strike keeps from those of its expiration.
 ghost use mathlib.Core.Path.{_≡_};
-ghost use Prim.Native.Nat.{_<_, _≤_};
+ghost use Prim.Native.Nat.{_<_};
 ghost use Rattle.rule.specs.Spacing.{apart, crowds, clears, standingIn};
 ghost use Rattle.rule.specs.Judgement.{Judged};
 use crate::terms::Setting;
@@ -8,7 +8,7 @@ use crate::terms::is_long;
 use word::field::field_of;
 use word::strike::Strike;
 
-fn distance(a: u32, b: u32) -> u32
+pub fn distance(a: u32, b: u32) -> u32
     ensures { λ r. ⌜ r ≡ apart a b ⌝ }
 {
     if a < b {

@@ -17,12 +17,14 @@ use Rattle.rule.specs.Lists.{every}
 use Rattle.book.specs.Facts.{OpenClass, Facts, number, capOf, owned, wordsTaken}
 use Rattle.book.specs.Layout.{classesWords, used, layout, factsOf}
 use Rattle.book.specs.Books.{rises, isClass, isWellFormed, isBook}
+use Rattle.word.proofs.Words.{head-fields}
+use Rattle.book.proofs.LegalWords.{fits}
 use Rattle.book.proofs.Tests.{and-intro, ands, true-T, same-bool}
 use Rattle.book.proofs.Layouts.{used-taken, book-facts, book-exactly}
 use Rattle.scan.specs.Tests.{isZero, isHeadWord}
 use Rattle.scan.specs.Stretches.{leads, Classes}
 use Rattle.scan.proofs.Tests.{refuted, above-not}
-use Rattle.scan.proofs.Words.{head-packed, head-fields}
+use Rattle.scan.proofs.Words.{head-packed, head-top}
 use Rattle.scan.proofs.Zeros.{zeros-replicate, replicate-zeros}
 
 -- what the head says: the month, and how many words are used
@@ -71,13 +73,15 @@ module _ (ws : List ℕ) (f : Facts) (good : T (isWellFormed (length ws) f)) (la
       let long : T (isLength n) = search ands in
       let small : n ≤ 65535 = leb→le n 65535 (search ands) in
       let month : T (isMonth (f .now)) = search ands in
-      let fits : u ≤ n = omega (arith, used-taken f, leb→le (wordsTaken f) n (search ands)) in
+      let room : u ≤ n = omega (arith, used-taken f, leb→le (wordsTaken f) n (search ands)) in
       let low : T (leb 1 u) = le→leb 1 u (omega arith) in
       let high : T (leb u 65535) = le→leb u 65535 (omega arith) in
-      let within : T (leb u n) = le→leb u n fits in
+      let within : T (leb u n) = le→leb u n room in
       let legal : T (isLegal (Head (f .now) u)) = search and-intro in
-      let fields = head-fields (getD ws 0 0) (f .now) u legal (sym (ap (λ (l : List ℕ). getD l 0 0) words)) in
-      let top = fields .2 in
+      let fit = fits (Head (f .now) u) legal in
+      let first : packed (Head (f .now) u) ≡ getD ws 0 0 = sym (ap (λ (l : List ℕ). getD l 0 0) words) in
+      let fields = head-fields (getD ws 0 0) (f .now) u fit first in
+      let top = head-top (getD ws 0 0) (f .now) u fit first in
       let taken : take (u - 1) (drop 1 ws) ≡ cs =
       ap (λ (l : List ℕ). take (u - 1) (drop 1 l)) words ∙ take-at cs zs (u - 1) (omega arith) in
       let rest : drop u ws ≡ zs = ap (drop u) words ∙ drop-at cs zs (length (classesWords xs [])) same in

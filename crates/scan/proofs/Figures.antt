@@ -16,10 +16,12 @@ use Rattle.rule.specs.Lists.{every}
 use Rattle.book.specs.Facts.{Series, OpenClass, number, precedes, capOf, owned}
 use Rattle.book.specs.Layout.{seriesWords, classesWords}
 use Rattle.book.specs.Books.{rises, isSeries, areFigures, isClass}
+use Rattle.word.proofs.Words.{class-fields}
+use Rattle.book.proofs.LegalWords.{fits}
 use Rattle.book.proofs.Tests.{and-intro, ands}
 use Rattle.scan.specs.Tests.{isClassAbove, isCloseWord, isVolumeWord}
 use Rattle.scan.specs.Stretches.{leads, isFrom, SeriesThen, ClassesWhere, Classes}
-use Rattle.scan.proofs.Words.{figuresIn, class-packed, class-fields, class-test, close-packed, close-test, volume-packed, volume-test}
+use Rattle.scan.proofs.Words.{figuresIn, class-packed, class-test, close-packed, close-test, volume-packed, volume-test}
 use Rattle.scan.proofs.Series.{rises-first}
 
 -- the class's words w, c and v pass their tests, and the words ws after them are those of its series and of classes that may follow it
@@ -59,7 +61,7 @@ module _ (now last dollars halves w c v : ℕ) (ws : List ℕ) where
           let es : map packed (seriesWords 0 (x .series) (classesWords xs [])) ≡ ws = cc in
           let close : T (isClose (f .close)) = search ands depth 12 in
           let volume : T (isVolume (f .volume)) = search ands depth 12 in
-          let fields = class-fields w n (f .dollar) (f .half) word ew in
+          let fields = class-fields w n (f .dollar) (f .half) (fits (Class n (f .dollar) (f .half)) word) ew in
           let order : T (leads (byNumber x) xs && rises byNumber xs) = rw (rises-first byNumber x xs) at rising in
           record {
             class = class-test last w n (f .dollar) (f .half) word ew leading;

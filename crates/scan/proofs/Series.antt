@@ -10,18 +10,20 @@ use lib.Dec.{T, eqb, leb, ltb, leb→le, ltb→lt, lt→ltb, le→leb, eqb→eq}
 use borrow.Author.Tests.{eqb-true, eqb-false, eq-eqb, ne-eqb}
 use Rattle.word.specs.declared.codec.Word.{Word}
 use Rattle.word.specs.declared.codec.Word.the-variants.{Class, Expiration}
-use Rattle.word.specs.Limits.{isMonth}
 use Rattle.word.specs.Field.{field}
 use Rattle.word.specs.Codec.{isLegal, packed, kindOf}
 use Rattle.rule.specs.Lists.{every}
 use Rattle.book.specs.Facts.{Series, OpenClass, precedes}
 use Rattle.book.specs.Layout.{strikeWord, expirationUnless, seriesWords, classesWords}
 use Rattle.book.specs.Books.{rises, isListed, isSeries, isClass}
-use Rattle.book.proofs.Tests.{and-intro, ands, T-true, true-T}
+use Rattle.word.proofs.Words.{kind-packed}
+use Rattle.book.proofs.Alternatives.{or-left, or-right}
+use Rattle.book.proofs.LegalWords.{fits, strike-legal, month-legal, figures-legal}
+use Rattle.book.proofs.Tests.{and-intro, ands, T-true, true-T, equal-test}
 use Rattle.scan.specs.Tests.{isStrikeAbove, isExpirationFrom, strikesLength}
 use Rattle.scan.specs.Stretches.{leads, isFrom, SeriesThen}
-use Rattle.scan.proofs.Tests.{or-left, or-right, or-else, equal-test}
-use Rattle.scan.proofs.Words.{kind-packed, strikeIn, strike-packed, strike-test, expiration-packed, expiration-field}
+use Rattle.scan.proofs.Tests.{or-else}
+use Rattle.scan.proofs.Words.{strikeIn, strike-packed, strike-test, expiration-packed, expiration-field}
 
 -- a list rises where its first element comes before the next one and the rest rises
 pub rises-first :
@@ -64,20 +66,14 @@ empty : (w : ℕ) (ws : List ℕ) → _≡_ {A = List ℕ} [] (w ∷ ws) → ⊥
 empty w ws e = let z : _≡_ {A = ℕ} 0 1 = cc in omega arith
 
 module _ (now : ℕ) where
-  series-legal : (s : Series) → T (isSeries now s) → T (isLegal (strikeWord s))
-  series-legal s legal = search (ands, and-intro)
-
-  series-month : (s : Series) → T (isSeries now s) → T (isMonth (s .month))
-  series-month s legal = search ands depth 12
-
   class-first :
       (xs : List OpenClass) (w : ℕ) (ws : List ℕ) → T (every (isClass now) xs)
       → map packed (classesWords xs []) ≡ w ∷ ws → kindOf w ≡ 2
   class-first [] w ws legal e = absurd (empty w ws e)
   class-first (x ∷ xs) w ws legal e =
       let f = x .figures in
-      let word : T (isLegal (Class (f .number) (f .dollar) (f .half))) = search (ands, and-intro) depth 12 in
-      kind-packed (Class (f .number) (f .dollar) (f .half)) w word (cc)
+      let word = figures-legal f (search ands) .0 in
+      kind-packed (Class (f .number) (f .dollar) (f .half)) w (fits (Class (f .number) (f .dollar) (f .half)) word) (cc)
 
 module _ (now : ℕ) (xs : List OpenClass) (classesLegal : T (every (isClass now) xs)) where
   -- the classes' words, and those of series before them
@@ -191,16 +187,16 @@ module _ (now : ℕ) (xs : List OpenClass) (classesLegal : T (every (isClass now
         word = strike-packed h m w t
 
         kind : kindOf w ≡ 6
-        kind = kind-packed (strikeWord (strikeIn m w)) w (word .1) (word .0)
+        kind = kind-packed (strikeWord (strikeIn m w)) w (fits (strikeWord (strikeIn m w)) (word .1)) (word .0)
 
         from : First (suc m) (isAfter m h) w ws → Words (suc m) (isAfter m (field w 0 15)) ws
         from (class k e) = absurd (omega (arith, kind))
         from (strike s e ew legal leading r) =
             let month : m ≡ s .month = omega arith in
-            let f = strike-test h w s (series-legal now s legal) ew (after-same m h s leading month) in
+            let f = strike-test h w s (strike-legal now s legal) ew (after-same m h s leading month) in
             rw (f .1, month) r
         from (expiration s vs other ew es legal leading r) =
-            absurd (omega (arith, kind, kind-packed (Expiration (s .month)) w (series-month now s legal) ew))
+            absurd (omega (arith, kind, kind-packed (Expiration (s .month)) w (fits (Expiration (s .month)) (month-legal now s legal)) ew))
 
         to : Words (suc m) (isAfter m (field w 0 15)) ws → Words (suc m) (isAfter m h) (w ∷ ws)
         to r =
@@ -220,7 +216,7 @@ module _ (now : ℕ) (xs : List OpenClass) (classesLegal : T (every (isClass now
         from (class k e) = no-series e
         from (strike s e ew legal leading r) =
             let month : m ≡ s .month = omega arith in
-            absurd (rw t at (strike-test h w s (series-legal now s legal) ew (after-same m h s leading month) .0))
+            absurd (rw t at (strike-test h w s (strike-legal now s legal) ew (after-same m h s leading month) .0))
         from (expiration s vs other ew es legal leading r) =
             let later = after-other m h s leading other in
             rw (ew, es) at (add-expiration {test = isFrom (suc m)} (suc m) s other legal later r)
@@ -277,12 +273,12 @@ module _ (now : ℕ) (xs : List OpenClass) (classesLegal : T (every (isClass now
       × Words (suc (field w 0 28)) (isAfter (field w 0 28) 0) ws
   expiration-from kind (class k e) = absurd (omega arith)
   expiration-from {p} {w} kind (strike s e ew legal leading r) =
-      absurd (omega (arith, kind-packed (strikeWord s) w (series-legal now s legal) ew))
+      absurd (omega (arith, kind-packed (strikeWord s) w (fits (strikeWord s) (strike-legal now s legal)) ew))
   expiration-from {p} {w} kind (expiration s vs other ew es legal leading r) =
-      let month : field w 0 28 ≡ s .month = expiration-field w (s .month) (series-month now s legal) ew in
+      let month : field w 0 28 ≡ s .month = expiration-field w (s .month) (month-legal now s legal) ew in
       let listed : T (isListed now (s .month)) = search ands depth 12 in
       let above : 0 < s .strike = leb→le 1 (s .strike) (search ands) in
-      let t = strike-test 0 (packed (strikeWord s)) s (series-legal now s legal) refl above .0 in
+      let t = strike-test 0 (packed (strikeWord s)) s (strike-legal now s legal) refl above .0 in
       rw (month, ← es) (
         and-intro (leb p (s .month)) (isListed now (s .month)) leading listed,
         length-strike 0 (packed (strikeWord s)) vs t,
@@ -302,7 +298,7 @@ module _ (now : ℕ) (xs : List OpenClass) (classesLegal : T (every (isClass now
       word = strike-packed 0 m v (strike-first 0 v vs l)
 
       next : kindOf v ≡ 6
-      next = kind-packed (strikeWord (strikeIn m v)) v (word .1) (word .0)
+      next = kind-packed (strikeWord (strikeIn m v)) v (fits (strikeWord (strikeIn m v)) (word .1)) (word .0)
 
       go : First (suc m) (isAfter m 0) v vs → Words p (isFrom p) (w ∷ v ∷ vs)
       go (class k e) = absurd (omega (arith, next))
@@ -313,7 +309,7 @@ module _ (now : ℕ) (xs : List OpenClass) (classesLegal : T (every (isClass now
           let ew : packed (Expiration (s .month)) ≡ w = rw month (expiration-packed w kind) in
           rw (ew, ev) at (add-expiration {test = isFrom p} p s (λ q. omega arith) legal from r)
       go (expiration s us other ew es legal leading r) =
-          absurd (omega (arith, next, kind-packed (Expiration (s .month)) v (series-month now s legal) ew))
+          absurd (omega (arith, next, kind-packed (Expiration (s .month)) v (fits (Expiration (s .month)) (month-legal now s legal)) ew))
 
   -- an expiration word, and its strikes
   pub expiration-more :
@@ -339,7 +335,7 @@ module _ (now : ℕ) (xs : List OpenClass) (classesLegal : T (every (isClass now
   class-next other (class k e) = e
   class-next {p} other (strike s e ew legal leading r) = absurd (omega (arith, leb→le p (s .month) leading))
   class-next {p} {w} other (expiration s vs q ew es legal leading r) =
-      absurd (other (kind-packed (Expiration (s .month)) w (series-month now s legal) ew))
+      absurd (other (kind-packed (Expiration (s .month)) w (fits (Expiration (s .month)) (month-legal now s legal)) ew))
 
   pub expiration-none :
       {p w : ℕ} {ws : List ℕ} → (kindOf w ≡ 5 → ⊥)

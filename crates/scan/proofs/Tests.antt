@@ -1,18 +1,9 @@
--- Tests joined by `or` and `and`, and what a failed test tells: by cases on the tests. Assumes nothing.
+-- Tests joined by `or`, and what a failed test tells: by cases on the tests. Assumes nothing.
 use Prim.Native.Nat.{ℕ}
 use mathlib.Core.Path.{_≡_, refl}
-use mathlib.Core.Bool.{Bool, true, false, not, _&&_, _||_}
-use lib.Dec.{T, eqb, leb, ltb}
-use borrow.Author.Tests.{leb-true, leb-false, lt-ltb, le-ltb, eq-eqb}
-use Rattle.book.proofs.Tests.{true-T}
-
-pub or-left : (a b : Bool) → T a → T (a || b)
-or-left true b t = tt
-or-left false b t = absurd t
-
-pub or-right : (a b : Bool) → T b → T (a || b)
-or-right true b t = tt
-or-right false b t = t
+use mathlib.Core.Bool.{Bool, true, false, not, _||_}
+use lib.Dec.{T, leb, ltb}
+use borrow.Author.Tests.{leb-true, leb-false, lt-ltb, le-ltb}
 
 pub or-else : (a b : Bool) → T (a || b) → (T a → ⊥) → T b
 or-else true b t fails = absurd (fails tt)
@@ -22,20 +13,9 @@ pub or-none : (a b : Bool) → (a || b) ≡ false → (a ≡ false) × (b ≡ fa
 or-none true b e = (e, cc)
 or-none false b e = (refl, e)
 
-pub and-assoc : (a b c : Bool) → ((a && b) && c) ≡ (a && (b && c))
-and-assoc true b c = refl
-and-assoc false b c = refl
-
-pub and-true : (a : Bool) → (a && true) ≡ a
-and-true true = refl
-and-true false = refl
-
 pub refuted : (a : Bool) → (T a → ⊥) → false ≡ a
 refuted true fails = absurd (fails tt)
 refuted false fails = refl
-
-pub equal-test : (m n : ℕ) → m ≡ n → T (eqb m n)
-equal-test m n e = true-T (eqb m n) (eq-eqb m n e)
 
 pub above-not : (m n : ℕ) → ltb m n ≡ not (leb n m)
 above-not m n = go (leb n m) refl

@@ -1,49 +1,21 @@
 -- A raw word passes a loop's test exactly when it is a packed word of that kind in its limits: by its fields. Assumes nothing.
 use Prim.Native.Nat.{ℕ, _+_, _*_, _/_, _^_, _<_}
-use mathlib.Core.Path.{_≡_, sym, ap, _∙_}
+use mathlib.Core.Path.{_≡_}
 use mathlib.Core.Bool.{_&&_}
 use native.Mathlib.Omega.{arith}
 use lib.Dec.{T, eqb, leb, ltb, leb→le, ltb→lt, lt→ltb, le→leb, eqb→eq}
 use lib.Pow.{shr-shr}
 use Rattle.word.specs.declared.class.ClassRecord.{ClassRecord}
-use Rattle.word.specs.declared.codec.Word.{Word}
-use Rattle.word.specs.declared.codec.Word.the-variants.{Head, Class, Close, Volume, Expiration, Strike, Invalid}
+use Rattle.word.specs.declared.codec.Word.the-variants.{Head, Class, Close, Volume, Expiration}
 use Rattle.word.specs.Limits.{isMonth, isVolume, isDesignation, isClose, isGround, isMark}
 use Rattle.word.specs.Field.{field}
 use Rattle.word.specs.Codec.{isLegal, packed, Fits, kindOf}
-use Rattle.word.proofs.Fields.{field-packed}
-use Rattle.word.proofs.Words.{legal-fits}
+use Rattle.word.proofs.Words.{class-fields, strike-fields}
 use Rattle.book.specs.Facts.{Series}
 use Rattle.book.specs.Layout.{strikeWord}
-use Rattle.book.proofs.Tests.{and-intro, ands, T-true}
+use Rattle.book.proofs.LegalWords.{fits}
+use Rattle.book.proofs.Tests.{and-intro, ands, equal-test}
 use Rattle.scan.specs.Tests.{isStrikeAbove, isClassAbove, isCloseWord, isVolumeWord}
-use Rattle.scan.proofs.Tests.{equal-test}
-
--- ---- kinds
-
-abbrev kindNumber : Word → ℕ
-kindNumber (Head now used) = 1
-kindNumber (Class n d e) = 2
-kindNumber (Close price) = 3
-kindNumber (Volume v) = 4
-kindNumber (Expiration m) = 5
-kindNumber (Strike h g a b) = 6
-kindNumber Invalid = 0
-
-kind-fits : (x : Word) → Fits x → kindOf (packed x) ≡ kindNumber x
-kind-fits (Head now used) fits = omega arith
-kind-fits (Class n d e) fits = omega arith
-kind-fits (Close price) fits = omega arith
-kind-fits (Volume v) fits = omega arith
-kind-fits (Expiration m) fits = omega arith
-kind-fits (Strike h g a b) fits = omega arith
-kind-fits Invalid fits = omega arith
-
-fits : (x : Word) → T (isLegal x) → Fits x
-fits x legal = legal-fits x (T-true (isLegal x) legal)
-
-pub kind-packed : (x : Word) (w : ℕ) → T (isLegal x) → packed x ≡ w → kindOf w ≡ kindNumber x
-kind-packed x w legal e = ap kindOf (sym e) ∙ kind-fits x (fits x legal)
 
 -- ---- the head
 
@@ -52,16 +24,8 @@ head-packed w top =
     let a : w / 2 ^ 10 / 2 ^ 16 ≡ w / 2 ^ 26 = shr-shr w 10 16 in
     omega arith
 
-pub head-fields :
-    (w now used : ℕ) → T (isLegal (Head now used)) → packed (Head now used) ≡ w
-    → (field w 0 10 ≡ now) × (field w 10 16 ≡ used) × T (eqb (w / 2 ^ 26) (1 * 2 ^ 2))
-head-fields w now used legal e =
-    let small = fits (Head now used) legal in
-    let top : w / 2 ^ 26 ≡ 1 * 2 ^ 2 = omega arith in (
-      omega arith,
-      field-packed w now used (1 * 2 ^ 2) 10 16 (omega arith) (omega arith) (omega arith),
-      equal-test (w / 2 ^ 26) (1 * 2 ^ 2) top,
-    )
+pub head-top : (w now used : ℕ) → Fits (Head now used) → packed (Head now used) ≡ w → T (eqb (w / 2 ^ 26) (1 * 2 ^ 2))
+head-top w now used small e = equal-test (w / 2 ^ 26) (1 * 2 ^ 2) (omega arith)
 
 -- ---- strikes
 
@@ -100,13 +64,11 @@ pub strike-test :
 strike-test above w s legal e l =
     let small = fits (strikeWord s) legal in
     let h = s .strike in
-    let g = s .ground in
     let top : w / 2 ^ 20 ≡ 6 * 2 ^ 8 = omega arith in
-    let low : field w 0 15 ≡ h = omega arith in
-    let ground : field w 15 3 ≡ g =
-    field-packed w h g (s .put + s .call * 2 + 6 * 2 ^ 10) 15 3 (omega arith) (omega arith) (omega arith) in
+    let fields = strike-fields w h (s .ground) (s .put) (s .call) small e in
+    let low : field w 0 15 ≡ h = fields .0 in
     let a : T (eqb (w / 2 ^ 20) (6 * 2 ^ 8)) = equal-test (w / 2 ^ 20) (6 * 2 ^ 8) top in
-    let b : T (isGround (field w 15 3)) = rw ground (search ands) in
+    let b : T (isGround (field w 15 3)) = rw (fields .1) (search ands) in
     let c : T (ltb above (field w 0 15)) = rw low (lt→ltb above h l) in
     let d : T (leb (field w 0 15) 19999) = rw low (search ands) in
     (search and-intro, low)
@@ -139,21 +101,11 @@ class-packed above w t =
     let half : T (isDesignation (field w 16 2)) = search ands in
     (omega arith, search and-intro)
 
-pub class-fields :
-    (w n d e : ℕ) → T (isLegal (Class n d e)) → packed (Class n d e) ≡ w
-    → (field w 0 14 ≡ n) × (field w 14 2 ≡ d) × (field w 16 2 ≡ e)
-class-fields w n d e legal q =
-    let small = fits (Class n d e) legal in (
-      omega arith,
-      field-packed w n d (e + 2 * 2 ^ 12) 14 2 (omega arith) (omega arith) (omega arith),
-      field-packed w (n + d * 2 ^ 14) e (2 * 2 ^ 10) 16 2 (omega arith) (omega arith) (omega arith),
-    )
-
 pub class-test :
     (above w n d e : ℕ) → T (isLegal (Class n d e)) → packed (Class n d e) ≡ w → T (ltb above n) → T (isClassAbove above w)
 class-test above w n d e legal q l =
     let small = fits (Class n d e) legal in
-    let f = class-fields w n d e legal q in
+    let f = class-fields w n d e small q in
     let top : w / 2 ^ 18 ≡ 2 * 2 ^ 10 = omega arith in
     let a : T (eqb (w / 2 ^ 18) (2 * 2 ^ 10)) = equal-test (w / 2 ^ 18) (2 * 2 ^ 10) top in
     let b : T (ltb above (field w 0 14)) = rw (f .0) l in

@@ -1,7 +1,7 @@
 -- Runs of zeros: that all words are zero, by their bits together; and a run filled with zeros, one store at a time. Assumes nothing.
 use Prim.Native.Nat.{ℕ, zero, suc, _+_, _≤_, _<_}
 use mathlib.Core.Path.{_≡_, refl, sym, ap, _∙_}
-use mathlib.Core.Bool.{Bool, true, false, _&&_}
+use mathlib.Core.Bool.{Bool, true, false, _&&_, and-assoc, and-true}
 use mathlib.Core.List.{List, [], _∷_, _++_}
 use native.Mathlib.Omega.{arith}
 use native.Mathlib.Numerals.{add-one}
@@ -13,7 +13,6 @@ use borrow.Author.Tests.{eqb-true, eqb-false, eq-eqb, ne-eqb}
 use Rattle.rule.specs.Lists.{every}
 use Rattle.book.proofs.Tests.{ands}
 use Rattle.scan.specs.Tests.{isZero}
-use Rattle.scan.proofs.Tests.{and-assoc, and-true}
 use Rattle.scan.proofs.Places.{word-at}
 
 or-zero : (a b : ℕ) → eqb (bitOr a b) 0 ≡ (eqb a 0 && eqb b 0)

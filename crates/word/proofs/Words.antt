@@ -36,45 +36,64 @@ legal-fits Invalid legal = omega arith
 pub fields-other : (k w : ℕ) → (k ≡ 1 → ⊥) → (k ≡ 2 → ⊥) → (k ≡ 3 → ⊥) → (k ≡ 4 → ⊥) → (k ≡ 5 → ⊥) → (k ≡ 6 → ⊥) → fieldsAs k w ≡ Invalid
 fields-other k w a b c d e f = simp (ne-eqb k 1 a, ne-eqb k 2 b, ne-eqb k 3 c, ne-eqb k 4 d, ne-eqb k 5 e, ne-eqb k 6 f)
 
--- the fields of a packed word are those that were packed
-fields-packed : (x : Word) → Fits x → fieldsAs (kindOf (packed x)) (packed x) ≡ x
-fields-packed (Head now used) fits =
-    let w = packed (Head now used) in
-    let kind : kindOf w ≡ 1 = omega arith in
-    let a : field w 0 10 ≡ now = omega arith in
-    let b : field w 10 16 ≡ used = field-packed w now used (1 * 2 ^ 2) 10 16 (omega arith) (omega arith) (omega arith) in
-    rw (kind, a, b)
-fields-packed (Class number dollar half) fits =
-    let w = packed (Class number dollar half) in
-    let kind : kindOf w ≡ 2 = omega arith in
-    let a : field w 0 14 ≡ number = omega arith in
-    let b : field w 14 2 ≡ dollar = field-packed w number dollar (half + 2 * 2 ^ 12) 14 2 (omega arith) (omega arith) (omega arith) in
-    let c : field w 16 2 ≡ half = field-packed w (number + dollar * 2 ^ 14) half (2 * 2 ^ 10) 16 2 (omega arith) (omega arith) (omega arith) in
-    rw (kind, a, b, c)
-fields-packed (Close price) fits =
-    let w = packed (Close price) in
-    let kind : kindOf w ≡ 3 = omega arith in
-    let a : field w 0 20 ≡ price = omega arith in
-    rw (kind, a)
-fields-packed (Volume contracts) fits =
-    let w = packed (Volume contracts) in
-    let kind : kindOf w ≡ 4 = omega arith in
-    let a : field w 0 24 ≡ contracts = omega arith in
-    rw (kind, a)
-fields-packed (Expiration month) fits =
-    let w = packed (Expiration month) in
-    let kind : kindOf w ≡ 5 = omega arith in
-    let a : field w 0 10 ≡ month = omega arith in
-    rw (kind, a)
-fields-packed (Strike h ground put call) fits =
-    let w = packed (Strike h ground put call) in
-    let kind : kindOf w ≡ 6 = omega arith in
-    let a : field w 0 15 ≡ h = omega arith in
-    let b : field w 15 3 ≡ ground = field-packed w h ground (put + call * 2 + 6 * 2 ^ 10) 15 3 (omega arith) (omega arith) (omega arith) in
-    let c : field w 18 1 ≡ put = field-packed w (h + ground * 2 ^ 15) put (call + 6 * 2 ^ 9) 18 1 (omega arith) (omega arith) (omega arith) in
-    let d : field w 19 1 ≡ call = field-packed w (h + ground * 2 ^ 15 + put * 2 ^ 18) call (6 * 2 ^ 8) 19 1 (omega arith) (omega arith) (omega arith) in
-    rw (kind, a, b, c, d)
-fields-packed Invalid fits = refl
+-- the kind and the fields of a packed word are those that were packed
+
+abbrev pub kindIn : Word → ℕ
+kindIn (Head now used) = 1
+kindIn (Class number dollar half) = 2
+kindIn (Close price) = 3
+kindIn (Volume contracts) = 4
+kindIn (Expiration month) = 5
+kindIn (Strike h ground put call) = 6
+kindIn Invalid = 0
+
+pub kind-packed : (x : Word) (w : ℕ) → Fits x → packed x ≡ w → kindOf w ≡ kindIn x
+kind-packed (Head now used) w fits e = omega arith
+kind-packed (Class number dollar half) w fits e = omega arith
+kind-packed (Close price) w fits e = omega arith
+kind-packed (Volume contracts) w fits e = omega arith
+kind-packed (Expiration month) w fits e = omega arith
+kind-packed (Strike h ground put call) w fits e = omega arith
+kind-packed Invalid w fits e = omega arith
+
+pub head-fields :
+    (w now used : ℕ) → Fits (Head now used) → packed (Head now used) ≡ w → (field w 0 10 ≡ now) × (field w 10 16 ≡ used)
+head-fields w now used fits e = (omega arith, field-packed w now used (1 * 2 ^ 2) 10 16 (omega arith) (omega arith) (omega arith))
+
+pub class-fields :
+    (w number dollar half : ℕ) → Fits (Class number dollar half) → packed (Class number dollar half) ≡ w
+    → (field w 0 14 ≡ number) × (field w 14 2 ≡ dollar) × (field w 16 2 ≡ half)
+class-fields w number dollar half fits e = (
+  omega arith,
+  field-packed w number dollar (half + 2 * 2 ^ 12) 14 2 (omega arith) (omega arith) (omega arith),
+  field-packed w (number + dollar * 2 ^ 14) half (2 * 2 ^ 10) 16 2 (omega arith) (omega arith) (omega arith),
+)
+
+pub strike-fields :
+    (w h ground put call : ℕ) → Fits (Strike h ground put call) → packed (Strike h ground put call) ≡ w
+    → (field w 0 15 ≡ h) × (field w 15 3 ≡ ground) × (field w 18 1 ≡ put) × (field w 19 1 ≡ call)
+strike-fields w h ground put call fits e = (
+  omega arith,
+  field-packed w h ground (put + call * 2 + 6 * 2 ^ 10) 15 3 (omega arith) (omega arith) (omega arith),
+  field-packed w (h + ground * 2 ^ 15) put (call + 6 * 2 ^ 9) 18 1 (omega arith) (omega arith) (omega arith),
+  field-packed w (h + ground * 2 ^ 15 + put * 2 ^ 18) call (6 * 2 ^ 8) 19 1 (omega arith) (omega arith) (omega arith),
+)
+
+pub fields-packed : (x : Word) → Fits x → fieldsAs (kindOf (packed x)) (packed x) ≡ x
+fields-packed x fits = ap (λ (k : ℕ). fieldsAs k (packed x)) (kind-packed x (packed x) fits refl) ∙ go x fits
+  where
+    go : (y : Word) → Fits y → fieldsAs (kindIn y) (packed y) ≡ y
+    go (Head now used) f = let e = head-fields (packed (Head now used)) now used f refl in λ i. Head (e .0 i) (e .1 i)
+    go (Class number dollar half) f =
+        let e = class-fields (packed (Class number dollar half)) number dollar half f refl in
+        λ i. Class (e .0 i) (e .1 i) (e .2 i)
+    go (Close price) f = let e : field (packed (Close price)) 0 20 ≡ price = omega arith in ap Close e
+    go (Volume contracts) f = let e : field (packed (Volume contracts)) 0 24 ≡ contracts = omega arith in ap Volume e
+    go (Expiration month) f = let e : field (packed (Expiration month)) 0 10 ≡ month = omega arith in ap Expiration e
+    go (Strike h ground put call) f =
+        let e = strike-fields (packed (Strike h ground put call)) h ground put call f refl in
+        λ i. Strike (e .0 i) (e .1 i) (e .2 i) (e .3 i)
+    go Invalid f = refl
 
 -- reading a packed word gives its fields back
 pub reading-packed : (x : Word) → isLegal x ≡ true → reading (packed x) ≡ x

@@ -2,9 +2,9 @@
 use mathlib.Core.Path.{sym, _∙_}
 use native.Mathlib.Omega.{arith}
 use Rattle.book.specs.Calls.{callO}
-use Rattle.book.proofs.BookRuns.{book-run}
 use Rattle.class_call.proofs.Ways.{beyond-limits, already-open, out-of-words, class-insertable, class-opened}
 use borrow.Author.Needs.{needs}
+use Rattle.place.proofs.Heads.{book-room, book-long}
 use Rattle.class_call.proofs.open_class.Statement.{statement}
 use Rattle.class_call.proofs.open_class.Tie as tie
 
@@ -39,7 +39,7 @@ used-requires c κs = search needs
 add-if2 : tie.Need-add-if2
 add-if2 c =
     let i = c .before .before .before .before .before .before .before in
-    omega (arith, c .used .ensures, book-run _ (i .before .before .before .pre))
+    omega (arith, c .used .ensures, book-room _ (i .before .before .before .pre), book-long _ (i .before .before .before .pre))
 
 same-length-2 : tie.Need-same-length-2
 same-length-2 c = search needs

@@ -2,9 +2,9 @@
 use mathlib.Core.Path.{sym, _∙_}
 use native.Mathlib.Omega.{arith}
 use Rattle.book.specs.Calls.{callR}
-use Rattle.book.proofs.BookRuns.{book-run}
 use Rattle.class_call.proofs.Ways.{beyond-limits, found-within, found-room, review-not-open, review-no-close, review-count, review-made}
 use borrow.Author.Needs.{needs}
+use Rattle.place.proofs.Heads.{book-room, book-long}
 use Rattle.class_call.proofs.review_class.Statement.{statement}
 use Rattle.class_call.proofs.review_class.Tie as tie
 
@@ -49,7 +49,7 @@ add-from c =
     let k = c .before .before .before in
     let l = k .before .before in
     let book = l .before .before .before .before .before .pre in
-    omega (arith, found-room _ book _ _ _ (sym (l .look-up .ensures) ∙ k .found .given .1), book-run _ book)
+    omega (arith, found-room _ book _ _ _ (sym (l .look-up .ensures) ∙ k .found .given .1), book-room _ book, book-long _ book)
 
 next-class-requires : tie.Need-next-class-requires
 next-class-requires c κs =

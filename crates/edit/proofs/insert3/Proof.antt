@@ -7,8 +7,8 @@ use Rattle.edit.proofs.Moves.{pushed-between}
 use Rattle.edit.proofs.insert3.Statement.{statement}
 use Rattle.edit.proofs.insert3.Tie as tie
 
-words-used-requires : tie.Need-words-used-requires
-words-used-requires c κs = search needs
+used-requires : tie.Need-used-requires
+used-requires c κs = search needs
 
 add-head-counting : tie.Need-add-head-counting
 add-head-counting c = search needs
@@ -43,7 +43,7 @@ same-length c = search needs
 returns : tie.Need-returns
 returns c =
     let a = c .before .before .before .before .before .before .before .before .before .args in
-    let counted = c .before .before .before .before .before .before .words-used in
+    let counted = c .before .before .before .before .before .before .used in
     let head = c .before .before .before .before .head-counting in
     let part = c .before .before .push3 in
     pushed-between (a .run .now) (a .a ∷ a .b ∷ a .c ∷ []) (part .last .0) (a .at) (counted .result) 3 (head .result)
@@ -53,7 +53,7 @@ pub insert3-spec : {M : Type 1} → statement M
 insert3-spec =
     tie.close
     (tie.spec
-    words-used-requires
+    used-requires
     add-head-counting
     head-counting-requires
     add-end

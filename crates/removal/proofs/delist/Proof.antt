@@ -2,23 +2,22 @@
 use native.Mathlib.Omega.{arith}
 use borrow.Author.Needs.{needs}
 use Rattle.book.specs.Calls.{changed}
-use Rattle.book.proofs.BookRuns.{book-run}
+use Rattle.place.proofs.Heads.{book-room, book-long, book-month}
 use Rattle.removal.specs.declared.rules.Rule.the-variants.{Except}
 use Rattle.removal.proofs.CallFacts.{removed-series}
 use Rattle.removal.proofs.delist.Statement.{statement}
 use Rattle.removal.proofs.delist.Tie as tie
 
-used-words-requires : tie.Need-used-words-requires
-used-words-requires c κs = search needs
+used-requires : tie.Need-used-requires
+used-requires c κs = search needs
 
-current-month-requires : tie.Need-current-month-requires
-current-month-requires c κs = search needs
+current-requires : tie.Need-current-requires
+current-requires c κs = search needs
 
 remove-requires : tie.Need-remove-requires
 remove-requires c κs =
     let s = c .before .before .before .before .before .before in
-    let b = book-run (s .args .run .now) (s .pre .0) in
-    rw (c .before .before .before .used-words .ensures, c .before .current-month .ensures) (omega arith)
+    rw (c .before .before .before .used .ensures, c .before .current .ensures) (omega (arith, book-room _ (s .pre .0), book-long _ (s .pre .0), book-month _ (s .pre .0)))
 
 same-length : tie.Need-same-length
 same-length c = search needs
@@ -27,13 +26,13 @@ returns : tie.Need-returns
 unfolding changed
 returns c = λ k is-open first last.
     let s = c .before .before .before .before .before .before .before .before .before in
-    let end = c .before .before .before .before .before .before .used-words .ensures in
-    let month = c .before .before .before .before .current-month .ensures in
+    let end = c .before .before .before .before .before .before .used .ensures in
+    let month = c .before .before .before .before .current .ensures in
     let run = s .args .run .now in
-    removed-series (Except (s .args .m) (s .args .h)) run (book-run run (s .pre .0)) (s .args .from) (s .args .to) _ _
+    removed-series (Except (s .args .m) (s .args .h)) run (s .pre .0) (s .args .from) (s .args .to) _ _
     (rw (end, month) at (c .before .before .remove .ensures)) k is-open first last .1
 
 pub delist-spec : {M : Type 1} → statement M
 delist-spec =
     tie.close
-    (tie.spec used-words-requires current-month-requires remove-requires same-length returns)
+    (tie.spec used-requires current-requires remove-requires same-length returns)

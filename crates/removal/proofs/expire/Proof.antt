@@ -1,19 +1,18 @@
 -- `expire` lays out the facts after `M`: by the law of the removed parts, for all words after the head. Assumes nothing.
 use native.Mathlib.Omega.{arith}
 use borrow.Author.Needs.{needs}
-use Rattle.book.proofs.BookRuns.{book-run}
+use Rattle.place.proofs.Heads.{book-room, book-long}
 use Rattle.removal.proofs.CallFacts.{expired}
 use Rattle.removal.proofs.expire.Statement.{statement}
 use Rattle.removal.proofs.expire.Tie as tie
 
-used-words-requires : tie.Need-used-words-requires
-used-words-requires c κs = search needs
+used-requires : tie.Need-used-requires
+used-requires c κs = search needs
 
 remove-requires : tie.Need-remove-requires
 remove-requires c κs =
     let s = c .before .before .before .before in
-    let b = book-run (s .args .run .now) (s .pre .0) in
-    rw (c .before .used-words .ensures) (omega arith)
+    rw (c .before .used .ensures) (omega (arith, book-room _ (s .pre .0), book-long _ (s .pre .0)))
 
 same-length : tie.Need-same-length
 same-length c = search needs
@@ -21,8 +20,8 @@ same-length c = search needs
 returns : tie.Need-returns
 returns c =
     let s = c .before .before .before .before .before .before .before in
-    expired (s .args .m) (s .args .run .now) (book-run (s .args .run .now) (s .pre .0)) _ _
-    (rw (c .before .before .before .before .used-words .ensures) at (c .before .before .remove .ensures))
+    expired (s .args .m) (s .args .run .now) (s .pre .0) _ _
+    (rw (c .before .before .before .before .used .ensures) at (c .before .before .remove .ensures))
 
 pub expire-spec : {M : Type 1} → statement M
-expire-spec = tie.close (tie.spec used-words-requires remove-requires same-length returns)
+expire-spec = tie.close (tie.spec used-requires remove-requires same-length returns)

@@ -1,22 +1,21 @@
 -- `review` lays out the facts after `R` and counts the strikes removed: by the law of the removed parts, for the series of one class. Assumes nothing.
 use native.Mathlib.Omega.{arith}
 use borrow.Author.Needs.{needs}
-use Rattle.book.proofs.BookRuns.{book-run}
+use Rattle.place.proofs.Heads.{book-room, book-long, book-month}
 use Rattle.removal.proofs.CallFacts.{reviewed}
 use Rattle.removal.proofs.review.Statement.{statement}
 use Rattle.removal.proofs.review.Tie as tie
 
-used-words-requires : tie.Need-used-words-requires
-used-words-requires c κs = search needs
+used-requires : tie.Need-used-requires
+used-requires c κs = search needs
 
-current-month-requires : tie.Need-current-month-requires
-current-month-requires c κs = search needs
+current-requires : tie.Need-current-requires
+current-requires c κs = search needs
 
 remove-requires : tie.Need-remove-requires
 remove-requires c κs =
     let s = c .before .before .before .before .before .before in
-    let b = book-run (s .args .run .now) (s .pre .0) in
-    rw (c .before .before .before .used-words .ensures, c .before .current-month .ensures) (omega arith)
+    rw (c .before .before .before .used .ensures, c .before .current .ensures) (omega (arith, book-room _ (s .pre .0), book-long _ (s .pre .0), book-month _ (s .pre .0)))
 
 same-length : tie.Need-same-length
 same-length c = search needs
@@ -24,13 +23,13 @@ same-length c = search needs
 returns : tie.Need-returns
 returns c =
     let s = c .before .before .before .before .before .before .before .before .before in
-    let end = c .before .before .before .before .before .before .used-words .ensures in
-    let month = c .before .before .before .before .current-month .ensures in
+    let end = c .before .before .before .before .before .before .used .ensures in
+    let month = c .before .before .before .before .current .ensures in
     let run = s .args .run .now in
-    reviewed (s .args .close) run (book-run run (s .pre .0)) (s .args .from) (s .args .to) _ _
+    reviewed (s .args .close) run (s .pre .0) (s .args .from) (s .args .to) _ _
     (rw (end, month) at (c .before .before .remove .ensures))
 
 pub review-spec : {M : Type 1} → statement M
 review-spec =
     tie.close
-    (tie.spec used-words-requires current-month-requires remove-requires same-length returns)
+    (tie.spec used-requires current-requires remove-requires same-length returns)

@@ -4,7 +4,7 @@ use mathlib.Core.Bool.{not}
 use native.Mathlib.Omega.{arith}
 use borrow.Author.Needs.{needs}
 use Rattle.book.specs.Calls.{callX}
-use Rattle.book.proofs.BookRuns.{book-run}
+use Rattle.place.proofs.Heads.{book-long}
 use Rattle.strike_call.proofs.Standing.{class-open, place-within, beyond, not-open, not-standing, delist-number, delist-marked, delist-done}
 use Rattle.strike_call.proofs.delist_strike.Statement.{statement}
 use Rattle.strike_call.proofs.delist_strike.Tie as tie
@@ -72,7 +72,7 @@ mul-field-of c =
     omega (
       arith,
       place-within w (s .pre) (a .c) (a .m) (a .h) _ (sym (l .look-up-strike .ensures) ∙ q .search .given .1) (c .if2 .left),
-      book-run w (s .pre) .short,
+      book-long w (s .pre),
     )
 
 slice-read-field-of : tie.Need-slice-read-field-of

@@ -2,7 +2,7 @@
 use mathlib.Core.Path.{sym, _∙_}
 use native.Mathlib.Omega.{arith}
 use borrow.Author.Needs.{needs}
-use Rattle.book.proofs.BookRuns.{book-run}
+use Rattle.place.proofs.Heads.{book-month}
 use Rattle.strike_call.proofs.Judgements.{found-outside, found-standing, found-no-close, found-judged}
 use Rattle.strike_call.proofs.judge_found.Statement.{statement}
 use Rattle.strike_call.proofs.judge_found.Tie as tie
@@ -13,7 +13,7 @@ current-requires c κs = search needs
 is-outside-requires : tie.Need-is-outside-requires
 is-outside-requires c κs =
     let s = c .before .before .before in
-    omega (arith, book-run (s .args .run .now) (s .pre .book) .early, c .current .ensures)
+    omega (arith, book-month (s .args .run .now) (s .pre .book), c .current .ensures)
 
 returns : tie.Need-returns
 returns c =
@@ -64,7 +64,7 @@ judge-requires c κs =
     let s = q .before .before .before .before in
     record {
       close = s .pre .close;
-      current = omega (arith, book-run (s .args .run .now) (s .pre .book) .early, q .before .current .ensures);
+      current = omega (arith, book-month (s .args .run .now) (s .pre .book), q .before .current .ensures);
       strike = s .pre .strike;
     }
 

@@ -7,7 +7,7 @@ use native.Mathlib.Omega.{arith}
 use borrow.Author.Needs.{needs}
 use Rattle.book.specs.Layout.{factsOf}
 use Rattle.book.proofs.Tests.{ands}
-use Rattle.book.proofs.BookRuns.{book-run}
+use Rattle.place.proofs.Heads.{book-room, book-long}
 use Rattle.strike_call.proofs.Listing.{no-ground, permits, list-refused, place-used, out-of-words, list-done}
 use Rattle.strike_call.proofs.list_strike.Statement.{statement}
 use Rattle.strike_call.proofs.list_strike.Tie as tie
@@ -39,9 +39,8 @@ add-if2 : tie.Need-add-if2
 add-if2 c =
     let j = c .before .before .before in
     let s = j .before .before .before .before .before .before .before in
-    let b = book-run (s .args .run .now) (s .pre) in
     let few : j .if1 .needed ≤ 2 = ⊎-elim (λ x. omega arith) (λ x. omega arith) (j .if1 .came) in
-    omega (arith, b .within, b .short, c .before .used .ensures)
+    omega (arith, book-room (s .args .run .now) (s .pre), book-long (s .args .run .now) (s .pre), c .before .used .ensures)
 
 same-length-2 : tie.Need-same-length-2
 same-length-2 c = search needs

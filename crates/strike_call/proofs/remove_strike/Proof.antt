@@ -3,9 +3,9 @@ use mathlib.Core.Path.{sym, _∙_}
 use native.Mathlib.Omega.{arith}
 use borrow.Author.Needs.{needs}
 use Rattle.book.specs.Layout.{factsOf}
-use Rattle.book.proofs.BookRuns.{book-run}
 use Rattle.place.proofs.Found.{class-ended}
 use Rattle.place.proofs.Answers.{lookup-open, lookup-not-open, series-within}
+use Rattle.place.proofs.Heads.{book-room, book-long}
 use Rattle.strike_call.proofs.remove_strike.Statement.{statement}
 use Rattle.strike_call.proofs.remove_strike.Tie as tie
 
@@ -23,8 +23,8 @@ add-from c =
     omega (
       arith,
       series-within (s .args .run .now) (s .pre .0) _ _ _ (sym (l .look-up .ensures) ∙ q .search .given .1),
-      book-run (s .args .run .now) (s .pre .0) .within,
-      book-run (s .args .run .now) (s .pre .0) .short,
+      book-room (s .args .run .now) (s .pre .0),
+      book-long (s .args .run .now) (s .pre .0),
     )
 
 next-class-requires : tie.Need-next-class-requires

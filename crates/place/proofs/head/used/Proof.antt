@@ -1,7 +1,7 @@
 -- `used` reads the head: a book has a first word, and its field is the fact.
 use mathlib.Core.Path.{_∙_}
 use borrow.Author.Needs.{needs}
-use Rattle.place.proofs.Heads.{book-long, head-used}
+use Rattle.place.proofs.Heads.{book-long, head-says}
 use Rattle.place.proofs.head.used.Statement.{statement}
 use Rattle.place.proofs.head.used.Tie as tie
 
@@ -15,7 +15,7 @@ cast-result : tie.Need-cast-result
 cast-result c = search needs
 
 returns : tie.Need-returns
-returns c = c .field-of .ensures ∙ head-used _ (c .before .before .before .pre)
+returns c = c .field-of .ensures ∙ head-says _ (c .before .before .before .pre) .1
 
 pub used-spec : {M : Type 1} → statement M
 used-spec = tie.close (tie.spec shared-slice-read-field-of field-of-requires cast-result returns)
