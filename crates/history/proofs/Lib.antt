@@ -1,0 +1,6 @@
+pub mod Answers
+pub mod Made
+pub mod Lists
+pub mod RecordExamples
+pub mod Letters
+pub mod Runs

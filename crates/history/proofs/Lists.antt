@@ -1,0 +1,111 @@
+-- Two whole lists of calls: equal words exactly when equal facts, since each call leaves the layout of the next facts; by induction on the list. The words of `run_calls` are those of its list. Assumes nothing.
+use Prim.Native.Nat.{ℕ}
+use mathlib.Core.Path.{_≡_, sym, ap, _∙_}
+use mathlib.Core.List.{List, [], _∷_}
+use mathlib.Core.Logic.{_↔_}
+use lib.ListN.{length, replicate, length-replicate}
+use lib.Dec.{T}
+use Rattle.word.specs.declared.answer.Answer.{Answer}
+use Rattle.word.specs.declared.answer.Answer.the-variants.{Done}
+use Rattle.word.specs.Limits.{isLength}
+use Rattle.book.specs.Facts.{Facts, fresh}
+use Rattle.book.specs.Layout.{layout}
+use Rattle.book.specs.Books.{isWellFormed}
+use Rattle.book.specs.Calls.{Call, written, step, steps, after}
+use Rattle.book.specs.Points.{SameFacts}
+use Rattle.book.specs.Made.{over, Made}
+use Rattle.book.proofs.Tests.{T-true}
+use Rattle.book.proofs.Layouts.{factsOf-layout, layout-injective, fresh-well-formed}
+use Rattle.book.proofs.Keep.{step-keeps, after-well-formed}
+use Rattle.book.proofs.SameFacts.{same-facts}
+use Rattle.history.specs.Turns.{lent, Turns, done, turn, Whole}
+use Rattle.history.specs.Records.{callsOf}
+use Rattle.history.specs.Runs.{Ran}
+use Rattle.history.proofs.Answers.{answer-exists}
+use Rattle.history.proofs.Made.{made-words, layout-is-book, layout-size}
+
+-- ---- calls in turn
+
+pub turns-words :
+    (n : ℕ) (f : Facts) {xs : List Call} {w w″ : List ℕ} → T (isWellFormed n f) → w ≡ layout n f → Turns xs w w″
+    → w″ ≡ layout n (steps n xs f)
+unfolding steps
+turns-words n f good e done = e
+turns-words n f good e (turn {x} long m t) =
+    let next = rw (layout-size n f good, factsOf-layout n f good) at (made-words (layout-is-book n f good) (rw e at m)) in
+    turns-words n (step n x f) (step-keeps n x f good) next t
+
+pub whole-words : {n : ℕ} {xs : List Call} {w : List ℕ} → T (isLength n) → Whole n xs w → w ≡ layout n (after n xs)
+whole-words {n} long whole =
+    let first : whole .book ≡ layout n fresh = rw (whole .size, T-true (isLength n) long) at (whole .begun .words) in
+    turns-words n fresh (fresh-well-formed n long) first (whole .turns)
+
+-- demand 3
+pub two-lists :
+    {n : ℕ} {xs ys : List Call} {a b : List ℕ} → T (isLength n) → Whole n xs a → Whole n ys b
+    → (a ≡ b) ↔ (after n xs ≡ after n ys)
+two-lists {n} {xs} {ys} long p q =
+    let x = whole-words long p in
+    let y = whole-words long q in (
+      λ e. layout-injective n (after n xs) (after n ys) (after-well-formed n xs long) (after-well-formed n ys long) (sym x ∙ e ∙ y),
+      λ e. x ∙ ap (layout n) e ∙ sym y,
+    )
+
+-- the same, with equal facts said point by point
+pub two-lists-same :
+    {n : ℕ} {xs ys : List Call} {a b : List ℕ} → T (isLength n) → Whole n xs a → Whole n ys b
+    → (a ≡ b) ↔ SameFacts (after n xs) (after n ys)
+two-lists-same {n} {xs} {ys} long p q =
+    let s = same-facts n n (after n xs) (after n ys) (after-well-formed n xs long) (after-well-formed n ys long) in
+    let t = two-lists long p q in
+    (λ e. s .0 (t .0 e), λ e. t .1 (s .1 e))
+
+-- ---- every list can be made
+
+made-exists :
+    (n : ℕ) (x : Call) (f : Facts) (v : List ℕ) → T (isWellFormed n f)
+    → (r : Answer) × Made x (layout n f) v r (layout n (step n x f)) (over (written n x f) v)
+made-exists n x f v good =
+    let p = answer-exists n x f in
+    let is = layout-is-book n f good in
+    let size = layout-size n f good in
+    let facts = factsOf-layout n f good in (
+      p .answer,
+      record {
+        number = rw (is, size, facts) (p .number);
+        value = rw (is, size, facts) (p .value);
+        words = rw (is, size, facts);
+        second = rw (is, size, facts);
+      },
+    )
+
+turns-exist :
+    (n : ℕ) (xs : List Call) (f : Facts) → T (isWellFormed n f) → Turns xs (layout n f) (layout n (steps n xs f))
+unfolding steps
+turns-exist n [] f good = done
+turns-exist n (x ∷ xs) f good =
+    turn (length-replicate {A = ℕ} (lent x) 0) (made-exists n x f (replicate (lent x) 0) good .1)
+    (turns-exist n xs (step n x f) (step-keeps n x f good))
+
+pub whole-exists : {n : ℕ} → T (isLength n) → (xs : List Call) → Whole n xs (layout n (after n xs))
+whole-exists {n} long xs =
+    let size : length (replicate {A = ℕ} n 0) ≡ n = length-replicate {A = ℕ} n 0 in
+    let is = T-true (isLength n) long in
+    record {
+      held = replicate n 0;
+      book = layout n fresh;
+      answer = Done;
+      size = size;
+      begun = record { answer = rw (size, is); words = rw (size, is) };
+      turns = turns-exist n xs fresh (fresh-well-formed n long);
+    }
+
+-- ---- the words that `run_calls` leaves
+
+-- they are those, and the only ones, that the calls of the list leave when anybody makes them in turn
+pub run-whole :
+    {w calls w′ : List ℕ} {r : Answer} → T (isLength (length w)) → Ran w calls r w′ → (u : List ℕ)
+    → Whole (length w) (callsOf calls) u ↔ (u ≡ w′)
+run-whole {w} {calls} {w′} long ran u =
+    let left : w′ ≡ layout (length w) (after (length w) (callsOf calls)) = rw (T-true (isLength (length w)) long) at (ran .words) in
+    (λ whole. whole-words long whole ∙ sym left, λ e. rw (e, left) (whole-exists long (callsOf calls)))

@@ -1,0 +1,43 @@
+-- `run_calls` makes a fresh book and then the calls of the list: its two ways out by the answer of `fresh`. Assumes nothing.
+use Rattle.history.proofs.Runs.{not-done, begun-book, ran-done, ran-refused}
+use borrow.Author.Needs.{needs}
+use Rattle.history.proofs.run_calls.Statement.{statement}
+use Rattle.history.proofs.run_calls.Tie as tie
+
+fresh-requires : tie.Need-fresh-requires
+fresh-requires c κs = search needs
+
+enum-told : tie.Need-enum-told
+enum-told c = search needs
+
+make-calls-requires : tie.Need-make-calls-requires
+make-calls-requires c κs =
+    let told = c .before in
+    begun-book (told .before .before .before .before .fresh .ensures) (told .enum-told .given .1)
+
+same-length : tie.Need-same-length
+same-length c = search needs
+
+returns : tie.Need-returns
+returns c =
+    let told = c .before .before .before .before in
+    ran-done (told .before .before .before .before .fresh .ensures) (told .enum-told .given .1)
+    (c .before .before .make-calls .ensures)
+
+same-length-2 : tie.Need-same-length-2
+same-length-2 c = search needs
+
+returns-2 : tie.Need-returns-2
+returns-2 c = ran-refused (c .before .before .before .fresh .ensures) (not-done _ (c .match .keys2))
+
+pub run-calls-spec : {M : Type 1} → statement M
+run-calls-spec =
+    tie.close
+    (tie.spec
+    fresh-requires
+    enum-told
+    make-calls-requires
+    same-length
+    returns
+    same-length-2
+    returns-2)
