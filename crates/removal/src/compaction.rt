@@ -1,7 +1,7 @@
 // The compaction of lent words in place.
 ghost use mathlib.Core.Path.{_≡_};
 ghost use Prim.Native.Nat.{_+_, _<_, _≤_};
-ghost use lib.ListN.{length, getD, drop, replicate};
+ghost use lib.ListN.{length, getD, drop};
 ghost use lib.Seq.{sets};
 ghost use Rattle.removal.specs.Marks.{noneMarked, boundsIn};
 ghost use Rattle.removal.specs.Compaction.{boundsFor, settled, strikeStep, stepAt, wordsOf, Compacted};
@@ -12,6 +12,7 @@ use crate::rules::Rule;
 use crate::rules::does_stay;
 use word::codec::kind;
 use word::field::field_of;
+use word::zeros::zero_all;
 
 // How far a compaction is: the month, the expiration word that waits for a strike that stays (0: none), the marked strikes of its expiration, and the strikes removed.
 pub struct Progress {
@@ -149,16 +150,6 @@ fn write(words: &mut [u32], at: usize, o: Step) -> usize
     let next = at + 1;
     words[next] = o.second;
     at + 2
-}
-
-pub fn zero_all(words: &mut [u32])
-    ensures { λ _. ⌜ now (words .exit) ≡ replicate (length (now (words .entry))) 0 ⌝ }
-{
-    let mut i = 0;
-    while i < words.len() {
-        words[i] = 0;
-        i += 1;
-    }
 }
 
 // Moves what stays to the front and zeroes the rest. An expiration word is written before its first strike that stays.

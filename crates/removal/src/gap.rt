@@ -3,7 +3,7 @@ ghost use mathlib.Core.Path.{_≡_};
 ghost use Prim.Native.Nat.{_≤_};
 ghost use lib.ListN.{length};
 ghost use Rattle.removal.specs.Runs.{movedDown, closed};
-use crate::compaction::zero_all;
+use word::zeros::zero_all;
 
 // The loops with a constant distance compile to memmove.
 fn move_down_one(words: &mut [u32])

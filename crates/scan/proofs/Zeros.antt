@@ -1,12 +1,10 @@
--- Runs of zeros: that all words are zero, by their bits together; and a run filled with zeros, one store at a time. Assumes nothing.
+-- Runs of zeros: that all words are zero, by their bits together. Assumes nothing.
 use Prim.Native.Nat.{ℕ, zero, suc, _+_, _≤_, _<_}
 use mathlib.Core.Path.{_≡_, refl, sym, ap, _∙_}
 use mathlib.Core.Bool.{Bool, true, false, _&&_, and-assoc, and-true}
-use mathlib.Core.List.{List, [], _∷_, _++_}
+use mathlib.Core.List.{List, [], _∷_}
 use native.Mathlib.Omega.{arith}
-use native.Mathlib.Numerals.{add-one}
-use lib.ListN.{length, take, drop, getD, set, replicate, drop-of-length-le, replicate-append-replicate}
-use lib.Seq.{take-suc-set}
+use lib.ListN.{length, drop, getD, replicate, drop-of-length-le}
 use lib.Bits.{bitOr, or-add-and, and-le-l, and-le-r}
 use lib.Dec.{T, eqb, eqb→eq}
 use borrow.Author.Tests.{eqb-true, eqb-false, eq-eqb, ne-eqb}
@@ -46,9 +44,3 @@ zeros-replicate (suc k) = zeros-replicate k
 pub replicate-zeros : (ws : List ℕ) → T (every isZero ws) → replicate (length ws) 0 ≡ ws
 replicate-zeros [] t = refl
 replicate-zeros (w ∷ ws) t = λ i. sym (eqb→eq w 0 (search ands)) i ∷ replicate-zeros ws (search ands) i
-
-pub cleared-more :
-    (ws : List ℕ) (i : ℕ) → i < length ws → take i ws ≡ replicate i 0 → take (i + 1) (set ws i 0) ≡ replicate (i + 1) 0
-cleared-more ws i l e =
-    let stored : take (i + 1) (set ws i 0) ≡ take i ws ++ (0 ∷ []) = rw add-one (take-suc-set ws i 0 l) in
-    stored ∙ ap (λ (front : List ℕ). front ++ (0 ∷ [])) e ∙ replicate-append-replicate i 1 0

@@ -2,7 +2,7 @@
 ghost use mathlib.Core.Path.{_≡_};
 ghost use mathlib.Core.Logic.{_↔_};
 ghost use Prim.Native.Nat.{_+_, _<_, _≤_};
-ghost use lib.ListN.{drop, length, replicate};
+ghost use lib.ListN.{drop, length};
 ghost use lib.Dec.{T};
 ghost use Rattle.rule.specs.Lists.{every};
 ghost use Rattle.book.specs.Books.{isBook};
@@ -16,6 +16,7 @@ use word::caps::HalfCount;
 use word::codec::head_word;
 use word::codec::kind;
 use word::field::field_of;
+use word::zeros::zero_all;
 
 // Where the expirations of a class end, or that they are no expirations of a book.
 pub enum Stretch {
@@ -168,17 +169,6 @@ pub fn is_book(run: &[u32]) -> bool
     are_zero(&run[used..])
 }
 
-// Zero in every word.
-fn clear(run: &mut [u32])
-    ensures { λ _. ⌜ now (run .exit) ≡ replicate (length (now (run .entry))) 0 ⌝ }
-{
-    let mut i = 0;
-    while i < run.len() {
-        run[i] = 0;
-        i += 1;
-    }
-}
-
 // Makes a fresh book of the run, whatever it held; a run of a bad length is refused and keeps its words.
 pub fn fresh(run: &mut [u32]) -> Answer
     ensures { λ r. ⌜ Begun (now (run .entry)) r (now (run .exit)) ⌝ }
@@ -187,7 +177,7 @@ pub fn fresh(run: &mut [u32]) -> Answer
     if (n == 0) | (65535 < n) {
         return Answer::Refused(Refusal::NotABook);
     }
-    clear(run);
+    zero_all(run);
     run[0] = head_word(0, 1);
     Answer::Done
 }

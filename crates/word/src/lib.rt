@@ -6,3 +6,4 @@ pub mod codec;
 pub mod field;
 pub mod limits;
 pub mod strike;
+pub mod zeros;

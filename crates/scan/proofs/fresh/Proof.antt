@@ -10,8 +10,8 @@ use Rattle.scan.proofs.fresh.Tie as tie
 returns : tie.Need-returns
 returns c = begun-not (c .before .before .args .run .now) (c .if1 .taken)
 
-clear-requires : tie.Need-clear-requires
-clear-requires c κs = search needs
+zero-all-requires : tie.Need-zero-all-requires
+zero-all-requires c κs = search needs
 
 head-word-requires : tie.Need-head-word-requires
 head-word-requires c κs = search needs
@@ -22,7 +22,7 @@ slice-write-run c =
     let kept = cleared .before .before in
     let n = length (kept .before .before .args .run .now) in
     let some = some-words n (kept .if1 .left) in
-    let same = ap length (cleared .clear .ensures) ∙ length-replicate n 0 in
+    let same = ap length (cleared .zero-all .ensures) ∙ length-replicate n 0 in
     search needs
 
 same-length : tie.Need-same-length
@@ -32,10 +32,10 @@ returns-2 : tie.Need-returns-2
 returns-2 c =
     let cleared = c .before .before .before in
     let kept = cleared .before .before in
-    begun (kept .before .before .args .run .now) (cleared .clear .last .0) (c .head-word .result) (kept .if1 .left)
-    (cleared .clear .ensures) (c .head-word .ensures)
+    begun (kept .before .before .args .run .now) (cleared .zero-all .last .0) (c .head-word .result) (kept .if1 .left)
+    (cleared .zero-all .ensures) (c .head-word .ensures)
 
 pub fresh-spec : {M : Type 1} → statement M
 fresh-spec =
     tie.close
-    (tie.spec returns clear-requires head-word-requires slice-write-run same-length returns-2)
+    (tie.spec returns zero-all-requires head-word-requires slice-write-run same-length returns-2)
