@@ -4,6 +4,7 @@ use mathlib.Core.Bool.{Bool, false, cond, not, _&&_, _||_}
 use mathlib.Core.List.{List, [], _∷_, _++_, map}
 use lib.ListN.{length}
 use lib.Dec.{leb, ltb, eqb}
+use Rattle.word.specs.declared.class.ClassRecord.{ClassRecord}
 use Rattle.word.specs.Limits.{between, isPrice, isStrike, isMonth, isClassNumber, isVolume, isDesignation, isMark}
 use Rattle.word.specs.Class.{withClose, withVolume}
 use Rattle.word.specs.Answers.{answerValue}
@@ -65,6 +66,16 @@ isReviewed x s =
     (eqb (s .ground) 1 || eqb (s .ground) 3)
     && (ltb 500 (apart (cents (s .strike)) (x .figures .close)) && (not (isMarked s) && isBeyondMarked s (x .series)))
 
+-- ---- designations
+
+-- "A new d of 1": "A repeat of the present d is accepted unchanged, untested."
+abbrev pub isNew : ℕ → ℕ → ClassRecord → Bool
+isNew p d r = eqb d 1 && not (eqb (designation p r) 1)
+
+-- "a close below 5,000 for $1, or a close of at most 500 and a volume of at least 1,000 for $0.50"
+abbrev pub isQualified : ℕ → ClassRecord → Bool
+isQualified p r = cond (eqb p 1) (ltb (r .close) 5000) (leb (r .close) 500 && leb 1000 (r .volume))
+
 -- ---- what the conditions and the changes look at
 
 module _ (f : Facts) where
@@ -83,16 +94,11 @@ module _ (f : Facts) where
   abbrev pub hasNoClose : ℕ → Bool
   hasNoClose c = eqb (class c .figures .close) 0
 
-  -- "A new d of 1": "A repeat of the present d is accepted unchanged, untested."
   abbrev pub isNewlyOurs : ℕ → ℕ → ℕ → Bool
-  isNewlyOurs c p d = eqb d 1 && not (eqb (designation p (class c .figures)) 1)
+  isNewlyOurs c p d = isNew p d (class c .figures)
 
-  -- "a close below 5,000 for $1, or a close of at most 500 and a volume of at least 1,000 for $0.50"
   abbrev pub qualifies : ℕ → ℕ → Bool
-  qualifies c p =
-      cond (eqb p 1)
-      (ltb (class c .figures .close) 5000)
-      (leb (class c .figures .close) 500 && leb 1000 (class c .figures .volume))
+  qualifies c p = isQualified p (class c .figures)
 
   -- "and the cap"
   abbrev pub isCapReached : ℕ → Bool

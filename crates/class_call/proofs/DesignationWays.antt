@@ -17,7 +17,7 @@ use Rattle.word.specs.Answers.{refusalNumber, answerNumber, answerValue}
 use Rattle.book.specs.Facts.{isOpen, withDesignation}
 use Rattle.book.specs.Layout.{factsOf}
 use Rattle.book.specs.Books.{areFigures, isBook}
-use Rattle.book.specs.Calls.{callD, isWritten, isCapReached, Condition, draws, first, conditions, changed, listed, acceptedValue}
+use Rattle.book.specs.Calls.{callD, isWritten, isCapReached, Condition, draws, first, conditions, changed, listed, acceptedValue, isQualified, isNew}
 use Rattle.book.specs.Made.{Made}
 use Rattle.book.proofs.Tests.{ands, and-intro, T-true, true-T}
 use Rattle.book.proofs.Answered.{made-refused}
@@ -25,7 +25,7 @@ use Rattle.place.specs.declared.lookup.Lookup.the-variants.{NotOpen as NoClass,
 use Rattle.place.specs.Lookups.{lookupOf}
 use Rattle.class_call.specs.declared.programs.Claim.{Claim}
 use Rattle.class_call.specs.declared.programs.Claim.the-variants.{Granted, Refused as NotGranted}
-use Rattle.class_call.specs.Claims.{isQualified, isNew, claimOf}
+use Rattle.class_call.specs.Claims.{claimOf}
 use Rattle.class_call.proofs.Ways.{decided, not-open, found-open, found-figures, found-limits}
 use Rattle.class_call.proofs.FigureWays.{Storable, Stored, storable, figures-stored}
 

@@ -2,10 +2,10 @@
 ghost use mathlib.Core.Path.{_≡_};
 ghost use lib.Dec.{T};
 ghost use Rattle.book.specs.Books.{isBook};
-ghost use Rattle.book.specs.Calls.{isCapReached, isProgram};
+ghost use Rattle.book.specs.Calls.{isCapReached, isProgram, isQualified};
 ghost use Rattle.book.specs.Facts.{designation, withDesignation};
 ghost use Rattle.book.specs.Layout.{factsOf};
-ghost use Rattle.class_call.specs.Claims.{claimOf, isQualified};
+ghost use Rattle.class_call.specs.Claims.{claimOf};
 use place::own::own_dollars;
 use place::own::own_halves;
 use word::answer::Refusal;
