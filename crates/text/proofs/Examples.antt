@@ -1,0 +1,69 @@
+-- Document 01's own lines: what they are as calls, lines of no form, and what is printed; each computes.
+use mathlib.Core.Path.{_≡_, refl}
+use mathlib.Core.List.{[], _∷_}
+use Rattle.word.specs.declared.answer.Refusal.the-variants.{AlreadyStanding, OutOfWords}
+use Rattle.word.specs.declared.answer.Answer.the-variants.{Done, Ground, Listed, Refused}
+use Rattle.book.specs.Calls.{callM, callL, callA, malformed}
+use Rattle.text.specs.Grammar.{callIn, callOf, callOfParts, firstPart, laterParts, isNumeral, valueFrom}
+use Rattle.text.specs.Printing.{decimalBy, decimal, spacedNumbers, valueOrNone, afterNumber, answerText}
+
+-- `M 4`
+line-m : callIn 512 (77 ∷ 32 ∷ 52 ∷ []) ≡ callM 4
+unfolding callOf callOfParts firstPart laterParts isNumeral valueFrom
+line-m = refl
+
+-- `A 7 5`
+line-a : callIn 512 (65 ∷ 32 ∷ 55 ∷ 32 ∷ 53 ∷ []) ≡ callA 7 5 512
+unfolding callOf callOfParts firstPart laterParts isNumeral valueFrom
+line-a = refl
+
+-- `L 7 5 14`
+line-l : callIn 512 (76 ∷ 32 ∷ 55 ∷ 32 ∷ 53 ∷ 32 ∷ 49 ∷ 52 ∷ []) ≡ callL 7 5 14
+unfolding callOf callOfParts firstPart laterParts isNumeral valueFrom
+line-l = refl
+
+-- an empty line
+line-empty : callIn 512 [] ≡ malformed
+unfolding callOfParts firstPart laterParts
+line-empty = refl
+
+-- `M 04`: a leading zero
+line-leading-zero : callIn 512 (77 ∷ 32 ∷ 48 ∷ 52 ∷ []) ≡ malformed
+unfolding callOf callOfParts firstPart laterParts isNumeral valueFrom
+line-leading-zero = refl
+
+-- `M  4`: two spaces
+line-two-spaces : callIn 512 (77 ∷ 32 ∷ 32 ∷ 52 ∷ []) ≡ malformed
+unfolding callOf callOfParts firstPart laterParts isNumeral valueFrom
+line-two-spaces = refl
+
+-- `M 4 `: a space at the end
+line-last-space : callIn 512 (77 ∷ 32 ∷ 52 ∷ 32 ∷ []) ≡ malformed
+unfolding callOf callOfParts firstPart laterParts isNumeral valueFrom
+line-last-space = refl
+
+-- `0`
+printed-done : answerText Done [] ≡ 48 ∷ 10 ∷ []
+unfolding decimalBy decimal spacedNumbers afterNumber answerText
+printed-done = refl
+
+-- `0 7 2 4 6 8 10 12 14`
+printed-listed : answerText (Listed 7) (2 ∷ 4 ∷ 6 ∷ 8 ∷ 10 ∷ 12 ∷ 14 ∷ [])
+    ≡ 48 ∷ 32 ∷ 55 ∷ 32 ∷ 50 ∷ 32 ∷ 52 ∷ 32 ∷ 54 ∷ 32 ∷ 56 ∷ 32 ∷ 49 ∷ 48 ∷ 32 ∷ 49 ∷ 50 ∷ 32 ∷ 49 ∷ 52 ∷ 10 ∷ []
+unfolding decimalBy decimal spacedNumbers afterNumber answerText
+printed-listed = refl
+
+-- `0 1`
+printed-ground : answerText (Ground 1) [] ≡ 48 ∷ 32 ∷ 49 ∷ 10 ∷ []
+unfolding decimalBy decimal spacedNumbers afterNumber answerText
+printed-ground = refl
+
+-- `6`
+printed-refused : answerText (Refused AlreadyStanding) [] ≡ 54 ∷ 10 ∷ []
+unfolding decimalBy decimal spacedNumbers valueOrNone afterNumber answerText
+printed-refused = refl
+
+-- `15 30`: "for 15 on `A` the value too"
+printed-out-of-words : answerText (Refused (OutOfWords 30)) [] ≡ 49 ∷ 53 ∷ 32 ∷ 51 ∷ 48 ∷ 10 ∷ []
+unfolding decimalBy decimal spacedNumbers valueOrNone afterNumber answerText
+printed-out-of-words = refl

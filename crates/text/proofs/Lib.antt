@@ -1,0 +1,14 @@
+-- The laws of the lines and of what is printed, for the functions' proofs and other crates.
+mod Cases
+pub mod Runs
+pub mod Complete
+pub mod Sound
+mod Parts
+pub mod Limited
+pub mod Lines
+pub mod Decimals
+mod SpacedNumbers
+mod AnswerTexts
+pub mod RoundTrip
+pub mod Bounds
+mod Examples

@@ -1,0 +1,155 @@
+-- Document 01, "letter, then numbers without leading zeros, single spaces": the lines of this form, and the call that a line is. Assumes nothing.
+use mathlib.Core.Path.{_≡_}
+use Prim.Native.Nat.{ℕ, _+_, _*_, _-_, _≤_, _<_}
+use mathlib.Core.Bool.{Bool, false, cond, _&&_}
+use mathlib.Core.List.{List, [], _∷_, _++_, map}
+use lib.ListN.{length, take}
+use lib.Seq.{sets}
+use lib.Dec.{eqb}
+use Rattle.word.specs.Limits.{between}
+use Rattle.rule.specs.Lists.{every}
+use Rattle.book.specs.Calls.{Call, callM, callO, callC, callV, callD, callL, callJ, callX, callI, callR, callA, malformed}
+use Rattle.text.specs.declared.line.Phase.{Phase}
+use Rattle.text.specs.declared.line.Phase.the-variants.{Start, Letter, Space, Zero, Number, Malformed}
+use Rattle.text.specs.declared.line.Line.{Line}
+use Rattle.text.specs.Reading.{capped, zeros}
+
+-- ---- the form, as text
+
+-- each byte is a digit
+pub data Digits : List ℕ → Type 0 where
+  no-digits : Digits []
+  a-digit : {b : ℕ} {ds : List ℕ} → 48 ≤ b → b ≤ 57 → Digits ds → Digits (b ∷ ds)
+
+-- "numbers without leading zeros"
+pub data Numeral : List ℕ → Type 0 where
+  lone-zero : Numeral (48 ∷ [])
+  leading : {b : ℕ} {ds : List ℕ} → 48 < b → b ≤ 57 → Digits ds → Numeral (b ∷ ds)
+
+pub data Numerals : List (List ℕ) → Type 0 where
+  no-numbers : Numerals []
+  a-number : {t : List ℕ} {ts : List (List ℕ)} → Numeral t → Numerals ts → Numerals (t ∷ ts)
+
+-- "single spaces": one before each numeral
+unfoldable pub spaced : List (List ℕ) → List ℕ
+spaced [] = []
+spaced (t ∷ ts) = 32 ∷ (t ++ spaced ts)
+
+-- "letter, then numbers"
+abbrev pub lineText : ℕ → List (List ℕ) → List ℕ
+lineText c ts = c ∷ spaced ts
+
+-- a line of the form: the text of a capital letter and numerals
+pub record Formed (s : List ℕ) (c : ℕ) (ts : List (List ℕ)) : Type 0 where
+  pub low : 65 ≤ c
+  pub high : c ≤ 90
+  pub numerals : Numerals ts
+  pub same : s ≡ lineText c ts
+
+-- the number that digits write after v, of any size
+unfoldable pub valueFrom : ℕ → List ℕ → ℕ
+valueFrom v [] = v
+valueFrom v (b ∷ ds) = valueFrom (10 * v + (b - 48)) ds
+
+-- the number that a numeral writes, of any size
+abbrev pub numberIn : List ℕ → ℕ
+numberIn t = valueFrom 0 t
+
+-- ---- the call
+
+-- `M m`, `O c`, `R c`
+abbrev pub callOfOne : ℕ → ℕ → Call
+callOfOne c a = cond (eqb c 77) (callM a) (cond (eqb c 79) (callO a) (cond (eqb c 82) (callR a) malformed))
+
+-- `C c P`, `V c n`, `A c m`, and for `A` the length of the second run, `room`
+abbrev pub callOfTwo : ℕ → ℕ → ℕ → ℕ → Call
+callOfTwo room c a b =
+    cond (eqb c 67) (callC a b) (cond (eqb c 86) (callV a b) (cond (eqb c 65) (callA a b room) malformed))
+
+-- `D c p d`, `L c m h`, `J c m h`, `X c m h`
+abbrev pub callOfThree : ℕ → ℕ → ℕ → ℕ → Call
+callOfThree c a b d =
+    cond (eqb c 68) (callD a b d)
+    (cond (eqb c 76) (callL a b d) (cond (eqb c 74) (callJ a b d) (cond (eqb c 88) (callX a b d) malformed)))
+
+-- `I c m h a b`
+abbrev pub callOfFive : ℕ → ℕ → ℕ → ℕ → ℕ → ℕ → Call
+callOfFive c a b d e f = cond (eqb c 73) (callI a b d e f) malformed
+
+-- the call of a letter and its numbers; "any other form, is malformed"
+unfoldable pub callOf : ℕ → ℕ → List ℕ → Call
+callOf room c [] = malformed
+callOf room c (a ∷ []) = callOfOne c a
+callOf room c (a ∷ b ∷ []) = callOfTwo room c a b
+callOf room c (a ∷ b ∷ d ∷ []) = callOfThree c a b d
+callOf room c (a ∷ b ∷ d ∷ e ∷ []) = malformed
+callOf room c (a ∷ b ∷ d ∷ e ∷ f ∷ []) = callOfFive c a b d e f
+callOf room c (a ∷ b ∷ d ∷ e ∷ f ∷ g ∷ more) = malformed
+
+-- ---- the call that a line is, whatever its bytes
+
+abbrev pub isDigit : ℕ → Bool
+isDigit b = between 48 57 b
+
+-- "numbers without leading zeros"
+unfoldable pub isNumeral : List ℕ → Bool
+isNumeral [] = false
+isNumeral (b ∷ []) = isDigit b
+isNumeral (b ∷ d ∷ ds) = between 49 57 b && every isDigit (d ∷ ds)
+
+-- what stands before the first space
+unfoldable pub firstPart : List ℕ → List ℕ
+firstPart [] = []
+firstPart (b ∷ s) = cond (eqb b 32) [] (b ∷ firstPart s)
+
+-- what stands after each space, up to the next
+unfoldable pub laterParts : List ℕ → List (List ℕ)
+laterParts [] = []
+laterParts (b ∷ s) = cond (eqb b 32) (firstPart s ∷ laterParts s) (laterParts s)
+
+-- the first part is a capital letter, and each later one a numeral
+unfoldable pub callOfParts : ℕ → List ℕ → List (List ℕ) → Call
+callOfParts room [] ts = malformed
+callOfParts room (c ∷ []) ts = cond (between 65 90 c && every isNumeral ts) (callOf room c (map numberIn ts)) malformed
+callOfParts room (c ∷ d ∷ more) ts = malformed
+
+-- "An empty line, or any other form, is malformed."
+abbrev pub callIn : ℕ → List ℕ → Call
+callIn room s = callOfParts room (firstPart s) (laterParts s)
+
+-- ---- the call of a line as it has been read
+
+-- a number as a line keeps it
+abbrev pub held : List ℕ → ℕ
+held t = capped (numberIn t)
+
+-- what reading a line of the form gives
+abbrev pub lineFor : ℕ → List (List ℕ) → Line
+lineFor c ts = record { phase = Letter; letter = c; value = 0; count = length ts; numbers = sets zeros 0 (map held ts) }
+
+unfoldable pub callBy : ℕ → Phase → Line → Call
+callBy room Start l = malformed
+callBy room Letter l = callOf room (l .letter) (take (l .count) (l .numbers))
+callBy room Space l = malformed
+callBy room Zero l = malformed
+callBy room Number l = malformed
+callBy room Malformed l = malformed
+
+-- a line that has ended well is at Letter
+abbrev pub callHeld : ℕ → Line → Call
+callHeld room l = callBy room (l .phase) l
+
+-- the call with each number as a line keeps it
+unfoldable pub cappedCall : Call → Call
+cappedCall (callM m) = callM (capped m)
+cappedCall (callO c) = callO (capped c)
+cappedCall (callC c p) = callC (capped c) (capped p)
+cappedCall (callV c n) = callV (capped c) (capped n)
+cappedCall (callD c p d) = callD (capped c) (capped p) (capped d)
+cappedCall (callL c m h) = callL (capped c) (capped m) (capped h)
+cappedCall (callJ c m h) = callJ (capped c) (capped m) (capped h)
+cappedCall (callX c m h) = callX (capped c) (capped m) (capped h)
+cappedCall (callI c m h a b) = callI (capped c) (capped m) (capped h) (capped a) (capped b)
+cappedCall (callR c) = callR (capped c)
+cappedCall (callA c m room) = callA (capped c) (capped m) room
+cappedCall malformed = malformed

@@ -1,0 +1,4 @@
+-- What a sheet's line is, how it is read, and what is printed.
+pub mod Reading
+pub mod Grammar
+pub mod Printing

@@ -1,0 +1,42 @@
+-- Document 01, "prints per line the number, then any value, then `A`'s strikes": the bytes that are printed for an answer. Assumes nothing.
+use Prim.Native.Nat.{ℕ, zero, suc, _+_, _/_, _%_}
+use mathlib.Core.Bool.{cond}
+use mathlib.Core.List.{List, [], _∷_, _++_}
+use lib.Dec.{eqb, ltb}
+use Rattle.word.specs.declared.answer.Answer.{Answer}
+use Rattle.word.specs.declared.answer.Answer.the-variants.{Done, Ground, Removed, Listed, Refused}
+use Rattle.word.specs.Answers.{refusalValue, answerNumber}
+
+-- the digits of a number, the last f + 1 of them at most
+unfoldable pub decimalBy : ℕ → ℕ → List ℕ
+decimalBy zero v = (48 + v % 10) ∷ []
+decimalBy (suc f) v = cond (ltb v 10) [] (decimalBy f (v / 10)) ++ ((48 + v % 10) ∷ [])
+
+-- "All figures are written in base ten": the digits of a number, with no zero in front
+unfoldable pub decimal : ℕ → List ℕ
+decimal v = decimalBy v v
+
+-- a number after a space
+abbrev pub spacedNumber : ℕ → List ℕ
+spacedNumber v = 32 ∷ decimal v
+
+-- each number after a space
+unfoldable pub spacedNumbers : List ℕ → List ℕ
+spacedNumbers [] = []
+spacedNumbers (v ∷ vs) = spacedNumber v ++ spacedNumbers vs
+
+-- a value that is not 0
+unfoldable pub valueOrNone : ℕ → List ℕ
+valueOrNone v = cond (eqb v 0) [] (v ∷ [])
+
+-- "then any value, then `A`'s strikes; a refusal prints its number, and for 15 on `A` the value too": no other refusal has a value but 0
+unfoldable pub afterNumber : Answer → List ℕ → List ℕ
+afterNumber Done strikes = []
+afterNumber (Ground g) strikes = g ∷ []
+afterNumber (Removed count) strikes = count ∷ []
+afterNumber (Listed count) strikes = count ∷ strikes
+afterNumber (Refused why) strikes = valueOrNone (refusalValue why)
+
+-- "prints per line the number, then any value, then `A`'s strikes", and the line end
+unfoldable pub answerText : Answer → List ℕ → List ℕ
+answerText answer strikes = decimal (answerNumber answer) ++ (spacedNumbers (afterNumber answer strikes) ++ (10 ∷ []))

@@ -1,0 +1,3 @@
+// The text of a sheet: its lines read byte by byte, and the bytes that are printed for an answer.
+pub mod line;
+pub mod print;
