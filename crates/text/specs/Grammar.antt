@@ -26,6 +26,7 @@ pub data Numeral : List ℕ → Type 0 where
   lone-zero : Numeral (48 ∷ [])
   leading : {b : ℕ} {ds : List ℕ} → 48 < b → b ≤ 57 → Digits ds → Numeral (b ∷ ds)
 
+-- each of them is a numeral
 pub data Numerals : List (List ℕ) → Type 0 where
   no-numbers : Numerals []
   a-number : {t : List ℕ} {ts : List (List ℕ)} → Numeral t → Numerals ts → Numerals (t ∷ ts)
@@ -88,6 +89,7 @@ callOf room c (a ∷ b ∷ d ∷ e ∷ f ∷ g ∷ more) = malformed
 
 -- ---- the call that a line is, whatever its bytes
 
+-- a byte from `0` to `9`
 abbrev pub isDigit : ℕ → Bool
 isDigit b = between 48 57 b
 
@@ -127,6 +129,7 @@ held t = capped (numberIn t)
 abbrev pub lineFor : ℕ → List (List ℕ) → Line
 lineFor c ts = record { phase = Letter; letter = c; value = 0; count = length ts; numbers = sets zeros 0 (map held ts) }
 
+-- the call of a line, by the phase
 unfoldable pub callBy : ℕ → Phase → Line → Call
 callBy room Start l = malformed
 callBy room Letter l = callOf room (l .letter) (take (l .count) (l .numbers))

@@ -25,7 +25,7 @@ unfoldable pub spacedNumbers : List ℕ → List ℕ
 spacedNumbers [] = []
 spacedNumbers (v ∷ vs) = spacedNumber v ++ spacedNumbers vs
 
--- a value that is not 0
+-- a value, where it is not 0
 unfoldable pub valueOrNone : ℕ → List ℕ
 valueOrNone v = cond (eqb v 0) [] (v ∷ [])
 

@@ -12,6 +12,7 @@ use Rattle.text.specs.declared.line.Line.{Line}
 abbrev pub capped : ℕ → ℕ
 capped v = min v 99999999
 
+-- no number has ended
 abbrev pub zeros : List ℕ
 zeros = 0 ∷ 0 ∷ 0 ∷ 0 ∷ 0 ∷ []
 
@@ -64,6 +65,7 @@ numberOf l b =
     (cond (ltb 57 b) malformedLine
     (record { phase = Number; letter = l .letter; value = capped (10 * l .value + (b - 48)); count = l .count; numbers = l .numbers })))
 
+-- one byte more, by the phase
 unfoldable pub feedBy : Phase → Line → ℕ → Line
 feedBy Start l b = startOf b
 feedBy Letter l b = letterOf l b
@@ -76,6 +78,7 @@ feedBy Malformed l b = malformedLine
 abbrev pub feedOf : Line → ℕ → Line
 feedOf l b = feedBy (l .phase) l b
 
+-- the end, by the phase
 unfoldable pub endBy : Phase → Line → Line
 endBy Start l = malformedLine
 endBy Letter l = l

@@ -46,7 +46,7 @@ pub fn put_numbers(out: &mut [u8], at: usize, numbers: &[u32]) -> usize
     next
 }
 
-// A value that is not 0, after a space.
+// A space and a value, where it is not 0.
 fn put_value(out: &mut [u8], at: usize, value: u32) -> usize
     requires { ⌜ at + length (spacedNumbers (valueOrNone value)) ≤ length (now out) ⌝ }
     ensures { λ r. ⌜ r ≡ at + length (spacedNumbers (valueOrNone value)) ⌝ }
