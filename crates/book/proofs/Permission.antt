@@ -132,6 +132,18 @@ module _ {w w′ : List ℕ} {r : Answer} (book : T (isBook w)) where
         (last-applies (ltb (length w) (wordsTaken (changed (callL c m h) (factsOf w))))
         (number-applies (length w) (callL c m h) (factsOf w) 14 (sym drawn ∙ e)))
 
+  -- `J` gives the same judgement
+  module _ {c m h : ℕ} (made : Made (callJ c m h) w [] r w′ []) where
+    judged : answerNumber r ≡ numberOf (length w) (callJ c m h) (factsOf w)
+    judged = rw (T-true (isBook w) book) at (made .number)
+
+    pub judged-permitted : eqb (answerNumber r) 0 ≡ isPermitted c m h (factsOf w)
+    judged-permitted = ap (λ (k : ℕ). eqb k 0) judged ∙ judged-exactly (length w) c m h (factsOf w)
+
+    pub judged-ground : answerNumber r ≡ 0 → answerValue r ≡ groundOf (factsOf w) c m h
+    unfolding valueOf acceptedValue
+    judged-ground e = (rw (T-true (isBook w) book) at (made .value)) ∙ rw (sym judged ∙ e)
+
   pub opened-room : {c : ℕ} → Made (callO c) w [] r w′ [] → answerNumber r ≡ 15 → length w < wordsTaken (changed (callO c) (factsOf w))
   unfolding conditions
   opened-room {c} made e =
