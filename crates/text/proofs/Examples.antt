@@ -4,7 +4,8 @@ use mathlib.Core.List.{[], _∷_}
 use Rattle.word.specs.declared.answer.Refusal.the-variants.{AlreadyStanding, OutOfWords}
 use Rattle.word.specs.declared.answer.Answer.the-variants.{Done, Ground, Listed, Refused}
 use Rattle.book.specs.Calls.{callM, callL, callA, malformed}
-use Rattle.text.specs.Grammar.{callIn, callOf, callOfParts, firstPart, laterParts, isNumeral, valueFrom}
+use Rattle.book.specs.Letters.{callOf}
+use Rattle.text.specs.Grammar.{callIn, callOfParts, firstPart, laterParts, isNumeral, valueFrom}
 use Rattle.text.specs.Printing.{decimalBy, decimal, spacedNumbers, valueOrNone, afterNumber, answerText}
 
 -- `M 4`

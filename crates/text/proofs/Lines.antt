@@ -16,7 +16,8 @@ use Rattle.text.specs.declared.line.Phase.{Phase}
 use Rattle.text.specs.declared.line.Phase.the-variants.{Start, Letter, Space, Zero, Number, Malformed}
 use Rattle.text.specs.declared.line.Line.{Line}
 use Rattle.text.specs.Reading.{capped, zeros, lineOf}
-use Rattle.text.specs.Grammar.{Formed, numberIn, callOf, isNumeral, firstPart, laterParts, callOfParts, callIn, held, callBy, callHeld, cappedCall}
+use Rattle.book.specs.Letters.{callOf}
+use Rattle.text.specs.Grammar.{Formed, numberIn, isNumeral, firstPart, laterParts, callOfParts, callIn, held, callBy, callHeld, cappedCall}
 use Rattle.text.proofs.Cases.{bool-cases, lt-or-le}
 use Rattle.text.proofs.Complete.{complete}
 use Rattle.text.proofs.Sound.{sound}

@@ -9,6 +9,7 @@ use lib.Dec.{eqb}
 use Rattle.word.specs.Limits.{between}
 use Rattle.rule.specs.Lists.{every}
 use Rattle.book.specs.Calls.{Call, callM, callO, callC, callV, callD, callL, callJ, callX, callI, callR, callA, malformed}
+use Rattle.book.specs.Letters.{callOf}
 use Rattle.text.specs.declared.line.Phase.{Phase}
 use Rattle.text.specs.declared.line.Phase.the-variants.{Start, Letter, Space, Zero, Number, Malformed}
 use Rattle.text.specs.declared.line.Line.{Line}
@@ -55,37 +56,6 @@ valueFrom v (b ∷ ds) = valueFrom (10 * v + (b - 48)) ds
 -- the number that a numeral writes, of any size
 abbrev pub numberIn : List ℕ → ℕ
 numberIn t = valueFrom 0 t
-
--- ---- the call
-
--- `M m`, `O c`, `R c`
-abbrev pub callOfOne : ℕ → ℕ → Call
-callOfOne c a = cond (eqb c 77) (callM a) (cond (eqb c 79) (callO a) (cond (eqb c 82) (callR a) malformed))
-
--- `C c P`, `V c n`, `A c m`, and for `A` the length of the second run, `room`
-abbrev pub callOfTwo : ℕ → ℕ → ℕ → ℕ → Call
-callOfTwo room c a b =
-    cond (eqb c 67) (callC a b) (cond (eqb c 86) (callV a b) (cond (eqb c 65) (callA a b room) malformed))
-
--- `D c p d`, `L c m h`, `J c m h`, `X c m h`
-abbrev pub callOfThree : ℕ → ℕ → ℕ → ℕ → Call
-callOfThree c a b d =
-    cond (eqb c 68) (callD a b d)
-    (cond (eqb c 76) (callL a b d) (cond (eqb c 74) (callJ a b d) (cond (eqb c 88) (callX a b d) malformed)))
-
--- `I c m h a b`
-abbrev pub callOfFive : ℕ → ℕ → ℕ → ℕ → ℕ → ℕ → Call
-callOfFive c a b d e f = cond (eqb c 73) (callI a b d e f) malformed
-
--- the call of a letter and its numbers; "any other form, is malformed"
-unfoldable pub callOf : ℕ → ℕ → List ℕ → Call
-callOf room c [] = malformed
-callOf room c (a ∷ []) = callOfOne c a
-callOf room c (a ∷ b ∷ []) = callOfTwo room c a b
-callOf room c (a ∷ b ∷ d ∷ []) = callOfThree c a b d
-callOf room c (a ∷ b ∷ d ∷ e ∷ []) = malformed
-callOf room c (a ∷ b ∷ d ∷ e ∷ f ∷ []) = callOfFive c a b d e f
-callOf room c (a ∷ b ∷ d ∷ e ∷ f ∷ g ∷ more) = malformed
 
 -- ---- the call that a line is, whatever its bytes
 
