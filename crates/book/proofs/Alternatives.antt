@@ -4,8 +4,8 @@ use mathlib.Core.Path.{_≡_, refl}
 use mathlib.Core.Bool.{Bool, true, false, not, _||_}
 use mathlib.Core.Logic.{_⊎_, inl, inr}
 use native.Mathlib.Omega.{arith}
-use lib.Dec.{T, ltb}
-use borrow.Author.Tests.{ltb-true, ltb-false}
+use lib.Dec.{T, leb, ltb}
+use borrow.Author.Tests.{ltb-true, ltb-false, leb-true, leb-false, lt-ltb, le-ltb}
 
 pub or-cases : (a b : Bool) → T (a || b) → T a ⊎ T b
 or-cases true b t = inl tt
@@ -38,3 +38,10 @@ trichotomy a b = go (ltb a b) refl (ltb b a) refl
     go true e y e′ = inl (ltb-true a b e)
     go false e true e′ = inr (inr (ltb-true b a e′))
     go false e false e′ = inr (inl (omega (arith, ltb-false)))
+
+pub at-most : (a b : ℕ) → leb a b ≡ not (ltb b a)
+at-most a b = go (leb a b) refl
+  where
+    go : (x : Bool) → leb a b ≡ x → x ≡ not (ltb b a)
+    go true e = rw (le-ltb b a (leb-true a b e))
+    go false e = rw (lt-ltb b a (leb-false a b e))

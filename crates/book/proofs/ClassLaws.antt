@@ -1,18 +1,19 @@
--- The order of classes, and what a class put in its place and a new class leave of limits, order and sums: by induction on the classes, and from the laws of lists. Assumes nothing.
+-- The order of classes, and what a class put in its place and a new class leave of limits, order, sums and the class of a number: by induction on the classes, and from the laws of lists. Assumes nothing.
 use Prim.Native.Nat.{ℕ, _+_, _<_}
-use mathlib.Core.Path.{_≡_, refl, sym, ap}
-use mathlib.Core.Bool.{Bool, true, false, cond, _||_}
+use mathlib.Core.Path.{_≡_, refl, sym, ap, _∙_}
+use mathlib.Core.Bool.{Bool, true, false, cond, not, _||_}
 use mathlib.Core.List.{List, [], _∷_, map}
 use mathlib.Core.Logic.{_⊎_, inl, inr}
 use native.Mathlib.Omega.{arith}
 use lib.Dec.{T, eqb, ltb, not-T, eqb→eq, ltb→lt, lt→ltb, eqb-refl}
-use borrow.Author.Tests.{eqb-true}
+use borrow.Author.Tests.{eqb-true, eqb-false, ne-eqb, not-true}
 use Rattle.rule.specs.Lists.{every}
-use Rattle.book.specs.Facts.{OpenClass, number, newClass, isOpen, classOf, putClass, sum, isBelow}
-use Rattle.book.specs.Books.{rises}
-use Rattle.book.proofs.Tests.{and-intro, ands}
-use Rattle.book.proofs.Alternatives.{or-cases, or-left, or-right, trichotomy}
-use Rattle.book.proofs.Lists.{same-keys, StrictOrder}
+use Rattle.book.specs.Facts.{OpenClass, number, newClass, isOpen, classOf, putClass, insertClass, sum, isBelow}
+use Rattle.book.specs.Books.{rises, isClass}
+use Rattle.book.proofs.Tests.{and-intro, ands, T-true}
+use Rattle.book.proofs.Alternatives.{or-cases, or-left, or-right, nor-left, nor-right, trichotomy}
+use Rattle.book.proofs.Forms.{areSeries}
+use Rattle.book.proofs.Lists.{every-imply, same-keys, StrictOrder}
 
 -- ---- the order
 
@@ -60,6 +61,11 @@ every-of p c (x ∷ xs) new t = go (eqb (number x) c) (every-of p c xs new (sear
     go true r = search ands
     go false r = r
 
+pub series-of : (now c : ℕ) (xs : List OpenClass) → T (every (isClass now) xs) → T (areSeries now (classOf c xs .series))
+series-of now c xs t =
+    let good : OpenClass → Bool = λ x. areSeries now (x .series) in
+    every-of good c xs tt (every-imply (isClass now) good (λ x l. search ands) xs t)
+
 -- ---- a class put in its place
 
 pub every-put :
@@ -97,3 +103,61 @@ sum-put size y (x ∷ xs) o = go (eqb (number x) (number y)) o (sum-put size y x
         ≡ size x + sum size xs + size y
     go true u r = omega arith
     go false u r = omega (arith, r u)
+
+-- the class of a number, with another class in its place
+pub class-of-put :
+    (y : OpenClass) (c : ℕ) (xs : List OpenClass) → T (isOpen (number y) xs)
+    → classOf c (putClass y xs) ≡ cond (eqb (number y) c) y (classOf c xs)
+class-of-put y c [] o = absurd o
+class-of-put y c (x ∷ xs) o = go (eqb (number x) (number y)) refl o (eqb (number y) c) refl (class-of-put y c xs)
+  where
+    go :
+        (b : Bool) → eqb (number x) (number y) ≡ b → T (b || isOpen (number y) xs) → (d : Bool) → eqb (number y) c ≡ d
+        → (T (isOpen (number y) xs) → classOf c (putClass y xs) ≡ cond d y (classOf c xs))
+        → classOf c (cond b (y ∷ xs) (x ∷ putClass y xs)) ≡ cond d y (cond (eqb (number x) c) x (classOf c xs))
+    go true e u true q r = rw q
+    go true e u false q r = rw (eqb-true (number x) (number y) e, q)
+    go false e u true q r =
+        rw (ne-eqb (number x) c (λ k. eqb-false (number x) (number y) e (k ∙ sym (eqb-true (number y) c q)))) (r u)
+    go false e u false q r = ap (cond (eqb (number x) c) x) (r u)
+
+-- ---- each class changed, and a new class
+
+pub class-of-map :
+    (g : OpenClass → OpenClass) → ((x : OpenClass) → number (g x) ≡ number x) → (c : ℕ) → g (newClass c) ≡ newClass c
+    → (xs : List OpenClass) → classOf c (map g xs) ≡ g (classOf c xs)
+class-of-map g same c new [] = sym new
+class-of-map g same c new (x ∷ xs) =
+    ap (λ (k : ℕ). cond (eqb k c) (g x) (classOf c (map g xs))) (same x)
+    ∙ go (eqb (number x) c) (class-of-map g same c new xs)
+  where
+    go : (b : Bool) → classOf c (map g xs) ≡ g (classOf c xs) → cond b (g x) (classOf c (map g xs)) ≡ g (cond b x (classOf c xs))
+    go true r = refl
+    go false r = r
+
+-- a number that is not open
+class-of-none : (c : ℕ) (xs : List OpenClass) → T (not (isOpen c xs)) → classOf c xs ≡ newClass c
+class-of-none c [] t = refl
+class-of-none c (x ∷ xs) t =
+    rw (not-true (eqb (number x) c) (T-true (not (eqb (number x) c)) (nor-left (eqb (number x) c) (isOpen c xs) t)))
+    (class-of-none c xs (nor-right (eqb (number x) c) (isOpen c xs) t))
+
+class-of-front :
+    (d c : ℕ) (xs : List OpenClass) → T (not (isOpen d xs)) → classOf c (newClass d ∷ xs) ≡ classOf c xs
+class-of-front d c xs t = go (eqb d c) refl
+  where
+    go : (b : Bool) → eqb d c ≡ b → cond b (newClass d) (classOf c xs) ≡ classOf c xs
+    go true e = sym (class-of-none d xs t) ∙ ap (λ (k : ℕ). classOf k xs) (eqb-true d c e)
+    go false e = refl
+
+pub class-of-inserted :
+    (d c : ℕ) (xs : List OpenClass) → T (not (isOpen d xs)) → classOf c (insertClass (newClass d) xs) ≡ classOf c xs
+class-of-inserted d c [] t = class-of-front d c [] t
+class-of-inserted d c (x ∷ xs) t =
+    go (ltb d (number x)) (class-of-inserted d c xs (nor-right (eqb (number x) d) (isOpen d xs) t))
+  where
+    go :
+        (b : Bool) → classOf c (insertClass (newClass d) xs) ≡ classOf c xs
+        → classOf c (cond b (newClass d ∷ x ∷ xs) (x ∷ insertClass (newClass d) xs)) ≡ classOf c (x ∷ xs)
+    go true r = class-of-front d c (x ∷ xs) t
+    go false r = ap (cond (eqb (number x) c) x) r

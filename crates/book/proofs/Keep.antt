@@ -52,6 +52,13 @@ set-designation p q d r = go (eqb p 1) (eqb q 1)
     go false true = inl refl
     go false false = inr (refl, refl)
 
+pub number-designated : (p d : ℕ) (r : ClassRecord) → withDesignation p d r .number ≡ r .number
+number-designated p d r = go (eqb p 1)
+  where
+    go : (b : Bool) → cond b (withDollar d r) (withHalf d r) .number ≡ r .number
+    go true = refl
+    go false = refl
+
 -- a designation that is no new 1, or a cap with room
 newly-cases :
     (d old : ℕ) (reached : Bool) → T (not ((eqb d 1 && not (eqb old 1)) && reached))
@@ -159,7 +166,7 @@ module _ (n : ℕ) (f : Facts) (c : ℕ) (w : Well n f) (k : T (isClassNumber c)
       (p d : ℕ) → T (isDesignation d) → T (not (isNewlyOurs f c p d && isCapReached f p))
       → Well n (update (withFigures (withDesignation p d (class f c .figures)) (class f c)) f)
   keep-designation p d t new =
-      keep-figures (withDesignation p d r) (number-kept (eqb p 1)) (figures (eqb p 1))
+      keep-figures (withDesignation p d r) number-kept (figures (eqb p 1))
       (λ q. cap q (set-designation p q d r))
     where
       r : ClassRecord
@@ -168,10 +175,8 @@ module _ (n : ℕ) (f : Facts) (c : ℕ) (w : Well n f) (k : T (isClassNumber c)
       y : OpenClass
       y = withFigures (withDesignation p d r) (class f c)
 
-      number-kept :
-          (b : Bool) → cond b (withDollar d r) (withHalf d r) .number ≡ c
-      number-kept true = class-number
-      number-kept false = class-number
+      number-kept : withDesignation p d r .number ≡ c
+      number-kept = number-designated p d r ∙ class-number
 
       figures :
           (b : Bool) → T (areFigures (cond b (withDollar d r) (withHalf d r)))
@@ -182,10 +187,10 @@ module _ (n : ℕ) (f : Facts) (c : ℕ) (w : Well n f) (k : T (isClassNumber c)
           (q : ℕ)
           → (designation q (y .figures) ≡ designation q r) ⊎ ((designation q (y .figures) ≡ d) × (eqb q 1 ≡ eqb p 1))
           → owned q (putClass y (f .classes)) ≤ capOf q
-      cap q (inl e) = cap-kept y (number-kept (eqb p 1)) q (omega (arith, ap own e))
+      cap q (inl e) = cap-kept y number-kept q (omega (arith, ap own e))
       cap q (inr (e, same)) =
           let here : T (not (isNewlyOurs f c q d && isCapReached f q)) = rw same new in
-          let count = sum-after (λ x. own (designation q (x .figures))) y (number-kept (eqb p 1)) in
+          let count = sum-after (λ x. own (designation q (x .figures))) y number-kept in
           elim (newly-cases d (designation q r) (isCapReached f q) here) [
             | inl l ↦ omega (arith, count, ap own e, w .caps q)
             | inr room ↦ omega (arith, count, ap own e, own-at-most-one d, nleb→lt (capOf q) (owned q (f .classes)) room)

@@ -15,6 +15,7 @@ pub mod Permits
 pub mod Examples
 pub mod Answered
 pub mod Permission
+pub mod Added
 pub mod Parts
 pub mod Expirations
 pub mod Splits

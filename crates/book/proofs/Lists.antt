@@ -1,7 +1,7 @@
--- Lists under any test and any order: what keeping some, changing each and inserting one leave of `every`, `rises` and sums, through the form in which each element stands before all later ones. Assumes nothing.
+-- Lists under any test and any order: what keeping some, changing each and inserting one leave of `every`, `some`, `rises` and sums, through the form in which each element stands before all later ones. Assumes nothing.
 use Prim.Native.Nat.{ℕ, suc, _+_, _≤_, zero-le}
 use mathlib.Core.Path.{_≡_, refl, sym, ap, _∙_, subst}
-use mathlib.Core.Bool.{Bool, true, false, cond, not, _&&_, _||_}
+use mathlib.Core.Bool.{Bool, true, false, cond, not, _&&_, _||_, or-true}
 use mathlib.Core.List.{List, [], _∷_, map}
 use mathlib.Core.Logic.{inl, inr}
 use native.Mathlib.Omega.{arith}
@@ -48,6 +48,10 @@ module _ {A : Type 0} where
       let a : T (not (p x)) = nor-left (p x) (some p xs) t in
       let b : T (every (λ x. not (p x)) xs) = not-some p xs (nor-right (p x) (some p xs) t) in
       search and-intro
+
+  pub some-map : (p : A → Bool) (g : A → A) → ((x : A) → p (g x) ≡ p x) → (xs : List A) → some p (map g xs) ≡ some p xs
+  some-map p g f [] = refl
+  some-map p g f (x ∷ xs) = let r = some-map p g f xs in λ i. f x i || r i
 
   pub length-only : (keep : A → Bool) (xs : List A) → length (only keep xs) ≤ length xs
   length-only keep [] = zero-le
@@ -137,6 +141,20 @@ module _ {A : Type 0} (before : A → A → Bool) where
       go : (b : Bool) → T (every p (inserted before y xs)) → T (every p (cond b (y ∷ x ∷ xs) (x ∷ inserted before y xs)))
       go true rest = search and-intro
       go false rest = let c : T (p x) = search ands in search and-intro
+
+  pub some-inserted : (p : A → Bool) (y : A) (xs : List A) → some p (inserted before y xs) ≡ (p y || some p xs)
+  some-inserted p y [] = refl
+  some-inserted p y (x ∷ xs) = go (before y x) (some-inserted p y xs)
+    where
+      swapped : (a b c : Bool) → (a || (b || c)) ≡ (b || (a || c))
+      swapped a true c = or-true a
+      swapped a false c = refl
+
+      go :
+          (b : Bool) → some p (inserted before y xs) ≡ (p y || some p xs)
+          → some p (cond b (y ∷ x ∷ xs) (x ∷ inserted before y xs)) ≡ (p y || (p x || some p xs))
+      go true e = refl
+      go false e = ap (λ (b : Bool). p x || b) e ∙ swapped (p x) (p y) (some p xs)
 
   pub sum-inserted : (size : A → ℕ) (y : A) (xs : List A) → sum size (inserted before y xs) ≡ size y + sum size xs
   sum-inserted size y [] = refl

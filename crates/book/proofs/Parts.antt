@@ -1,7 +1,7 @@
 -- A list that rises by a number of its elements is what stands below a number, at it and above it, and an edit at that number leaves what stands beside it: by induction on the list. Assumes nothing.
 use Prim.Native.Nat.{ℕ, _≤_, _<_}
-use mathlib.Core.Path.{_≡_, refl, ap, _∙_}
-use mathlib.Core.Bool.{Bool, true, false, cond, not, _&&_, _||_}
+use mathlib.Core.Path.{_≡_, refl, sym, ap, _∙_}
+use mathlib.Core.Bool.{Bool, true, false, cond, not, _&&_, _||_, and-comm}
 use mathlib.Core.List.{List, [], _∷_, _++_, map}
 use mathlib.Core.Logic.{_⊎_, inl, inr}
 use native.Mathlib.Omega.{arith}
@@ -52,6 +52,9 @@ module _ {A : Type 0} where
           ≡ cond (b && q x) (x ∷ only (λ x. p x && q x) xs) (only (λ x. p x && q x) xs)
       go true r = ap (λ (l : List A). cond (q x) (x ∷ l) l) r
       go false r = r
+
+  pub only-either-way : (p q : A → Bool) (xs : List A) → only q (only p xs) ≡ only p (only q xs)
+  only-either-way p q xs = only-both p q xs ∙ (λ i. only (λ x. and-comm (p x) (q x) i) xs) ∙ sym (only-both q p xs)
 
   pub some-both : (p q : A → Bool) (xs : List A) → some q (only p xs) ≡ some (λ x. p x && q x) xs
   some-both p q [] = refl

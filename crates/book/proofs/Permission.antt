@@ -10,24 +10,17 @@ use lib.Dec.{T, eqb, ltb, ltb→lt, leb→le}
 use Rattle.word.specs.declared.answer.Answer.{Answer}
 use Rattle.word.specs.Answers.{answerNumber, answerValue}
 use Rattle.rule.specs.Terms.{isOutside}
-use Rattle.rule.specs.Judgement.{judgement, isAccepted}
+use Rattle.rule.specs.Judgement.{judgement}
 use Rattle.book.specs.Facts.{Facts, capOf, owned, wordsTaken}
 use Rattle.book.specs.Layout.{factsOf}
 use Rattle.book.specs.Books.{isBook}
 use Rattle.book.specs.Calls.{Call, callO, callD, callL, callJ, isWritten, isNotOpen, isStanding, hasNoClose, isNewlyOurs, isCapReached, setting, standingIn, groundOf, changed, Condition, draws, first, judging, conditions, numberOf, acceptedValue, valueOf}
 use Rattle.book.specs.Made.{Made}
+use Rattle.book.specs.Permission.{isPermitted, areWordsLeft}
 use Rattle.book.proofs.Tests.{ands, T-true}
+use Rattle.book.proofs.Alternatives.{at-most}
 use Rattle.book.proofs.Order.{applies, allConditions, lowest-number}
 use Rattle.book.proofs.Permits.{judging-number}
-
--- document 01's term: the strike is permitted, spacing included
-abbrev pub isPermitted : ℕ → ℕ → ℕ → Facts → Bool
-isPermitted c m h f =
-    isWritten (callJ c m h)
-    && (not (isNotOpen f c)
-    && (not (isOutside (setting f c m))
-    && (not (isStanding f c m h)
-    && (not (hasNoClose f c) && isAccepted (judgement (setting f c m) (standingIn f c m) h)))))
 
 -- `J` accepts exactly the permitted strikes
 pub judged-exactly : (n c m h : ℕ) (f : Facts) → eqb (numberOf n (callJ c m h) f) 0 ≡ isPermitted c m h f
@@ -80,6 +73,22 @@ listing-number :
 unfolding numberOf conditions
 listing-number n c m h f =
     first-append (draws 2 (not (isWritten (callJ c m h))) ∷ judging c m h f) 15 (ltb n (wordsTaken (changed (callL c m h) f))) tt
+
+-- `L` accepts exactly the permitted strikes that words are left for
+pub listing-exactly :
+    (n c m h : ℕ) (f : Facts) → eqb (numberOf n (callL c m h) f) 0 ≡ (isPermitted c m h f && areWordsLeft n c m h f)
+listing-exactly n c m h f =
+    ap (λ (k : ℕ). eqb k 0) (listing-number n c m h f)
+    ∙ go (eqb j 0) refl (ltb n (wordsTaken (changed (callL c m h) f)))
+    ∙ (λ i. judged-exactly n c m h f i && sym (at-most (wordsTaken (changed (callL c m h) f)) n) i)
+  where
+    j : ℕ
+    j = numberOf n (callJ c m h) f
+
+    go : (accepted : Bool) → eqb j 0 ≡ accepted → (short : Bool) → eqb (cond accepted (cond short 15 0) j) 0 ≡ (accepted && not short)
+    go true e true = refl
+    go true e false = refl
+    go false e short = e
 
 -- a number that is drawn applies
 number-applies : (n : ℕ) (x : Call) (f : Facts) (k : ℕ) → numberOf n x f ≡ suc k → T (applies (suc k) (allConditions n x f))

@@ -9,14 +9,14 @@ use lib.Dec.{T, eqb→eq}
 use borrow.Author.Tests.{not-true}
 use Rattle.rule.specs.Lists.{every}
 use Rattle.book.specs.Facts.{Series, OpenClass, Facts, number, classOf, precedes, isBelow}
-use Rattle.book.specs.Books.{rises, isClass, isWellFormed}
+use Rattle.book.specs.Books.{rises, isWellFormed}
 use Rattle.book.specs.Points.{StrikeFact, absent, standing, ClassFact, notOpen, opened, strikeAt, classAt, SameFacts}
 use Rattle.book.proofs.Tests.{and-intro, ands, T-true}
 use Rattle.book.proofs.Alternatives.{or-cases, nor-left, nor-right}
-use Rattle.book.proofs.Lists.{every-imply, StrictOrder, ordered, before-every, rises-ordered}
+use Rattle.book.proofs.Lists.{StrictOrder, ordered, before-every, rises-ordered}
 use Rattle.book.proofs.Forms.{Well, well}
 use Rattle.book.proofs.SeriesLaws.{isWith, series-order}
-use Rattle.book.proofs.ClassLaws.{isNumbered, class-order, every-of}
+use Rattle.book.proofs.ClassLaws.{isNumbered, class-order, series-of}
 
 -- a look into a list finds the value of the first element that has the place of k
 record Lookup {A R : Type 0} (same : A → A → Bool) (none : R) (value : A → R) (look : A → List A → R) : Type 0 where
@@ -183,17 +183,10 @@ same-facts n n′ f g t u = (points, whole)
         (λ k. let fact = s .classes (number k) in let same = series (number k) in λ i. record { fact = fact i; series = same i }) in
         λ i. record { now = now i; classes = classes i }
       where
-        rising :
-            (now c : ℕ) (xs : List OpenClass) → T (every (isClass now) xs) → T (rises precedes (classOf c xs .series))
-        rising now c xs t =
-            every-of risesIn c xs tt (every-imply (isClass now) risesIn (λ x l. search ands) xs t)
-          where
-            risesIn : OpenClass → Bool
-            risesIn = λ x. rises precedes (x .series)
-
         series : (c : ℕ) → classOf c (f .classes) .series ≡ classOf c (g .classes) .series
         series c =
+            let a = series-of (f .now) c (f .classes) (v .limits) in
+            let b = series-of (g .now) c (g .classes) (w .limits) in
             equal-rising isWith precedes series-order absent strikeFact strikeFound series-lookup
-            (classOf c (f .classes) .series) (classOf c (g .classes) .series)
-            (rising (f .now) c (f .classes) (v .limits)) (rising (g .now) c (g .classes) (w .limits))
+            (classOf c (f .classes) .series) (classOf c (g .classes) .series) (search ands) (search ands)
             (λ k. s .strikes c (k .month) (k .strike))

@@ -1,8 +1,8 @@
 -- Tests joined by `and`, a passed test as `T b` or as `b ≡ true`, and the test of equal numbers: by cases on the test. Assumes nothing.
 use Prim.Native.Nat.{ℕ}
-use mathlib.Core.Path.{_≡_, refl}
+use mathlib.Core.Path.{_≡_, refl, sym}
 use mathlib.Core.Bool.{Bool, true, false, _&&_}
-use lib.Dec.{T, eqb, eqb-refl}
+use lib.Dec.{T, eqb, eqb→eq, eqb-refl}
 
 pub and-left : (a b : Bool) → T (a && b) → T a
 and-left true b t = tt
@@ -34,3 +34,7 @@ same-bool true true f g = refl
 same-bool true false f g = absurd (f tt)
 same-bool false true f g = absurd (g tt)
 same-bool false false f g = refl
+
+pub equal-either-way : (m n : ℕ) → eqb m n ≡ eqb n m
+equal-either-way m n =
+    same-bool (eqb m n) (eqb n m) (λ t. equal-test n m (sym (eqb→eq m n t))) (λ t. equal-test m n (sym (eqb→eq n m t)))

@@ -2,6 +2,10 @@ pub mod Facts
 pub mod Layout
 pub mod Books
 pub mod Calls
+pub mod Letters
 pub mod Points
 pub mod Places
 pub mod Made
+pub mod CallLists
+pub mod Permission
+pub mod Added
