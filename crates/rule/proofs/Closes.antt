@@ -16,7 +16,7 @@ use Rattle.rule.specs.Terms.{isLong, isNear, isOutside, price}
 use Rattle.rule.specs.Ranges.{lowest, amongFive}
 use Rattle.rule.specs.Ends.{highestPermitted}
 use Rattle.rule.specs.Spacing.{Standing}
-use Rattle.rule.specs.Judgement.{judgement, isAccepted, permitted}
+use Rattle.rule.specs.Judgement.{judgement, isPermittedBeside, permitted}
 use Rattle.rule.proofs.Bound.{permitted-short}
 
 pub data Case : Type 0 where
@@ -50,7 +50,7 @@ data Outcome : Type 0 where
 
 abbrev computed : ClassRecord → Case → Outcome
 computed c (permits s standing strikes) =
-    strikesOf (leb (highestPermitted (price s)) 19999) (only (λ h. isAccepted (judgement s standing h)) (upFrom (highestPermitted (price s)) 1))
+    strikesOf (leb (highestPermitted (price s)) 19999) (only (isPermittedBeside s standing) (upFrom (highestPermitted (price s)) 1))
 computed c (answers s standing h answer) = answerOf (judgement s standing h)
 computed c (refused now month) = testsOf (isOutside (seenFrom now month c) ∷ [])
 computed c (near now month) = testsOf (isOutside (seenFrom now month c) ∷ isNear (seenFrom now month c) ∷ [])

@@ -5,4 +5,5 @@ pub mod Rows
 pub mod Walks
 pub mod Permitted
 pub mod Bound
+pub mod Near
 pub mod Closes

@@ -1,4 +1,4 @@
--- The list of permitted strikes rises and holds exactly the strikes that are accepted, by two laws on what passes a test among the numbers from one on. Assumes nothing.
+-- The list of permitted strikes rises and holds exactly the strikes that are permitted, by two laws on what passes a test among the numbers from one on. Assumes nothing.
 use mathlib.Core.Path.{_≡_, refl, sym, ap, ap₂, _∙_}
 use mathlib.Core.Bool.{Bool, true, false, cond, _&&_, _||_, and-false}
 use mathlib.Core.List.{List, [], _∷_}
@@ -10,12 +10,8 @@ use Rattle.word.specs.Limits.{isStrike}
 use Rattle.rule.specs.declared.terms.Setting.{Setting}
 use Rattle.rule.specs.Lists.{some, only, upFrom, Rising}
 use Rattle.rule.specs.Spacing.{Standing}
-use Rattle.rule.specs.Judgement.{judgement, isAccepted, permitted}
+use Rattle.rule.specs.Judgement.{isPermittedBeside, permitted}
 use Rattle.rule.proofs.Tests.{same-leb}
-
-rising-rest : (x : ℕ) (xs : List ℕ) → Rising (x ∷ xs) → Rising xs
-rising-rest x [] r = tt
-rising-rest x (y ∷ ys) r = r .1
 
 module _ (test : ℕ → Bool) where
   rises-after : (n low h : ℕ) → low < h → Rising (low ∷ only test (upFrom n h))
@@ -25,6 +21,15 @@ module _ (test : ℕ → Bool) where
       go : (t : Bool) → Rising (h ∷ only test (upFrom n (suc h))) → Rising (low ∷ only test (upFrom n (suc h))) →
           Rising (low ∷ cond t (h ∷ only test (upFrom n (suc h))) (only test (upFrom n (suc h))))
       go true r q = (l, r)
+      go false r q = q
+
+  pub only-rises : (n low : ℕ) → Rising (only test (upFrom n low))
+  only-rises zero low = tt
+  only-rises (suc n) low = go (test low) (rises-after n low (suc low) (omega arith)) (only-rises n (suc low))
+    where
+      go : (t : Bool) → Rising (low ∷ only test (upFrom n (suc low))) → Rising (only test (upFrom n (suc low))) →
+          Rising (cond t (low ∷ only test (upFrom n (suc low))) (only test (upFrom n (suc low))))
+      go true r q = r
       go false r q = q
 
   among-only : (h : ℕ) (xs : List ℕ) → some (eqb h) (only test xs) ≡ (some (eqb h) xs && test h)
@@ -56,15 +61,16 @@ among-numbers (suc n) low h = go (eqb h low) refl (among-numbers n (suc low) h)
         ∙ ap₂ _&&_ (same-leb (suc low) h low h (λ l. omega arith) (λ l. omega (arith, eqb-false h low e)))
         (same-leb (suc h) (suc low + n) (suc h) (low + suc n) (λ l. omega arith) (λ l. omega arith))
 
-only-exactly : (test : ℕ → Bool) (n low h : ℕ) → some (eqb h) (only test (upFrom n low)) ≡ (leb low h && ltb h (low + n) && test h)
+pub only-exactly : (test : ℕ → Bool) (n low h : ℕ) → some (eqb h) (only test (upFrom n low)) ≡ (leb low h && ltb h (low + n) && test h)
 only-exactly test n low h = among-only test h (upFrom n low) ∙ ap (λ (t : Bool). t && test h) (among-numbers n low h)
 
 pub permitted-rises : (s : Setting) (standing : List Standing) → Rising (permitted s standing)
-permitted-rises s standing =
-    rising-rest 0 (permitted s standing) (rises-after (λ h. isAccepted (judgement s standing h)) 19999 0 1 (omega arith))
+unfolding permitted
+permitted-rises s standing = only-rises (isPermittedBeside s standing) 19999 1
 
 pub permitted-exactly : (s : Setting) (standing : List Standing) (h : ℕ) →
-    some (eqb h) (permitted s standing) ≡ (isStrike h && isAccepted (judgement s standing h))
+    some (eqb h) (permitted s standing) ≡ (isStrike h && isPermittedBeside s standing h)
+unfolding permitted
 permitted-exactly s standing h =
-    only-exactly (λ x. isAccepted (judgement s standing x)) 19999 1 h
-    ∙ ap (λ (t : Bool). leb 1 h && t && isAccepted (judgement s standing h)) (leb·suc-suc h 19999)
+    only-exactly (isPermittedBeside s standing) 19999 1 h
+    ∙ ap (λ (t : Bool). leb 1 h && t && isPermittedBeside s standing h) (leb·suc-suc h 19999)

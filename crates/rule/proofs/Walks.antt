@@ -1,14 +1,14 @@
 -- The search for the first number that passes a test, one number at a time, and the walk along a list, one element at a time: what is asked of all is asked of those that are left. Assumes nothing.
 use mathlib.Core.Path.{_≡_, refl, sym, ap, _∙_}
-use mathlib.Core.Bool.{Bool, true, false, cond, _&&_, and-false}
+use mathlib.Core.Bool.{Bool, true, false, cond, _&&_, _||_, and-false}
 use mathlib.Core.List.{List, [], _∷_, map}
 use Prim.Native.Nat.{ℕ, zero, suc, _+_, _-_, _≤_, _<_}
 use native.Mathlib.Omega.{arith}
 use native.Mathlib.Numerals.{add-one}
-use lib.Dec.{eqb}
+use lib.Dec.{eqb, ltb}
 use lib.ListN.{length, getD, drop, drop-of-length-le}
 use lib.Seq.{drop-cons}
-use borrow.Author.Tests.{eq-eqb, ne-eqb}
+use borrow.Author.Tests.{eq-eqb, ne-eqb, eqb-true, eqb-false}
 use Rattle.word.specs.declared.answer.Answer.{Answer}
 use Rattle.word.specs.declared.answer.Answer.the-variants.{Refused}
 use Rattle.rule.specs.declared.terms.Setting.{Setting}
@@ -16,34 +16,34 @@ use Rattle.rule.specs.Lists.{every, upFrom}
 use Rattle.rule.specs.Grids.{grounds, gridOf}
 use Rattle.rule.specs.Ranges.{rangeOf}
 use Rattle.rule.specs.Spacing.{Standing, spacingOf}
-use Rattle.rule.specs.Judgement.{rowsOf, refusalOf, groundFrom, decided, firstFrom, firstGround, judgement}
+use Rattle.rule.specs.Judgement.{rowOf, rowsOf, passes, refusalOf, groundFrom, decided, firstFrom, firstGround, judgement, isAccepted}
 use Rattle.rule.proofs.Tests.{and-left}
+use Rattle.rule.proofs.Rows.{accepted-passes}
 
 pub every-map : {A B : Type 0} (test : B → Bool) (f : A → B) (xs : List A) → every test (map f xs) ≡ every (λ x. test (f x)) xs
 every-map test f [] = refl
 every-map test f (x ∷ xs) = ap (λ (t : Bool). test (f x) && t) (every-map test f xs)
 
--- of n numbers from 0 none below g passes the test
-pub record Passed (test : ℕ → Bool) (n g : ℕ) : Type 0 where
+-- of the numbers from low up to n none below g passes the test
+pub record Passed (test : ℕ → Bool) (low n g : ℕ) : Type 0 where
+  pub above : low ≤ g
   pub bound : g ≤ n
-  pub same : firstFrom test n 0 ≡ firstFrom test (n - g) g
+  pub same : firstFrom test (n - low) low ≡ firstFrom test (n - g) g
 
-pub passed-none : (test : ℕ → Bool) (n : ℕ) → Passed test n 0
-passed-none test n =
-    let e : n ≡ n - 0 = omega arith in
-    record { bound = omega arith; same = ap (λ (m : ℕ). firstFrom test m 0) e }
+pub passed-none : (test : ℕ → Bool) (low n : ℕ) → low ≤ n → Passed test low n low
+passed-none test low n l = record { above = omega arith; bound = l; same = refl }
 
-module _ {test : ℕ → Bool} {n g : ℕ} (passed : Passed test n g) where
-  step : (m : ℕ) → n - g ≡ m → firstFrom test n 0 ≡ firstFrom test m g
+module _ {test : ℕ → Bool} {low n g : ℕ} (passed : Passed test low n g) where
+  step : (m : ℕ) → n - g ≡ m → firstFrom test (n - low) low ≡ firstFrom test m g
   step m e = passed .same ∙ ap (λ (k : ℕ). firstFrom test k g) e
 
-  pub passed-here : g < n → test g ≡ true → g ≡ firstFrom test n 0
+  pub passed-here : g < n → test g ≡ true → g ≡ firstFrom test (n - low) low
   passed-here l e = sym (step (suc (n - (g + 1))) (omega arith) ∙ rw e)
 
-  pub passed-next : g < n → test g ≡ false → Passed test n (g + 1)
-  passed-next l e = record { bound = omega arith; same = step (suc (n - (g + 1))) (omega arith) ∙ rw e }
+  pub passed-next : g < n → test g ≡ false → Passed test low n (g + 1)
+  passed-next l e = record { above = omega arith; bound = omega arith; same = step (suc (n - (g + 1))) (omega arith) ∙ rw e }
 
-  pub passed-all : n ≤ g → g ≡ firstFrom test n 0
+  pub passed-all : n ≤ g → g ≡ firstFrom test (n - low) low
   passed-all l = sym (step 0 (omega arith))
 
 -- the first i elements pass the test
@@ -64,13 +64,31 @@ module _ {A : Type 0} {test : A → Bool} {xs : List A} {i : ℕ} (d : A) (clear
   pub cleared-all : length xs ≤ i → every test xs ≡ true
   cleared-all l = cleared .same ∙ rw (drop-of-length-le xs {i = i} l)
 
-first-least : (test : ℕ → Bool) (n g : ℕ) → g ≤ firstFrom test n g
-first-least test zero g = omega arith
-first-least test (suc n) g = go (test g) (first-least test n (g + 1))
+-- f is the first of the n numbers from g up that passes the test, or g + n
+pub record First (test : ℕ → Bool) (n g f : ℕ) : Type 0 where
+  pub least : g ≤ f
+  pub most : f ≤ g + n
+  pub before : (i : ℕ) → g ≤ i → i < f → test i ≡ false
+  pub passes-here : f < g + n → test f ≡ true
+
+pub first-found : (test : ℕ → Bool) (n g : ℕ) → First test n g (firstFrom test n g)
+first-found test zero g =
+    record { least = omega arith; most = omega arith; before = λ i l k. absurd (omega arith); passes-here = λ l. absurd (omega arith) }
+first-found test (suc n) g = go (test g) refl (first-found test n (g + 1))
   where
-    go : (t : Bool) → g + 1 ≤ firstFrom test n (g + 1) → g ≤ cond t g (firstFrom test n (g + 1))
-    go true l = omega arith
-    go false l = omega arith
+    go : (t : Bool) → test g ≡ t → First test n (g + 1) (firstFrom test n (g + 1)) → First test (suc n) g (cond t g (firstFrom test n (g + 1)))
+    go true e r = record { least = omega arith; most = omega arith; before = λ i l k. absurd (omega arith); passes-here = λ l. e }
+    go false e r =
+        record {
+          least = omega arith;
+          most = omega arith;
+          before = λ i l k. here i l k (eqb i g) refl;
+          passes-here = λ l. r .passes-here (omega arith);
+        }
+      where
+        here : (i : ℕ) → g ≤ i → i < firstFrom test n (g + 1) → (u : Bool) → eqb i g ≡ u → test i ≡ false
+        here i l k true q = rw (eqb-true i g q) e
+        here i l k false q = r .before i (omega (arith, eqb-false i g q)) k
 
 -- the rows of n grounds from g on, by the three tests of a ground
 rowsBy : (ℕ → Bool) → (ℕ → Bool) → (ℕ → Bool) → ℕ → ℕ → List (List Bool)
@@ -92,7 +110,7 @@ marked v grid range spacing found (suc n) g e = go (grid g && range g && spacing
         rw (q, and-left (grid g && range g) (spacing g) q, eq-eqb g found (sym i))
     go false q r =
         let i : found ≡ firstFrom (λ x. grid x && range x && spacing x) n (g + 1) = e ∙ rw q in
-        let l : g < found = omega (arith, i, first-least (λ x. grid x && range x && spacing x) n (g + 1)) in
+        let l : g < found = omega (arith, i, first-found (λ x. grid x && range x && spacing x) n (g + 1) .least) in
         rw (q, ne-eqb g found (λ k. omega arith), and-false, ← add-one g) (r i)
 
 pub marked-judgement : (s : Setting) (standing : List Standing) (h found : ℕ) → found ≡ firstGround s standing h →
@@ -100,3 +118,16 @@ pub marked-judgement : (s : Setting) (standing : List Standing) (h found : ℕ) 
 unfolding rowsBy
 marked-judgement s standing h found e =
     marked (Refused (refusalOf (rowsOf s standing h))) (λ g. gridOf s g h) (λ g. rangeOf s g h) (λ g. spacingOf s standing g h) found 4 0 e
+
+pub accepted-first : (s : Setting) (standing : List Standing) (h : ℕ) → ltb (firstGround s standing h) 4 ≡ isAccepted (judgement s standing h)
+accepted-first s standing h = go (passes-at 0) (passes-at 1) (passes-at 2) (passes-at 3) ∙ sym (accepted-passes (rowsOf s standing h))
+  where
+    passes-at : ℕ → Bool
+    passes-at g = passes (rowOf s standing h g)
+
+    go : (a b c d : Bool) → ltb (cond a 0 (cond b 1 (cond c 2 (cond {A = ℕ} d 3 4)))) 4 ≡ (a || (b || (c || (d || false))))
+    go true b c d = refl
+    go false true c d = refl
+    go false false true d = refl
+    go false false false true = refl
+    go false false false false = refl

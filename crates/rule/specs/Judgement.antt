@@ -1,6 +1,6 @@
 -- Document 01, end of "Spacing": the ground of a strike, or 11, 12 or 13, and the list of permitted strikes. Assumes nothing.
 use Prim.Native.Nat.{ℕ, zero, suc, _+_, _≤_}
-use mathlib.Core.Bool.{Bool, false, cond, _&&_}
+use mathlib.Core.Bool.{Bool, false, cond, not, _&&_}
 use mathlib.Core.List.{List, [], _∷_, map}
 use lib.Dec.{eqb}
 use lib.ListN.{getD}
@@ -60,9 +60,13 @@ judgement s standing h = decided (rowsOf s standing h)
 abbrev pub isAccepted : Answer → Bool
 isAccepted a = eqb (answerNumber a) 0
 
--- the strikes that the rules permit beside those that stand, rising; that a strike stands already is asked before
-abbrev pub permitted : Setting → List Standing → List ℕ
-permitted s standing = only (λ h. isAccepted (judgement s standing h)) (upFrom 19999 1)
+-- document 01's term, beside the strikes that stand: the rules accept it, and it is none of them
+abbrev pub isPermittedBeside : Setting → List Standing → ℕ → Bool
+isPermittedBeside s standing h = not (some (λ t. eqb (t .strike) h) standing) && isAccepted (judgement s standing h)
+
+-- the permitted strikes, rising
+unfoldable pub permitted : Setting → List Standing → List ℕ
+permitted s standing = only (isPermittedBeside s standing) (upFrom 19999 1)
 
 -- what can be judged: the close and `now` of a book, and a strike
 pub record Judged (s : Setting) (h : ℕ) : Type 0 where

@@ -5,7 +5,7 @@ ghost use lib.Dec.{eqb};
 ghost use Rattle.rule.specs.Grids.{gridOf};
 ghost use Rattle.rule.specs.Ranges.{rangeOf};
 ghost use Rattle.rule.specs.Spacing.{standingIn};
-ghost use Rattle.rule.specs.Judgement.{Judged, decided, judgement, firstGround};
+ghost use Rattle.rule.specs.Judgement.{Judged, decided, judgement, firstGround, isAccepted};
 use crate::grids::on_grid;
 use crate::ranges::in_range;
 use crate::spacing::is_clear;
@@ -91,4 +91,12 @@ pub fn judge(s: Setting, strike: Strike, standing: &[u32]) -> Answer
         row(s, strike, found, 3),
     ];
     decide(rows)
+}
+
+// Whether the rules accept the strike beside the words of the standing strikes of its expiration.
+pub fn is_accepted(s: Setting, strike: Strike, standing: &[u32]) -> bool
+    requires { ⌜ Judged s (strike .0) ⌝ }
+    ensures { λ r. ⌜ r ≡ isAccepted (judgement s (map standingIn (now (standing .entry))) (strike .0)) ⌝ }
+{
+    first_ground(s, strike, standing) < 4
 }

@@ -22,7 +22,7 @@ abbrev μ-standing : tie.MeasureT-standing
 μ-standing s strike standing g i₀ i = length standing - i
 
 abbrev Inv-grounds : tie.InvT-grounds
-Inv-grounds s strike standing g₀ g = Passed (λ x. passes (rowOf s (map standingIn standing) (strike .0) x)) 4 g
+Inv-grounds s strike standing g₀ g = Passed (λ x. passes (rowOf s (map standingIn standing) (strike .0) x)) 0 4 g
 
 abbrev μ-grounds : tie.MeasureT-grounds
 μ-grounds s strike standing g₀ g = 4 - g
@@ -39,7 +39,7 @@ row-at c t e =
     (every-map (clears (args .s) (c .before .before .before .grounds .g) (args .strike .0)) standingIn (args .standing .now))
 
 grounds-holds : tie.Need-grounds-holds Inv-standing μ-standing Inv-grounds μ-grounds
-grounds-holds c = passed-none _ 4
+grounds-holds c = passed-none _ 0 4 (omega arith)
 
 on-grid-requires : tie.Need-on-grid-requires Inv-standing μ-standing Inv-grounds μ-grounds
 on-grid-requires c κs = search needs
