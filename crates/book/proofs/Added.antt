@@ -173,7 +173,7 @@ module _ (n g c m h : ℕ) (f : Facts) (w : T (isWellFormed n f)) where
       inr
       (put-stands d (λ x. withSeries (map (markedAt k i a b) (x .series)) x) refl (search ands)
       ∙ same-stands (eqb d c)
-      (some-map (isStandingOn g m h) (markedAt k i a b) (λ s. go s (isAt k i s)) (class f c .series)))
+      (some-map (isStandingOn g m h) (isStandingOn g m h) (markedAt k i a b) (λ s. go s (isAt k i s)) (class f c .series)))
     where
       go : (s : Series) (at : Bool) → isStandingOn g m h (cond at (withMarks a b s) s) ≡ isStandingOn g m h s
       go s true = refl

@@ -10,7 +10,7 @@ use lib.Dec.{T, eqb, leb, ltb, leb→le, le→leb, ltb→lt, lt→ltb, eqb→eq,
 use borrow.Author.Tests.{eq-eqb, ne-eqb, not-true}
 use Rattle.word.specs.declared.codec.Word.{Word}
 use Rattle.word.specs.declared.codec.Word.the-variants.{Expiration}
-use Rattle.rule.specs.Lists.{every, some, only}
+use Rattle.rule.specs.Lists.{every, some, only, Rising}
 use Rattle.book.specs.Facts.{Series, isAt, stands, inMonth, withMarks, precedes, insertSeries}
 use Rattle.book.specs.Layout.{strikeWord, expirationUnless, seriesWords}
 use Rattle.book.specs.Books.{isSeries}
@@ -115,6 +115,11 @@ module _ (now m : ℕ) (ss : List Series) (t : T (areSeries now ss)) where
       (some-only (isEqual monthOf m) ss)
 
 -- ---- the series on either side of a month and a strike
+
+rising-keys : {A : Type 0} (key : A → ℕ) (xs : List A) → T (ordered (λ x y. ltb (key x) (key y)) xs) → Rising (map key xs)
+rising-keys key [] t = tt
+rising-keys key (x ∷ []) t = tt
+rising-keys key (x ∷ y ∷ ys) t = (ltb→lt (key x) (key y) (search ands), rising-keys key (y ∷ ys) (search ands))
 
 module _ (ss : List Series) (m h : ℕ) where
   -- the series of earlier months; of the month m those below the strike h, at it and above it; the series of later months
@@ -231,6 +236,9 @@ module _ (ss : List Series) (m h : ℕ) where
         strikes : (s u : Series) → s .month ≡ m → u .month ≡ m → Precedes s u → s .strike < u .strike
         strikes s u e e′ (inl a) = absurd (omega arith)
         strikes s u e e′ (inr b) = b .1
+
+    pub strikes-rise : Rising (map strikeOf (inMonth m ss))
+    strikes-rise = rising-keys strikeOf (inMonth m ss) strikes-in-order
 
     pub strike-parts : inMonth m ss ≡ low ++ (placed ++ high)
     strike-parts = distinct-parts strikeOf h (inMonth m ss) strikes-in-order

@@ -194,11 +194,11 @@ layout-injective n f g good-f good-g e = sym (factsOf-layout n f good-f) ∙ ap 
 
 -- ---- the books are the layouts of well-formed facts
 
-same-words : (ws : List ℕ) → T (sameWords ws ws)
+pub same-words : (ws : List ℕ) → T (sameWords ws ws)
 same-words [] = tt
 same-words (w ∷ ws) = and-intro (eqb w w) (sameWords ws ws) (eqb-refl w) (same-words ws)
 
-words-equal : (vs ws : List ℕ) → T (sameWords vs ws) → vs ≡ ws
+pub words-equal : (vs ws : List ℕ) → T (sameWords vs ws) → vs ≡ ws
 words-equal [] [] t = refl
 words-equal [] (w ∷ ws) t = absurd t
 words-equal (v ∷ vs) [] t = absurd t

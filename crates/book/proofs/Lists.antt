@@ -49,9 +49,9 @@ module _ {A : Type 0} where
       let b : T (every (λ x. not (p x)) xs) = not-some p xs (nor-right (p x) (some p xs) t) in
       search and-intro
 
-  pub some-map : (p : A → Bool) (g : A → A) → ((x : A) → p (g x) ≡ p x) → (xs : List A) → some p (map g xs) ≡ some p xs
-  some-map p g f [] = refl
-  some-map p g f (x ∷ xs) = let r = some-map p g f xs in λ i. f x i || r i
+  pub some-map : {B : Type 0} (p : B → Bool) (q : A → Bool) (g : A → B) → ((x : A) → p (g x) ≡ q x) → (xs : List A) → some p (map g xs) ≡ some q xs
+  some-map p q g f [] = refl
+  some-map p q g f (x ∷ xs) = let r = some-map p q g f xs in λ i. f x i || r i
 
   pub length-only : (keep : A → Bool) (xs : List A) → length (only keep xs) ≤ length xs
   length-only keep [] = zero-le

@@ -1,4 +1,4 @@
--- Demand 2, of the contract that every call ensures: `L` accepts a strike exactly when `J` does and words are left, 15 and 10 are drawn only where words and places are not: by the order of conditions. Assumes nothing.
+-- Demand 2, of the contract that every call ensures: `L` accepts a strike exactly when `J` does and words are left, `A` writes exactly the strikes that `J` accepts, 15 and 10 are drawn only where words and places are not: by the order of conditions. Assumes nothing.
 use Prim.Native.Nat.{ℕ, suc, _<_, _≤_}
 use mathlib.Core.Path.{_≡_, refl, sym, ap, _∙_}
 use mathlib.Core.Logic.{inl, inr}
@@ -6,16 +6,20 @@ use mathlib.Core.Bool.{Bool, true, false, cond, not, _&&_, _||_}
 use mathlib.Core.List.{List, [], _∷_, _++_}
 use native.Mathlib.Omega.{arith}
 use lib.ListN.{length}
-use lib.Dec.{T, eqb, ltb, ltb→lt, leb→le}
+use lib.Dec.{T, eqb, leb, ltb, ltb→lt, leb→le, leb·suc-suc}
 use Rattle.word.specs.declared.answer.Answer.{Answer}
 use Rattle.word.specs.Answers.{answerNumber, answerValue}
+use Rattle.word.specs.Limits.{isClassNumber, isMonth, isStrike}
+use Rattle.word.proofs.Tests.{and-both}
+use Rattle.rule.specs.Lists.{some, Rising}
 use Rattle.rule.specs.Terms.{isOutside}
 use Rattle.rule.specs.Judgement.{judgement}
+use Rattle.rule.proofs.Permitted.{only-rises, only-exactly}
 use Rattle.book.specs.Facts.{Facts, capOf, owned, wordsTaken}
 use Rattle.book.specs.Layout.{factsOf}
 use Rattle.book.specs.Books.{isBook}
-use Rattle.book.specs.Calls.{Call, callO, callD, callL, callJ, isWritten, isNotOpen, isStanding, hasNoClose, isNewlyOurs, isCapReached, setting, standingIn, groundOf, changed, Condition, draws, first, judging, conditions, numberOf, acceptedValue, valueOf}
-use Rattle.book.specs.Made.{Made}
+use Rattle.book.specs.Calls.{Call, callO, callD, callL, callJ, callA, isWritten, isNotOpen, isStanding, hasNoClose, isNewlyOurs, isCapReached, setting, standingIn, groundOf, changed, Condition, draws, first, judging, permittedIn, conditions, numberOf, listed, acceptedValue, valueOf, written}
+use Rattle.book.specs.Made.{over, Made}
 use Rattle.book.specs.Permission.{isPermitted, areWordsLeft}
 use Rattle.book.proofs.Tests.{ands, T-true}
 use Rattle.book.proofs.Alternatives.{at-most}
@@ -168,3 +172,53 @@ module _ {w w′ : List ℕ} {r : Answer} (book : T (isBook w)) where
       last-applies (isNewlyOurs (factsOf w) c p d && isCapReached (factsOf w) p)
       (number-applies (length w) (callD c p d) (factsOf w) 9 (sym (rw (T-true (isBook w) book) at (made .number)) ∙ e)) in
       leb→le (capOf p) (owned p (factsOf w .classes)) (search ands)
+
+  -- the permitted list: what `A` counts and writes
+  module _ {c m : ℕ} {v v′ : List ℕ} (made : Made (callA c m (length v)) w v r w′ v′) where
+    asked : answerNumber r ≡ numberOf (length w) (callA c m (length v)) (factsOf w)
+    asked = rw (T-true (isBook w) book) at (made .number)
+
+    valued : answerValue r ≡ valueOf (length w) (callA c m (length v)) (factsOf w)
+    valued = rw (T-true (isBook w) book) at (made .value)
+
+    -- each permitted strike once, rising, and no more; "words past the count are unchanged"
+    pub permitted-written : answerNumber r ≡ 0 → v′ ≡ over (permittedIn c m (factsOf w)) v
+    unfolding written listed
+    permitted-written e = (rw (T-true (isBook w) book) at (made .second)) ∙ rw (sym asked ∙ e)
+
+    pub permitted-count : answerNumber r ≡ 0 → answerValue r ≡ length (permittedIn c m (factsOf w))
+    unfolding valueOf acceptedValue
+    permitted-count e = valued ∙ rw (sym asked ∙ e)
+
+    -- 15 is drawn only where they exceed the second run, "and then their count is the value"
+    pub permitted-room :
+        answerNumber r ≡ 15
+        → (length v < length (permittedIn c m (factsOf w))) × (answerValue r ≡ length (permittedIn c m (factsOf w)))
+    unfolding conditions valueOf listed
+    permitted-room e = (
+      ltb→lt (length v) (length (permittedIn c m (factsOf w)))
+          (last-applies (ltb (length v) (length (permittedIn c m (factsOf w))))
+          (number-applies (length w) (callA c m (length v)) (factsOf w) 14 (sym asked ∙ e))),
+      valued ∙ rw (sym asked ∙ e),
+    )
+
+-- the permitted list rises, so that it holds no strike twice
+pub permitted-rises : (c m : ℕ) (f : Facts) → Rising (permittedIn c m f)
+unfolding permittedIn
+permitted-rises c m f = only-rises (λ h. eqb (first (judging c m h f)) 0) 19999 1
+
+-- it holds a strike exactly when `J` would accept it
+pub permitted-exactly :
+    (c m h : ℕ) (f : Facts) → (isClassNumber c && isMonth m) ≡ true → some (eqb h) (permittedIn c m f) ≡ isPermitted c m h f
+unfolding permittedIn numberOf conditions
+permitted-exactly c m h f limits =
+    let both = and-both (isClassNumber c) (isMonth m) limits in
+    let k = first (judging c m h f) in
+    only-exactly (λ i. eqb (first (judging c m i f)) 0) 19999 1 h
+    ∙ ap (λ (t : Bool). leb 1 h && t && eqb k 0) (leb·suc-suc h 19999)
+    ∙ rw (both .0, both .1) (go (isStrike h) k)
+    ∙ judged-exactly 0 c m h f
+  where
+    go : (within : Bool) (k : ℕ) → (within && eqb k 0) ≡ eqb (cond {A = ℕ} (not within) 2 k) 0
+    go true k = refl
+    go false k = refl

@@ -1,6 +1,6 @@
 -- The conditions of the rules draw the number of the judgement, and no strike above the rules' bound is permitted: by the first row that passes. Assumes nothing.
 use mathlib.Core.Path.{_≡_, refl, sym, ap, _∙_}
-use mathlib.Core.Bool.{Bool, true, false, cond, not, _||_, true≢false}
+use mathlib.Core.Bool.{Bool, true, false, cond, not, _&&_, _||_, true≢false}
 use mathlib.Core.List.{List, [], _∷_}
 use Prim.Native.Nat.{ℕ, _+_, _-_, _≤_, _<_}
 use native.Mathlib.Omega.{arith}
@@ -13,11 +13,14 @@ use Rattle.word.specs.declared.answer.Refusal.the-variants.{OffGrid, OutOfRange
 use Rattle.rule.specs.Lists.{some, only, upFrom}
 use Rattle.rule.specs.Terms.{isOutside}
 use Rattle.rule.specs.Ends.{highestPermitted}
-use Rattle.rule.specs.Judgement.{passesGrid, passesRange, passes, refusalOf, groundFrom, decided, judgement}
+use Rattle.rule.specs.Spacing.{Standing}
+use Rattle.rule.specs.Judgement.{passesGrid, passesRange, passes, refusalOf, groundFrom, decided, judgement, isPermittedBeside, permitted}
 use Rattle.rule.proofs.Tests.{and-left}
 use Rattle.rule.proofs.Bound.{refused-above, only-short}
-use Rattle.book.specs.Facts.{Facts}
+use Rattle.book.specs.Facts.{Facts, inMonth}
 use Rattle.book.specs.Calls.{class, setting, standingIn, rows, isNotOpen, isStanding, hasNoClose, Condition, draws, first, judging, permittedIn}
+use Rattle.book.proofs.Lists.{some-map}
+use Rattle.book.proofs.Parts.{some-both}
 
 -- what the rules ask, of the rows of the grounds
 abbrev pub ruled : List (List Bool) → List Condition
@@ -102,3 +105,29 @@ module _ (c m : ℕ) (f : Facts) where
       let test : ℕ → Bool = λ h. eqb (first (judging c m h f)) 0 in
       let e : 19999 ≡ b + (19999 - b) = omega arith in
       ap (λ (n : ℕ). only test (upFrom n 1)) e ∙ only-short test b (19999 - b) 1 (λ x j. beyond x (omega arith))
+
+  standing-is : (h : ℕ) → isStanding f c m h ≡ some (λ t. eqb (t .strike) h) (standingIn f c m)
+  standing-is h =
+      let ss = class f c .series in
+      sym
+      (some-map (λ (t : Standing). eqb (t .strike) h) (λ s. eqb (s .strike) h) (λ s. record { strike = s .strike; ground = s .ground })
+      (λ s. refl) (inMonth m ss)
+      ∙ some-both (λ s. eqb (s .month) m) (λ s. eqb (s .strike) h) ss)
+
+  -- the permitted strikes are those that the rules permit beside the standing ones
+  pub permitted-beside :
+      isNotOpen f c ≡ false → isOutside (setting f c m) ≡ false → hasNoClose f c ≡ false
+      → permittedIn c m f ≡ permitted (setting f c m) (standingIn f c m)
+  unfolding permittedIn permitted
+  permitted-beside opened inside priced = λ i. only (λ h. tested h i) (upFrom 19999 1)
+    where
+      go : (stands : Bool) (k : ℕ) → eqb (cond {A = ℕ} stands 6 k) 0 ≡ (not stands && eqb k 0)
+      go true k = refl
+      go false k = refl
+
+      tested : (h : ℕ) → eqb (first (judging c m h f)) 0 ≡ isPermittedBeside (setting f c m) (standingIn f c m) h
+      tested h =
+          let k = answerNumber (judgement (setting f c m) (standingIn f c m) h) in
+          ap (λ (j : ℕ). eqb j 0) (judging-number h)
+          ∙ rw (opened, inside, priced) (go (isStanding f c m h) k)
+          ∙ ap (λ (b : Bool). not b && eqb k 0) (standing-is h)

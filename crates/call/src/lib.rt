@@ -1,6 +1,7 @@
 // The calls over any lent words. Each tests the run once and then makes the call as `class_call` or `strike_call` does on a book.
 ghost use mathlib.Core.List.{[]};
-ghost use Rattle.book.specs.Calls.{callM, callO, callC, callV, callD, callL, callJ, callX, callI, callR};
+ghost use lib.ListN.{length};
+ghost use Rattle.book.specs.Calls.{callM, callO, callC, callV, callD, callL, callJ, callX, callI, callR, callA};
 ghost use Rattle.book.specs.Made.{Made};
 use scan::is_book;
 use word::answer::Answer;
@@ -104,4 +105,14 @@ pub fn review_class(run: &mut [u32], c: u32) -> Answer
         return Answer::Refused(Refusal::NotABook);
     }
     class_call::review_class(run, c)
+}
+
+// `A`: writes the strikes of the month m that `J` would accept to the second run, and answers how many there are.
+pub fn list_permitted(run: &[u32], second: &mut [u32], c: u32, m: u32) -> Answer
+    ensures { λ r. ⌜ Made (callA c m (length (now (second .entry)))) (now (run .entry)) (now (second .entry)) r (now (run .entry)) (now (second .exit)) ⌝ }
+{
+    if !is_book(run) {
+        return Answer::Refused(Refusal::NotABook);
+    }
+    strike_call::list_permitted(run, second, c, m)
 }

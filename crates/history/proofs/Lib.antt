@@ -1,7 +1,9 @@
 pub mod Answers
 pub mod Made
+pub mod Lent
 pub mod Lists
-pub mod Added
 pub mod RecordExamples
-pub mod Letters
 pub mod Runs
+pub mod Comparisons
+pub mod Links
+pub mod Added

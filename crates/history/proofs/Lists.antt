@@ -2,7 +2,7 @@
 use Prim.Native.Nat.{ℕ}
 use mathlib.Core.Path.{_≡_, sym, ap, _∙_}
 use mathlib.Core.List.{List, [], _∷_}
-use mathlib.Core.Logic.{_↔_}
+use mathlib.Core.Logic.{_↔_, Iff·trans}
 use lib.ListN.{length, replicate, length-replicate}
 use lib.Dec.{T}
 use Rattle.word.specs.declared.answer.Answer.{Answer}
@@ -58,7 +58,7 @@ pub two-lists-same :
 two-lists-same {n} {xs} {ys} long p q =
     let s = same-facts n n (after n xs) (after n ys) (after-well-formed n xs long) (after-well-formed n ys long) in
     let t = two-lists long p q in
-    (λ e. s .0 (t .0 e), λ e. t .1 (s .1 e))
+    Iff·trans t s
 
 -- ---- every list can be made
 
@@ -104,8 +104,8 @@ whole-exists {n} long xs =
 
 -- they are those, and the only ones, that the calls of the list leave when anybody makes them in turn
 pub run-whole :
-    {w calls w′ : List ℕ} {r : Answer} → T (isLength (length w)) → Ran w calls r w′ → (u : List ℕ)
+    {w pool calls w′ pool′ : List ℕ} {r : Answer} → T (isLength (length w)) → Ran w pool calls r w′ pool′ → (u : List ℕ)
     → Whole (length w) (callsOf calls) u ↔ (u ≡ w′)
-run-whole {w} {calls} {w′} long ran u =
+run-whole {w} {pool} {calls} {w′} long ran u =
     let left : w′ ≡ layout (length w) (after (length w) (callsOf calls)) = rw (T-true (isLength (length w)) long) at (ran .words) in
     (λ whole. whole-words long whole ∙ sym left, λ e. rw (e, left) (whole-exists long (callsOf calls)))

@@ -1,10 +1,10 @@
--- What one call leaves: a book of the next facts, a refusal the same words, and a second run of the same length; from the contract, by cases on whether the words are a book. Assumes nothing.
+-- What one call leaves: a book of the next facts, what it writes over the front of the second run, where it fits, and on a refusal the same words; from the contract, by cases on whether the words are a book. Assumes nothing.
 use Prim.Native.Nat.{ℕ, _≤_, zero-le}
-use mathlib.Core.Path.{_≡_, refl, ap, _∙_}
+use mathlib.Core.Path.{_≡_, refl, _∙_}
 use mathlib.Core.Bool.{Bool, true, false, cond, _&&_}
 use mathlib.Core.List.{List, []}
 use native.Mathlib.Omega.{arith}
-use lib.ListN.{length, drop, length-append, length-drop}
+use lib.ListN.{length}
 use lib.Dec.{T, eqb, nltb→le}
 use borrow.Author.Tests.{eqb-true}
 use Rattle.word.specs.declared.answer.Answer.{Answer}
@@ -28,6 +28,12 @@ pub made-words :
     {x : Call} {w v w′ v′ : List ℕ} {r : Answer} → isBook w ≡ true → Made x w v r w′ v′
     → w′ ≡ layout (length w) (step (length w) x (factsOf w))
 made-words is m = rw is at (m .words)
+
+-- and what it writes, over the front of the second run
+pub made-second :
+    {x : Call} {w v w′ v′ : List ℕ} {r : Answer} → isBook w ≡ true → Made x w v r w′ v′
+    → v′ ≡ over (written (length w) x (factsOf w)) v
+made-second is m = rw is at (m .second)
 
 module _ (n : ℕ) (f : Facts) (good : T (isWellFormed n f)) where
   pub layout-is-book : isBook (layout n f) ≡ true
@@ -77,22 +83,11 @@ listed-fits n (callR c) f t = zero-le
 listed-fits n (callA c m room) f t = nltb→le room (length (permittedIn c m f)) (search ands depth 10)
 listed-fits n malformed f t = zero-le
 
-written-fits : (n : ℕ) (x : Call) (f : Facts) → length (written n x f) ≤ lent x
+-- what a call writes fits the second run that it is lent
+pub written-fits : (n : ℕ) (x : Call) (f : Facts) → length (written n x f) ≤ lent x
 unfolding written
 written-fits n x f = go (eqb (numberOf n x f) 0) refl
   where
     go : (b : Bool) → eqb (numberOf n x f) 0 ≡ b → length (cond b (listed x f) []) ≤ lent x
     go true e = listed-fits n x f (accepted n x f (eqb-true (numberOf n x f) 0 e))
     go false e = zero-le
-
--- what a call writes fits the second run that it is lent
-pub second-length :
-    {x : Call} {w v w′ v′ : List ℕ} {r : Answer} → length v ≡ lent x → Made x w v r w′ v′ → length v′ ≡ lent x
-second-length {x} {w} {v} {w′} {v′} size m = go (isBook w) (m .second)
-  where
-    go : (b : Bool) → v′ ≡ cond b (over (written (length w) x (factsOf w)) v) v → length v′ ≡ lent x
-    go true e =
-        let s = written (length w) x (factsOf w) in
-        let fits = written-fits (length w) x (factsOf w) in
-        omega (arith, ap length e, length-append s (drop (length s) v), length-drop (length s) v)
-    go false e = ap length e ∙ size

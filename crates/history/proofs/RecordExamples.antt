@@ -1,43 +1,57 @@
 -- Records read as the calls that they say, computed. Assumes nothing.
 use mathlib.Core.Path.{_≡_, refl}
 use mathlib.Core.List.{[], _∷_}
-use Rattle.book.specs.Calls.{callM, callO, callC, callV, callD, callL, callJ, callX, callI, callR, malformed}
-use Rattle.history.specs.Records.{callOf, callsOf}
+use Rattle.book.specs.Calls.{callM, callO, callC, callV, callD, callL, callJ, callX, callI, callR, callA, malformed}
+use Rattle.book.specs.Letters.{callOf}
+use Rattle.history.specs.Records.{callsOf}
 
--- document 01's sample calls without `A`, any numbers in the words that a call does not take
+-- document 01's sample calls, `A` with a second run of 512 words; any numbers in the words that a call does not take
 sample :
     callsOf
-    (77 ∷ 4 ∷ 0 ∷ 0 ∷ 0 ∷ 0
-    ∷ 79 ∷ 7 ∷ 0 ∷ 0 ∷ 0 ∷ 0
-    ∷ 67 ∷ 7 ∷ 200 ∷ 0 ∷ 9 ∷ 0
-    ∷ 68 ∷ 7 ∷ 1 ∷ 1 ∷ 0 ∷ 9
-    ∷ 76 ∷ 7 ∷ 5 ∷ 14 ∷ 0 ∷ 0
-    ∷ 76 ∷ 7 ∷ 5 ∷ 16 ∷ 0 ∷ 0
-    ∷ 76 ∷ 7 ∷ 5 ∷ 14 ∷ 0 ∷ 0
+    (77 ∷ 1 ∷ 4 ∷ 0 ∷ 0 ∷ 0 ∷ 0 ∷ 0
+    ∷ 79 ∷ 1 ∷ 7 ∷ 0 ∷ 0 ∷ 0 ∷ 0 ∷ 0
+    ∷ 67 ∷ 2 ∷ 7 ∷ 200 ∷ 0 ∷ 9 ∷ 0 ∷ 0
+    ∷ 68 ∷ 3 ∷ 7 ∷ 1 ∷ 1 ∷ 0 ∷ 9 ∷ 8
+    ∷ 65 ∷ 2 ∷ 7 ∷ 5 ∷ 0 ∷ 0 ∷ 9 ∷ 512
+    ∷ 76 ∷ 3 ∷ 7 ∷ 5 ∷ 14 ∷ 0 ∷ 0 ∷ 0
+    ∷ 76 ∷ 3 ∷ 7 ∷ 5 ∷ 16 ∷ 0 ∷ 0 ∷ 0
+    ∷ 76 ∷ 3 ∷ 7 ∷ 5 ∷ 14 ∷ 0 ∷ 0 ∷ 0
     ∷ [])
-    ≡ callM 4 ∷ callO 7 ∷ callC 7 200 ∷ callD 7 1 1 ∷ callL 7 5 14 ∷ callL 7 5 16 ∷ callL 7 5 14 ∷ []
+    ≡ callM 4 ∷ callO 7 ∷ callC 7 200 ∷ callD 7 1 1 ∷ callA 7 5 512 ∷ callL 7 5 14 ∷ callL 7 5 16 ∷ callL 7 5 14 ∷ []
 unfolding callOf callsOf
 sample = refl
 
 other-letters :
     callsOf
-    (86 ∷ 1 ∷ 2 ∷ 3 ∷ 4 ∷ 5
-    ∷ 74 ∷ 1 ∷ 2 ∷ 3 ∷ 4 ∷ 5
-    ∷ 88 ∷ 1 ∷ 2 ∷ 3 ∷ 4 ∷ 5
-    ∷ 73 ∷ 1 ∷ 2 ∷ 3 ∷ 4 ∷ 5
-    ∷ 82 ∷ 1 ∷ 2 ∷ 3 ∷ 4 ∷ 5
+    (86 ∷ 2 ∷ 1 ∷ 2 ∷ 3 ∷ 4 ∷ 5 ∷ 6
+    ∷ 74 ∷ 3 ∷ 1 ∷ 2 ∷ 3 ∷ 4 ∷ 5 ∷ 6
+    ∷ 88 ∷ 3 ∷ 1 ∷ 2 ∷ 3 ∷ 4 ∷ 5 ∷ 6
+    ∷ 73 ∷ 5 ∷ 1 ∷ 2 ∷ 3 ∷ 4 ∷ 5 ∷ 6
+    ∷ 82 ∷ 1 ∷ 1 ∷ 2 ∷ 3 ∷ 4 ∷ 5 ∷ 6
     ∷ [])
     ≡ callV 1 2 ∷ callJ 1 2 3 ∷ callX 1 2 3 ∷ callI 1 2 3 4 5 ∷ callR 1 ∷ []
 unfolding callOf callsOf
 other-letters = refl
 
--- `A`, a small letter and 0
+-- a small letter, and 0
 no-letter :
-    callsOf (65 ∷ 7 ∷ 5 ∷ 0 ∷ 0 ∷ 0 ∷ 109 ∷ 4 ∷ 0 ∷ 0 ∷ 0 ∷ 0 ∷ 0 ∷ 0 ∷ 0 ∷ 0 ∷ 0 ∷ 0 ∷ [])
-    ≡ malformed ∷ malformed ∷ malformed ∷ []
+    callsOf (109 ∷ 1 ∷ 4 ∷ 0 ∷ 0 ∷ 0 ∷ 0 ∷ 0 ∷ 0 ∷ 3 ∷ 7 ∷ 5 ∷ 14 ∷ 0 ∷ 0 ∷ 0 ∷ []) ≡ malformed ∷ malformed ∷ []
 unfolding callOf callsOf
 no-letter = refl
 
-left-over : callsOf (82 ∷ 7 ∷ 0 ∷ 0 ∷ 0 ∷ 0 ∷ 77 ∷ 4 ∷ 0 ∷ 0 ∷ 0 ∷ []) ≡ callR 7 ∷ []
+-- no number, one too many, one too few, and more than a record holds, of which it has five
+wrong-count :
+    callsOf
+    (77 ∷ 0 ∷ 4 ∷ 0 ∷ 0 ∷ 0 ∷ 0 ∷ 0
+    ∷ 79 ∷ 2 ∷ 7 ∷ 0 ∷ 0 ∷ 0 ∷ 0 ∷ 0
+    ∷ 73 ∷ 4 ∷ 7 ∷ 5 ∷ 14 ∷ 0 ∷ 0 ∷ 0
+    ∷ 73 ∷ 6 ∷ 7 ∷ 5 ∷ 14 ∷ 0 ∷ 0 ∷ 0
+    ∷ [])
+    ≡ malformed ∷ malformed ∷ malformed ∷ callI 7 5 14 0 0 ∷ []
+unfolding callOf callsOf
+wrong-count = refl
+
+left-over :
+    callsOf (82 ∷ 1 ∷ 7 ∷ 0 ∷ 0 ∷ 0 ∷ 0 ∷ 0 ∷ 77 ∷ 1 ∷ 4 ∷ 0 ∷ 0 ∷ 0 ∷ 0 ∷ []) ≡ callR 7 ∷ []
 unfolding callOf callsOf
 left-over = refl

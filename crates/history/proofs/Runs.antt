@@ -1,8 +1,8 @@
--- A list of calls run from its words: what the rest of the list makes of the book so far is what the whole list makes of the first book, six words a turn. Assumes nothing.
+-- A list of calls run from its words: what the rest of the list makes of the book and the pool so far is what the whole list makes of the first ones, eight words a turn. Assumes nothing.
 use Prim.Native.Nat.{ℕ, suc, _+_, _<_, _≤_, zero-le}
 use mathlib.Core.Path.{_≡_, refl, sym, _∙_}
 use mathlib.Core.Bool.{Bool, true, false, cond}
-use mathlib.Core.List.{List, [], _∷_}
+use mathlib.Core.List.{List, [], _∷_, map}
 use native.Mathlib.Numerals.{add-one}
 use native.Mathlib.Omega.{arith}
 use lib.ListN.{length, getD, drop, length-drop}
@@ -17,21 +17,23 @@ use Rattle.word.specs.Limits.{isLength}
 use Rattle.word.proofs.answer.Answer.{the-type}
 use Rattle.book.specs.Facts.{fresh}
 use Rattle.book.specs.Layout.{layout, factsOf}
-use Rattle.book.specs.Books.{isBook}
-use Rattle.book.specs.Calls.{steps, after}
-use Rattle.book.specs.Made.{Made, Begun}
-use Rattle.book.proofs.Tests.{T-true}
+use Rattle.book.specs.Books.{isWellFormed, isBook}
+use Rattle.book.specs.Calls.{steps}
+use Rattle.book.specs.Made.{Begun}
+use Rattle.book.specs.CallLists.{secondAfter, lentWithin}
+use Rattle.book.proofs.Tests.{T-true, true-T}
 use Rattle.book.proofs.Layouts.{factsOf-layout, book-layout, book-facts, fresh-well-formed}
 use Rattle.history.specs.Records.{callAt, callsOf}
-use Rattle.history.specs.Runs.{Ran}
-use Rattle.history.proofs.Made.{made-book, layout-size}
+use Rattle.history.specs.Runs.{Lent, Continued, Ran}
+use Rattle.history.proofs.Made.{made-second, made-book, layout-size}
+use Rattle.history.proofs.Lent.{lent-step}
 
 -- ---- the records of a list
 
-next-word : (l : List ℕ) (i k : ℕ) → i + 1 ≡ k → i < length l → drop i l ≡ getD l i 0 ∷ drop k l
+pub next-word : (l : List ℕ) (i k : ℕ) → i + 1 ≡ k → i < length l → drop i l ≡ getD l i 0 ∷ drop k l
 next-word l i k e h = rw (← e, add-one) (drop-cons l i 0 h)
 
-next-record : (l : List ℕ) (i : ℕ) → i + 5 < length l → callsOf (drop i l) ≡ callAt i l ∷ callsOf (drop (i + 6) l)
+next-record : (l : List ℕ) (i : ℕ) → i + 7 < length l → callsOf (drop i l) ≡ callAt i l ∷ callsOf (drop (i + 8) l)
 unfolding callsOf
 next-record l i h =
     rw (
@@ -40,55 +42,73 @@ next-record l i h =
       next-word l (i + 2) (i + 3) (omega arith) (omega arith),
       next-word l (i + 3) (i + 4) (omega arith) (omega arith),
       next-word l (i + 4) (i + 5) (omega arith) (omega arith),
-      next-word l (i + 5) (i + 6) (omega arith) h,
+      next-word l (i + 5) (i + 6) (omega arith) (omega arith),
+      next-word l (i + 6) (i + 7) (omega arith) (omega arith),
+      next-word l (i + 7) (i + 8) (omega arith) h,
     )
 
-no-record : (l : List ℕ) → length l ≤ 5 → callsOf l ≡ []
+no-record : (l : List ℕ) → length l ≤ 7 → callsOf l ≡ []
 unfolding callsOf
 no-record [] h = refl
 no-record (letter ∷ []) h = refl
-no-record (letter ∷ a ∷ []) h = refl
-no-record (letter ∷ a ∷ b ∷ []) h = refl
-no-record (letter ∷ a ∷ b ∷ c ∷ []) h = refl
-no-record (letter ∷ a ∷ b ∷ c ∷ d ∷ []) h = refl
-no-record (letter ∷ a ∷ b ∷ c ∷ d ∷ e ∷ rest) h = absurd (none h)
+no-record (letter ∷ count ∷ []) h = refl
+no-record (letter ∷ count ∷ a ∷ []) h = refl
+no-record (letter ∷ count ∷ a ∷ b ∷ []) h = refl
+no-record (letter ∷ count ∷ a ∷ b ∷ c ∷ []) h = refl
+no-record (letter ∷ count ∷ a ∷ b ∷ c ∷ d ∷ []) h = refl
+no-record (letter ∷ count ∷ a ∷ b ∷ c ∷ d ∷ e ∷ []) h = refl
+no-record (letter ∷ count ∷ a ∷ b ∷ c ∷ d ∷ e ∷ room ∷ rest) h = absurd (none h)
   where
-    none : suc (suc (suc (suc (suc (suc (length rest)))))) ≤ 5 → ⊥
+    none : suc (suc (suc (suc (suc (suc (suc (suc (length rest)))))))) ≤ 7 → ⊥
     none p = omega arith
 
 -- ---- the loop
 
--- the words of `calls` before i are made: `held` is the book before the first of them, `run` the book now
-pub record Going (held calls run : List ℕ) (i : ℕ) : Type 0 where
+-- the words of `calls` before i are made: `held` and `start` are the book and the pool before the first of them, `run` and `pool` those now
+pub record Going (held start calls run pool : List ℕ) (i : ℕ) : Type 0 where
   pub within : i ≤ length calls
   pub book : T (isBook run)
   pub size : length run ≡ length held
+  pub pool-size : length pool ≡ length start
   pub facts :
       steps (length held) (callsOf (drop i calls)) (factsOf run) ≡ steps (length held) (callsOf calls) (factsOf held)
+  pub second :
+      secondAfter (length held) (map (lentWithin (length start)) (callsOf (drop i calls))) (factsOf run) pool
+      ≡ secondAfter (length held) (map (lentWithin (length start)) (callsOf calls)) (factsOf held) start
 
-pub going-start : {run calls : List ℕ} → T (isBook run) → Going run calls run 0
-going-start book = record { within = zero-le; book = book; size = refl; facts = refl }
+pub going-start : {run pool calls : List ℕ} → T (isBook run) → Going run pool calls run pool 0
+going-start book =
+    record { within = zero-le; book = book; size = refl; pool-size = refl; facts = refl; second = refl }
 
 pub going-step :
-    {held calls run run′ : List ℕ} {i : ℕ} {r : Answer} → Going held calls run i → i + 5 < length calls
-    → Made (callAt i calls) run [] r run′ [] → Going held calls run′ (i + 6)
-unfolding steps
-going-step {held} {calls} {run} {run′} {i} g h m =
+    {held start calls run pool run′ pool′ : List ℕ} {i : ℕ} {r : Answer} → Going held start calls run pool i
+    → i + 7 < length calls → Lent (callAt i calls) run pool r run′ pool′ → length pool′ ≡ length pool
+    → Going held start calls run′ pool′ (i + 8)
+unfolding steps secondAfter
+going-step {held} {start} {calls} {run} {pool} {run′} {pool′} {i} g h m long =
     let next = made-book (g .book) m in
+    let record-next = next-record calls i h in
+    let changed = lent-step (length held) (length start) (callAt i calls) (factsOf run) in
     record {
       within = omega arith;
       book = next .0;
       size = next .1 ∙ g .size;
-      facts = rw (next .2, g .size) (rw (next-record calls i h) at (g .facts));
+      pool-size = long ∙ g .pool-size;
+      facts = rw (next .2, g .size, g .pool-size, changed) (rw record-next at (g .facts));
+      second =
+          rw (next .2, made-second (T-true (isBook run) (g .book)) m, g .size, g .pool-size) (rw record-next at (g .second));
     }
 
 pub going-end :
-    {held calls run : List ℕ} {i : ℕ} → Going held calls run i → length calls ≤ i + 5
-    → run ≡ layout (length held) (steps (length held) (callsOf calls) (factsOf held))
-unfolding steps
-going-end {held} {calls} {run} {i} g h =
+    {held start calls run pool : List ℕ} {i : ℕ} → Going held start calls run pool i → length calls ≤ i + 7
+    → Continued held start calls run pool
+unfolding steps secondAfter
+going-end {held} {start} {calls} {run} {pool} {i} g h =
     let none : callsOf (drop i calls) ≡ [] = no-record (drop i calls) (simp length-drop (omega arith)) in
-    sym (rw (g .size, rw none at (g .facts)) at (book-facts run (g .book) .1))
+    record {
+      words = sym (rw (g .size, rw none at (g .facts)) at (book-facts run (g .book) .1));
+      second = rw none at (g .second);
+    }
 
 -- ---- from a fresh book
 
@@ -96,39 +116,40 @@ going-end {held} {calls} {run} {i} g h =
 pub not-done : (r : Answer) → OneOf (1 ∷ 2 ∷ 3 ∷ 4 ∷ []) (tagOf the-type r) → r ≡ Done → ⊥
 not-done r t e = miss (1 ∷ 2 ∷ 3 ∷ 4 ∷ []) 0 tt (rw e at t)
 
+-- the length is good where the answer is `Done`, and only there
+pub done-good : (good : Bool) {r : Answer} → r ≡ cond good Done (Refused NotABook) → r ≡ Done → good ≡ true
+done-good true e done = refl
+done-good false e done = let z : _≡_ {A = ℕ} 0 1 = cc in absurd (omega arith)
+
+pub refused-bad : (good : Bool) {r : Answer} → r ≡ cond good Done (Refused NotABook) → (r ≡ Done → ⊥) → good ≡ false
+refused-bad true e refused = absurd (refused e)
+refused-bad false e refused = refl
+
 module _ {w w′ : List ℕ} {r : Answer} (begun : Begun w r w′) where
-  long : r ≡ Done → T (isLength (length w))
-  long done = go (isLength (length w)) (sym done ∙ begun .answer)
-    where
-      go : (b : Bool) → Done ≡ cond b Done (Refused NotABook) → T b
-      go true e = tt
-      go false e = let z : _≡_ {A = ℕ} 0 1 = cc in omega arith
+  module _ (done : r ≡ Done) where
+    good : isLength (length w) ≡ true
+    good = done-good (isLength (length w)) (begun .answer) done
 
-  fresh-words : r ≡ Done → w′ ≡ layout (length w) fresh
-  fresh-words done = rw (T-true (isLength (length w)) (long done)) at (begun .words)
+    fresh-words : w′ ≡ layout (length w) fresh
+    fresh-words = rw good at (begun .words)
 
-  pub begun-book : r ≡ Done → T (isBook w′)
-  begun-book done = rw (fresh-words done) (book-layout (length w) fresh (fresh-well-formed (length w) (long done)))
+    well-formed : T (isWellFormed (length w) fresh)
+    well-formed = fresh-well-formed (length w) (true-T (isLength (length w)) good)
 
-  pub ran-done :
-      {calls w″ : List ℕ} → r ≡ Done → w″ ≡ layout (length w′) (steps (length w′) (callsOf calls) (factsOf w′))
-      → Ran w calls r w″
-  ran-done done e =
-      let n = length w in
-      let good = fresh-well-formed n (long done) in
-      record {
-        answer = begun .answer;
-        words =
-            rw (T-true (isLength n) (long done))
-            (rw (fresh-words done, layout-size n fresh good, factsOf-layout n fresh good) at e);
-      }
+    pub begun-book : T (isBook w′)
+    begun-book = rw fresh-words (book-layout (length w) fresh well-formed)
 
-  pub ran-refused : {calls : List ℕ} → (r ≡ Done → ⊥) → Ran w calls r w′
-  ran-refused {calls} refused =
-      record { answer = begun .answer; words = go (isLength (length w)) (begun .answer) (begun .words) }
-    where
-      go :
-          (b : Bool) → r ≡ cond b Done (Refused NotABook) → w′ ≡ cond b (layout (length w) fresh) w
-          → w′ ≡ cond b (layout (length w) (after (length w) (callsOf calls))) w
-      go true e words = absurd (refused e)
-      go false e words = words
+    pub ran-done : {pool calls w″ pool′ : List ℕ} → Continued w′ pool calls w″ pool′ → Ran w pool calls r w″ pool′
+    ran-done made =
+        let size = layout-size (length w) fresh well-formed in
+        let facts = factsOf-layout (length w) fresh well-formed in
+        record {
+          answer = begun .answer;
+          words = rw good (rw (fresh-words, size, facts) at (made .words));
+          second = rw good (rw (fresh-words, size, facts) at (made .second));
+        }
+
+  pub ran-refused : {pool calls : List ℕ} → (r ≡ Done → ⊥) → Ran w pool calls r w′ pool
+  ran-refused refused =
+      let bad = refused-bad (isLength (length w)) (begun .answer) refused in
+      record { answer = begun .answer; words = rw bad (rw bad at (begun .words)); second = rw bad }

@@ -2,17 +2,32 @@
 use Prim.Native.Nat.{ℕ}
 use mathlib.Core.Path.{_≡_}
 use mathlib.Core.Bool.{cond}
-use mathlib.Core.List.{List}
+use mathlib.Core.List.{List, map}
 use lib.ListN.{length}
 use Rattle.word.specs.declared.answer.Answer.{Answer}
 use Rattle.word.specs.declared.answer.Answer.the-variants.{Done, Refused}
 use Rattle.word.specs.declared.answer.Refusal.the-variants.{NotABook}
 use Rattle.word.specs.Limits.{isLength}
-use Rattle.book.specs.Layout.{layout}
-use Rattle.book.specs.Calls.{after}
+use Rattle.book.specs.Facts.{fresh}
+use Rattle.book.specs.Layout.{layout, factsOf}
+use Rattle.book.specs.Calls.{Call, steps, after}
+use Rattle.book.specs.Made.{Made}
+use Rattle.book.specs.CallLists.{secondAfter, lentWithin}
 use Rattle.history.specs.Records.{callsOf}
 
--- any words w, and any words `calls` of a list: the answer, and the words w′ that are left
-pub record Ran (w calls : List ℕ) (r : Answer) (w′ : List ℕ) : Type 0 where
+-- a call made with the second run that the pool lends it: the rest of the pool is not touched
+abbrev pub Lent : Call → List ℕ → List ℕ → Answer → List ℕ → List ℕ → Type 0
+Lent x w pool r w′ pool′ = Made (lentWithin (length pool) x) w pool r w′ pool′
+
+-- the calls made in turn on a run w that is a book
+pub record Continued (w pool calls w′ pool′ : List ℕ) : Type 0 where
+  pub words : w′ ≡ layout (length w) (steps (length w) (callsOf calls) (factsOf w))
+  pub second : pool′ ≡ secondAfter (length w) (map (lentWithin (length pool)) (callsOf calls)) (factsOf w) pool
+
+-- any words w, any pool, and any words `calls` of a list: the answer, and the words w′ and pool′ that are left. What the facts are follows from the length and the list alone
+pub record Ran (w pool calls : List ℕ) (r : Answer) (w′ pool′ : List ℕ) : Type 0 where
   pub answer : r ≡ cond (isLength (length w)) Done (Refused NotABook)
   pub words : w′ ≡ cond (isLength (length w)) (layout (length w) (after (length w) (callsOf calls))) w
+  pub second :
+      pool′
+      ≡ cond (isLength (length w)) (secondAfter (length w) (map (lentWithin (length pool)) (callsOf calls)) fresh pool) pool

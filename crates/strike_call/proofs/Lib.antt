@@ -3,3 +3,4 @@ pub mod Outcomes
 pub mod Standing
 pub mod Judgements
 pub mod Listing
+pub mod Permitting

@@ -1,4 +1,4 @@
-// The calls on strikes, over a run that is known to be a book: `L`, `J`, `X` and `I`.
+// The calls on strikes, over a run that is known to be a book: `L`, `J`, `X`, `I` and `A`.
 ghost use mathlib.Core.List.{[]};
 ghost use mathlib.Core.Path.{_≡_};
 ghost use Prim.Native.Nat.{ℕ};
@@ -6,7 +6,7 @@ ghost use lib.Dec.{T};
 ghost use lib.ListN.{length};
 ghost use Rattle.place.specs.Lookups.{strikeSearchOf};
 ghost use Rattle.book.specs.Books.{isBook};
-ghost use Rattle.book.specs.Calls.{callI, callJ, callL, callX, changed, isWritten};
+ghost use Rattle.book.specs.Calls.{callA, callI, callJ, callL, callX, changed, isWritten};
 ghost use Rattle.book.specs.Facts.{isOpen};
 ghost use Rattle.book.specs.Layout.{factsOf, layout};
 ghost use Rattle.book.specs.Made.{Made};
@@ -14,10 +14,12 @@ ghost use Rattle.strike_call.specs.Judging.{Judges, Sought, foundAnswer}
 use edit::insert_strike;
 use edit::store_marks;
 use place::head;
+use place::lookup::ExpirationLookup;
 use place::lookup::Lookup;
 use place::lookup::StrikeLookup;
 use place::lookup::StrikeSearch;
 use place::lookup::look_up;
+use place::lookup::look_up_expiration;
 use place::lookup::look_up_strike;
 use place::lookup::next_class;
 use removal::delist;
@@ -179,4 +181,33 @@ pub fn mark_strike(run: &mut [u32], c: u32, m: u32, h: u32, a: u32, b: u32) -> A
     }
     store_marks(run, found.at, a, b);
     Answer::Done
+}
+
+// `A`: writes the permitted strikes to the second run.
+pub fn list_permitted(run: &[u32], second: &mut [u32], c: u32, m: u32) -> Answer
+    requires { ⌜ T (isBook (now run)) ⌝ }
+    ensures { λ r. ⌜ Made (callA c m (length (now (second .entry)))) (now (run .entry)) (now (second .entry)) r (now (run .entry)) (now (second .exit)) ⌝ }
+{
+    if !(is_class_number(c) & is_month(m)) {
+        return Answer::Refused(Refusal::BeyondLimits);
+    }
+    let search = look_up_expiration(run, c, m);
+    let ExpirationLookup::Open(found) = search else {
+        return Answer::Refused(Refusal::NotOpen);
+    };
+    let class = found.figures;
+    let setting = Setting {
+        class,
+        current: head::current(run),
+        month: m,
+    };
+    if is_outside(setting) {
+        return Answer::Refused(Refusal::MonthOutside);
+    }
+    if class.close == 0 {
+        return Answer::Refused(Refusal::NoClose);
+    }
+    let from = found.from;
+    let to = found.to;
+    permitted::list_permitted(setting, &run[from..to], second)
 }

@@ -12,20 +12,22 @@ enum-told c = search needs
 
 make-calls-requires : tie.Need-make-calls-requires
 make-calls-requires c κs =
-    let told = c .before in
+    let told = c .before .before in
     begun-book (told .before .before .before .before .fresh .ensures) (told .enum-told .given .1)
 
 same-length : tie.Need-same-length
 same-length c = search needs
 
-returns : tie.Need-returns
-returns c =
-    let told = c .before .before .before .before in
-    ran-done (told .before .before .before .before .fresh .ensures) (told .enum-told .given .1)
-    (c .before .before .make-calls .ensures)
-
 same-length-2 : tie.Need-same-length-2
 same-length-2 c = search needs
+
+returns : tie.Need-returns
+returns c =
+    let told = c .before .before .before .before .before .before .before in
+    ran-done (told .before .before .before .before .fresh .ensures) (told .enum-told .given .1) (c .before .before .before .before .make-calls .ensures)
+
+same-length-3 : tie.Need-same-length-3
+same-length-3 c = search needs
 
 returns-2 : tie.Need-returns-2
 returns-2 c = ran-refused (c .before .before .before .fresh .ensures) (not-done _ (c .match .keys2))
@@ -38,6 +40,7 @@ run-calls-spec =
     enum-told
     make-calls-requires
     same-length
-    returns
     same-length-2
+    returns
+    same-length-3
     returns-2)

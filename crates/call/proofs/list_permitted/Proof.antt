@@ -1,0 +1,29 @@
+-- `list_permitted` keeps its contract over any words: a run that is no book is refused, and a book is handed on.
+use lib.ListN.{length}
+use borrow.Author.Needs.{needs}
+use Rattle.book.specs.Calls.{callA}
+use Rattle.book.proofs.Answered.{made-no-book}
+use Rattle.call.proofs.Tested.{no-book, is-a-book}
+use Rattle.call.proofs.list_permitted.Statement.{statement}
+use Rattle.call.proofs.list_permitted.Tie as tie
+
+is-book-requires : tie.Need-is-book-requires
+is-book-requires c κs = search needs
+
+returns : tie.Need-returns
+returns c =
+    let a = c .before .before .before .before .args in
+    made-no-book (callA (a .c) (a .m) (length (a .second .now))) (a .run .now) (a .second .now)
+    (no-book (c .before .is-book .ensures) (c .if1 .taken))
+
+list-permitted-requires : tie.Need-list-permitted-requires
+list-permitted-requires c κs = is-a-book (c .before .before .is-book .ensures) (c .before .if1 .left)
+
+same-length : tie.Need-same-length
+same-length c = search needs
+
+returns-2 : tie.Need-returns-2
+returns-2 c = search needs
+
+pub list-permitted-spec : {M : Type 1} → statement M
+list-permitted-spec = tie.close (tie.spec is-book-requires returns list-permitted-requires same-length returns-2)
