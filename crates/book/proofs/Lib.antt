@@ -22,3 +22,4 @@ pub mod Splits
 pub mod ClassWords
 pub mod Splices
 pub mod Runs
+pub mod Followed

@@ -12,7 +12,7 @@ use Rattle.word.specs.declared.answer.Answer.the-variants.{Refused}
 use Rattle.word.specs.declared.answer.Refusal.the-variants.{BeyondLimits}
 use Rattle.book.specs.Facts.{Facts}
 use Rattle.book.specs.Books.{isBook}
-use Rattle.book.specs.Calls.{Call, callM, callO, callC, callV, callD, callL, callJ, callX, callI, callR, malformed, listed, written}
+use Rattle.book.specs.Calls.{Call, callM, callO, callD, callL, callJ, callX, callI, callR, malformed, listed, written}
 use Rattle.book.specs.Letters.{callOfOne, callOfThree, callOfFive}
 use Rattle.book.specs.Made.{Made}
 use Rattle.class_call.proofs.Ways.{beyond-limits}

@@ -18,11 +18,11 @@ use Rattle.book.proofs.Tests.{T-true}
 use Rattle.book.proofs.Layouts.{factsOf-layout, layout-injective, fresh-well-formed}
 use Rattle.book.proofs.Keep.{step-keeps, after-well-formed}
 use Rattle.book.proofs.SameFacts.{same-facts}
+use Rattle.book.proofs.Followed.{made-words, layout-is-book, layout-size}
 use Rattle.history.specs.Turns.{lent, Turns, done, turn, Whole}
 use Rattle.history.specs.Records.{callsOf}
 use Rattle.history.specs.Runs.{Ran}
 use Rattle.history.proofs.Answers.{answer-exists}
-use Rattle.history.proofs.Made.{made-words, layout-is-book, layout-size}
 
 -- ---- calls in turn
 

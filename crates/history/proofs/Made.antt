@@ -1,9 +1,8 @@
--- What one call leaves: a book of the next facts, what it writes over the front of the second run, where it fits, and on a refusal the same words; from the contract, by cases on whether the words are a book. Assumes nothing.
+-- What one call leaves: what it writes over the front of the second run, where it fits, and on a refusal the same words; from the contract, by cases on whether the words are a book. Assumes nothing.
 use Prim.Native.Nat.{ℕ, _≤_, zero-le}
 use mathlib.Core.Path.{_≡_, refl, _∙_}
 use mathlib.Core.Bool.{Bool, true, false, cond, _&&_}
 use mathlib.Core.List.{List, []}
-use native.Mathlib.Omega.{arith}
 use lib.ListN.{length}
 use lib.Dec.{T, eqb, nltb→le}
 use borrow.Author.Tests.{eqb-true}
@@ -11,48 +10,19 @@ use Rattle.word.specs.declared.answer.Answer.{Answer}
 use Rattle.word.specs.Answers.{answerNumber}
 use Rattle.book.specs.Facts.{Facts}
 use Rattle.book.specs.Layout.{layout, factsOf}
-use Rattle.book.specs.Books.{isWellFormed, isBook}
+use Rattle.book.specs.Books.{isBook}
 use Rattle.book.specs.Calls.{Call, callM, callO, callC, callV, callD, callL, callJ, callX, callI, callR, callA, malformed, isWritten, permittedIn, conditions, numberOf, listed, written, step}
 use Rattle.book.specs.Made.{over, Made}
-use Rattle.book.proofs.Tests.{ands, T-true, true-T}
-use Rattle.book.proofs.Forms.{well}
-use Rattle.book.proofs.Layouts.{used-taken, layout-length, factsOf-layout, book-layout, book-facts}
+use Rattle.book.proofs.Tests.{ands, true-T}
+use Rattle.book.proofs.Layouts.{book-facts}
 use Rattle.book.proofs.Order.{noneApplies, accepted, refused-unchanged}
-use Rattle.book.proofs.Keep.{step-keeps}
 use Rattle.history.specs.Turns.{lent}
 
--- ---- a call on a book
-
--- it leaves the layout of the next facts
-pub made-words :
-    {x : Call} {w v w′ v′ : List ℕ} {r : Answer} → isBook w ≡ true → Made x w v r w′ v′
-    → w′ ≡ layout (length w) (step (length w) x (factsOf w))
-made-words is m = rw is at (m .words)
-
--- and what it writes, over the front of the second run
+-- on a book, what it writes goes over the front of the second run
 pub made-second :
     {x : Call} {w v w′ v′ : List ℕ} {r : Answer} → isBook w ≡ true → Made x w v r w′ v′
     → v′ ≡ over (written (length w) x (factsOf w)) v
 made-second is m = rw is at (m .second)
-
-module _ (n : ℕ) (f : Facts) (good : T (isWellFormed n f)) where
-  pub layout-is-book : isBook (layout n f) ≡ true
-  layout-is-book = T-true (isBook (layout n f)) (book-layout n f good)
-
-  pub layout-size : length (layout n f) ≡ n
-  layout-size = layout-length n f (omega (arith, used-taken f, well n f good .room))
-
-pub made-book :
-    {x : Call} {w v w′ v′ : List ℕ} {r : Answer} → T (isBook w) → Made x w v r w′ v′
-    → T (isBook w′) × (length w′ ≡ length w) × (factsOf w′ ≡ step (length w) x (factsOf w))
-made-book {x} {w} book m =
-    let n = length w in
-    let g = step n x (factsOf w) in
-    let good : T (isWellFormed n g) = step-keeps n x (factsOf w) (book-facts w book .0) in
-    rw (made-words (T-true (isBook w) book) m)
-    (book-layout n g good, layout-size n g good, factsOf-layout n g good)
-
--- ---- a call on any words
 
 pub refused-same :
     {x : Call} {w v w′ v′ : List ℕ} {r : Answer} → Made x w v r w′ v′ → (answerNumber r ≡ 0 → ⊥) → (w′ ≡ w) × (v′ ≡ v)

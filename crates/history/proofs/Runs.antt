@@ -23,9 +23,10 @@ use Rattle.book.specs.Made.{Begun}
 use Rattle.book.specs.CallLists.{secondAfter, lentWithin}
 use Rattle.book.proofs.Tests.{T-true, true-T}
 use Rattle.book.proofs.Layouts.{factsOf-layout, book-layout, book-facts, fresh-well-formed}
+use Rattle.book.proofs.Followed.{made-book, layout-size}
 use Rattle.history.specs.Records.{callAt, callsOf}
 use Rattle.history.specs.Runs.{Lent, Continued, Ran}
-use Rattle.history.proofs.Made.{made-second, made-book, layout-size}
+use Rattle.history.proofs.Made.{made-second}
 use Rattle.history.proofs.Lent.{lent-step}
 
 -- ---- the records of a list

@@ -1,10 +1,9 @@
 -- The ways out of `A`, over plain variables: each test on the way is the condition of the facts in its turn, and the words of the expiration's strikes read as those that stand. Assumes nothing.
-use Prim.Native.Nat.{ℕ, _-_, _≤_}
+use Prim.Native.Nat.{ℕ, _-_}
 use mathlib.Core.Path.{_≡_, refl, sym, ap, _∙_}
 use mathlib.Core.Bool.{Bool, true, false, cond, not, _&&_}
-use mathlib.Core.List.{List, [], _∷_, _++_, map, map-map}
-use native.Mathlib.Omega.{arith}
-use lib.Dec.{T, eqb, ltb, leb→le}
+use mathlib.Core.List.{List, map, map-map}
+use lib.Dec.{T, ltb, leb→le}
 use lib.ListN.{length, take, drop}
 use borrow.Author.Tests.{eq-eqb, ne-eqb}
 use Rattle.word.specs.declared.answer.Answer.{Answer}
@@ -12,15 +11,14 @@ use Rattle.word.specs.declared.answer.Answer.the-variants.{Listed, Refused}
 use Rattle.word.specs.declared.answer.Refusal.the-variants.{BeyondLimits, NotOpen, MonthOutside, NoClose, OutOfWords}
 use Rattle.word.specs.Limits.{isClassNumber, isMonth}
 use Rattle.rule.specs.declared.terms.Setting.{Setting}
-use Rattle.rule.specs.Lists.{Rising}
 use Rattle.rule.specs.Terms.{isOutside}
 use Rattle.rule.specs.Spacing.{Standing, standingIn as standingOf}
 use Rattle.rule.specs.Judgement.{permitted}
 use Rattle.permitted.specs.Listing.{Listable, strikeIn, Filled}
-use Rattle.book.specs.Facts.{Facts, isOpen, inMonth}
-use Rattle.book.specs.Layout.{layout, factsOf}
+use Rattle.book.specs.Facts.{isOpen, inMonth}
+use Rattle.book.specs.Layout.{factsOf}
 use Rattle.book.specs.Books.{isBook}
-use Rattle.book.specs.Calls.{Call, callA, class, setting, standingIn, isNotOpen, hasNoClose, permittedIn, changed, first, conditions, numberOf, listed, acceptedValue}
+use Rattle.book.specs.Calls.{Call, callA, class, setting, standingIn, isNotOpen, hasNoClose, permittedIn, changed, conditions, numberOf, listed, acceptedValue}
 use Rattle.book.specs.Made.{over, Made}
 use Rattle.book.proofs.Tests.{ands, T-true}
 use Rattle.book.proofs.Answered.{made-refused, made-accepted}

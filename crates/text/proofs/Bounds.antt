@@ -1,8 +1,8 @@
--- How long a printed line can be: a number that 32 bits hold has at most ten digits, and an answer's number at most two; by cases of the answer.
-use Prim.Native.Nat.{ℕ, zero, suc, _+_, _*_, _^_, _≤_, _<_}
+-- How long a printed line can be: a number that 32 bits hold has at most ten digits, and an answer's number at most two; by whether the call is accepted, and whether its value is printed. Assumes nothing.
+use Prim.Native.Nat.{ℕ, suc, _+_, _*_, _≤_, _<_}
 use mathlib.Core.Logic.{⊎-elim}
-use mathlib.Core.Path.{_≡_, refl, ap}
-use mathlib.Core.Bool.{true, false}
+use mathlib.Core.Path.{_≡_, ap}
+use mathlib.Core.Bool.{Bool, true, false}
 use mathlib.Core.List.{List, [], _∷_}
 use native.Mathlib.Omega.{arith}
 use lib.Dec.{eqb}
@@ -11,14 +11,15 @@ use Rattle.word.specs.declared.answer.Refusal.{Refusal}
 use Rattle.word.specs.declared.answer.Refusal.the-variants.{NotABook, BeyondLimits, AlreadyOpen, NotOpen, MonthOutside, AlreadyStanding, NotStanding, NoClose, NotQualified, CapReached, OffGrid, OutOfRange, TooClose, OpenInterest, OutOfWords}
 use Rattle.word.specs.declared.answer.Answer.{Answer}
 use Rattle.word.specs.declared.answer.Answer.the-variants.{Done, Ground, Removed, Listed, Refused}
-use Rattle.word.specs.Answers.{refusalNumber, refusalValue, answerNumber, answerValue}
+use Rattle.word.specs.Answers.{refusalNumber, answerNumber}
 use Rattle.text.specs.Printing.{spacedNumber, spacedNumbers, valueOrNone, afterNumber, answerText}
-use Rattle.text.proofs.Cases.{bool-cases}
+use Rattle.text.specs.Pieces.{lineRoom}
+use Rattle.text.proofs.Cases.{bool-cases, eq-or-not}
 use Rattle.text.proofs.Decimals.{length-decimal}
 use Rattle.text.proofs.SpacedNumbers.{one-number}
-use Rattle.text.proofs.AnswerTexts.{length-whole}
+use Rattle.text.proofs.AnswerTexts.{refused-text, unshown-text, length-shown, length-whole}
 
-refusal-below : (why : Refusal) → refusalNumber why < 10 ^ 2
+refusal-below : (why : Refusal) → refusalNumber why < 100
 refusal-below NotABook = omega arith
 refusal-below BeyondLimits = omega arith
 refusal-below AlreadyOpen = omega arith
@@ -35,48 +36,43 @@ refusal-below TooClose = omega arith
 refusal-below OpenInterest = omega arith
 refusal-below (OutOfWords count) = omega arith
 
-number-below : (answer : Answer) → answerNumber answer < 10 ^ 2
+pub number-below : (answer : Answer) → answerNumber answer < 100
 number-below Done = omega arith
 number-below (Ground g) = omega arith
 number-below (Removed count) = omega arith
 number-below (Listed count) = omega arith
 number-below (Refused why) = refusal-below why
 
-one-bound : (v : ℕ) → v < 10 ^ 10 → length (spacedNumbers (v ∷ [])) ≤ 11
-one-bound v h = omega (arith, ap length (one-number v), length-decimal 9 v h)
+-- a number of 32 bits, after a space
+number-bound : (v : ℕ) → v < 4294967296 → length (spacedNumber v) ≤ 11
+number-bound v h = omega (arith, length-decimal 9 v (omega arith))
 
-numbers-bound : (vs : List ℕ) → ((k : ℕ) → getD vs k 0 < 10 ^ 10) → length (spacedNumbers vs) ≤ 11 * length vs
+numbers-bound : (vs : List ℕ) → ((k : ℕ) → getD vs k 0 < 4294967296) → length (spacedNumbers vs) ≤ 11 * length vs
 unfolding spacedNumbers
 numbers-bound [] small = omega arith
 numbers-bound (v ∷ vs) small =
-    omega (arith, length-append (spacedNumber v) (spacedNumbers vs), length-decimal 9 v (small 0), numbers-bound vs (λ k. small (suc k)))
+    omega (arith, length-append (spacedNumber v) (spacedNumbers vs), number-bound v (small 0), numbers-bound vs (λ k. small (suc k)))
 
-value-bound : (v : ℕ) → v < 10 ^ 10 → length (spacedNumbers (valueOrNone v)) ≤ 11
+value-bound : (v : ℕ) → v < 4294967296 → length (spacedNumbers (valueOrNone v)) ≤ 11
 unfolding valueOrNone spacedNumbers
 value-bound v h =
     ⊎-elim
     (λ (e : eqb v 0 ≡ true). simp e (omega arith))
-    (λ (e : eqb v 0 ≡ false). simp e (one-bound v h))
+    (λ (e : eqb v 0 ≡ false). simp e (omega (arith, ap length (one-number v), number-bound v h)))
     (bool-cases (eqb v 0))
 
-none-bound : length (spacedNumbers []) ≤ 0
-unfolding spacedNumbers
-none-bound = omega arith
+module _ (shown : Bool) (number value : ℕ) (strikes : List ℕ) (low : number < 100) (small : value < 4294967296) (each : (k : ℕ) → getD strikes k 0 < 4294967296) where
+  after-bound : length (spacedNumbers (afterNumber shown number value strikes)) ≤ 11 + 11 * length strikes
+  after-bound =
+      ⊎-elim
+      (λ (accepted : number ≡ 0).
+      ⊎-elim
+      (λ (s : shown ≡ true). omega (arith, length-shown shown number value strikes accepted s, number-bound value small, numbers-bound strikes each))
+      (λ (s : shown ≡ false). omega (arith, ap length (unshown-text shown number value strikes accepted s)))
+      (bool-cases shown))
+      (λ refused. omega (arith, ap length (refused-text shown number value strikes refused), value-bound value small))
+      (eq-or-not number 0)
 
-module _ (strikes : List ℕ) (small : (k : ℕ) → getD strikes k 0 < 10 ^ 10) where
-  listed-small : (count : ℕ) → count < 10 ^ 10 → (k : ℕ) → getD (count ∷ strikes) k 0 < 10 ^ 10
-  listed-small count h zero = h
-  listed-small count h (suc k) = small k
-
-  after-bound : (answer : Answer) → answerValue answer < 10 ^ 10 → length (spacedNumbers (afterNumber answer strikes)) ≤ 11 + 11 * length strikes
-  unfolding afterNumber
-  after-bound Done h = omega (arith, none-bound)
-  after-bound (Ground g) h = omega (arith, one-bound g h)
-  after-bound (Removed count) h = omega (arith, one-bound count h)
-  after-bound (Listed count) h = omega (arith, numbers-bound (count ∷ strikes) (λ k. listed-small count h k))
-  after-bound (Refused why) h = omega (arith, value-bound (refusalValue why) h)
-
-  -- an answer's line takes at most 14 bytes, and 11 for each strike
-  pub answer-bound : (answer : Answer) → answerValue answer < 10 ^ 10 → length (answerText answer strikes) ≤ 14 + 11 * length strikes
-  answer-bound answer h =
-      omega (arith, length-whole answer strikes (answerNumber answer) refl, length-decimal 1 (answerNumber answer) (number-below answer), after-bound answer h)
+  -- an answer's line with a number below 100, and a value and strikes of 32 bits
+  pub answer-bound : length (answerText shown number value strikes) ≤ lineRoom (length strikes)
+  answer-bound = omega (arith, length-whole shown number value strikes, length-decimal 1 number (omega arith), after-bound)

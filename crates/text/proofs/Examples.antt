@@ -1,8 +1,7 @@
--- Document 01's own lines: what they are as calls, lines of no form, and what is printed; each computes.
+-- Document 01's own lines: what they are as calls, lines of no form, and what is printed; each computes. Assumes nothing.
 use mathlib.Core.Path.{_≡_, refl}
+use mathlib.Core.Bool.{true, false}
 use mathlib.Core.List.{[], _∷_}
-use Rattle.word.specs.declared.answer.Refusal.the-variants.{AlreadyStanding, OutOfWords}
-use Rattle.word.specs.declared.answer.Answer.the-variants.{Done, Ground, Listed, Refused}
 use Rattle.book.specs.Calls.{callM, callL, callA, malformed}
 use Rattle.book.specs.Letters.{callOf}
 use Rattle.text.specs.Grammar.{callIn, callOfParts, firstPart, laterParts, isNumeral, valueFrom}
@@ -44,27 +43,32 @@ unfolding callOf callOfParts firstPart laterParts isNumeral valueFrom
 line-last-space = refl
 
 -- `0`
-printed-done : answerText Done [] ≡ 48 ∷ 10 ∷ []
+printed-done : answerText false 0 0 [] ≡ 48 ∷ 10 ∷ []
 unfolding decimalBy decimal spacedNumbers afterNumber answerText
 printed-done = refl
 
 -- `0 7 2 4 6 8 10 12 14`
-printed-listed : answerText (Listed 7) (2 ∷ 4 ∷ 6 ∷ 8 ∷ 10 ∷ 12 ∷ 14 ∷ [])
+printed-listed : answerText true 0 7 (2 ∷ 4 ∷ 6 ∷ 8 ∷ 10 ∷ 12 ∷ 14 ∷ [])
     ≡ 48 ∷ 32 ∷ 55 ∷ 32 ∷ 50 ∷ 32 ∷ 52 ∷ 32 ∷ 54 ∷ 32 ∷ 56 ∷ 32 ∷ 49 ∷ 48 ∷ 32 ∷ 49 ∷ 50 ∷ 32 ∷ 49 ∷ 52 ∷ 10 ∷ []
 unfolding decimalBy decimal spacedNumbers afterNumber answerText
 printed-listed = refl
 
 -- `0 1`
-printed-ground : answerText (Ground 1) [] ≡ 48 ∷ 32 ∷ 49 ∷ 10 ∷ []
+printed-ground : answerText true 0 1 [] ≡ 48 ∷ 32 ∷ 49 ∷ 10 ∷ []
 unfolding decimalBy decimal spacedNumbers afterNumber answerText
 printed-ground = refl
 
--- `6`
-printed-refused : answerText (Refused AlreadyStanding) [] ≡ 54 ∷ 10 ∷ []
+-- `12`
+printed-out-of-range : answerText true 12 0 [] ≡ 49 ∷ 50 ∷ 10 ∷ []
 unfolding decimalBy decimal spacedNumbers valueOrNone afterNumber answerText
-printed-refused = refl
+printed-out-of-range = refl
+
+-- `6`
+printed-standing : answerText true 6 0 [] ≡ 54 ∷ 10 ∷ []
+unfolding decimalBy decimal spacedNumbers valueOrNone afterNumber answerText
+printed-standing = refl
 
 -- `15 30`: "for 15 on `A` the value too"
-printed-out-of-words : answerText (Refused (OutOfWords 30)) [] ≡ 49 ∷ 53 ∷ 32 ∷ 51 ∷ 48 ∷ 10 ∷ []
+printed-out-of-words : answerText true 15 30 [] ≡ 49 ∷ 53 ∷ 32 ∷ 51 ∷ 48 ∷ 10 ∷ []
 unfolding decimalBy decimal spacedNumbers valueOrNone afterNumber answerText
 printed-out-of-words = refl

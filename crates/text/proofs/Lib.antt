@@ -6,6 +6,11 @@ pub mod Sound
 mod Parts
 pub mod Limited
 pub mod Lines
+mod Made
+mod Sheets
+mod Replies
+pub mod Readers
+pub mod Pieces
 pub mod Decimals
 mod SpacedNumbers
 mod AnswerTexts

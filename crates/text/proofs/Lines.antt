@@ -1,4 +1,4 @@
--- A line is read as the call that it is, its numbers capped, and as malformed where it is of no form: by whether the reading ends well.
+-- A line is read as the call that it is, its numbers capped, and as malformed where it is of no form: by whether the reading ends well. Assumes nothing.
 use mathlib.Core.Path.{_≡_, refl, sym, ap, _∙_}
 use mathlib.Core.Logic.{_⊎_, inl, inr, ⊎-elim}
 use mathlib.Core.Bool.{Bool, true, false, cond, _&&_}
@@ -7,17 +7,18 @@ use Prim.Native.Nat.{ℕ, suc, _≤_, _<_}
 use native.Mathlib.Omega.{arith}
 use lib.ListN.{length, take}
 use lib.Seq.{sets}
+use lib.Dec.{leb}
 use borrow.Author.Tests.{le-leb}
 use Rattle.word.specs.Limits.{between}
 use Rattle.word.proofs.Tests.{and-both}
 use Rattle.rule.specs.Lists.{every}
 use Rattle.book.specs.Calls.{Call, malformed}
+use Rattle.book.specs.Letters.{callOf}
 use Rattle.text.specs.declared.line.Phase.{Phase}
 use Rattle.text.specs.declared.line.Phase.the-variants.{Start, Letter, Space, Zero, Number, Malformed}
 use Rattle.text.specs.declared.line.Line.{Line}
-use Rattle.text.specs.Reading.{capped, zeros, lineOf}
-use Rattle.book.specs.Letters.{callOf}
-use Rattle.text.specs.Grammar.{Formed, numberIn, isNumeral, firstPart, laterParts, callOfParts, callIn, held, callBy, callHeld, cappedCall}
+use Rattle.text.specs.Reading.{capped, zeros, malformedLine, pushOf, emptyLine, runOf, endBy, lineOf}
+use Rattle.text.specs.Grammar.{Formed, numberIn, isNumeral, firstPart, laterParts, callOfParts, callIn, held, callHeld, cappedCall}
 use Rattle.text.proofs.Cases.{bool-cases, lt-or-le}
 use Rattle.text.proofs.Complete.{complete}
 use Rattle.text.proofs.Sound.{sound}
@@ -92,19 +93,22 @@ too-many room c (a ∷ b ∷ d ∷ e ∷ []) h = refl
 too-many room c (a ∷ b ∷ d ∷ e ∷ f ∷ []) h = absurd (omega arith)
 too-many room c (a ∷ b ∷ d ∷ e ∷ f ∷ g ∷ more) h = refl
 
-phase-cases : (p : Phase) → (p ≡ Letter) ⊎ ((room : ℕ) (l : Line) → callBy room p l ≡ malformed)
-unfolding callBy
-phase-cases Start = inr (λ room l. refl)
-phase-cases Letter = inl refl
-phase-cases Space = inr (λ room l. refl)
-phase-cases Zero = inr (λ room l. refl)
-phase-cases Number = inr (λ room l. refl)
-phase-cases Malformed = inr (λ room l. refl)
+-- a line that has ended is at Letter, or is the malformed one
+pushed : (l : Line) → (pushOf l Letter .phase ≡ Letter) ⊎ (pushOf l Letter ≡ malformedLine)
+pushed l = ⊎-elim (λ (e : leb 5 (l .count) ≡ true). inr (rw e)) (λ (e : leb 5 (l .count) ≡ false). inl (rw e)) (bool-cases (leb 5 (l .count)))
+
+ended : (p : Phase) (l : Line) → l .phase ≡ p → (endBy p l .phase ≡ Letter) ⊎ (endBy p l ≡ malformedLine)
+unfolding endBy
+ended Start l e = inr refl
+ended Letter l e = inl e
+ended Space l e = inr refl
+ended Zero l e = pushed l
+ended Number l e = pushed l
+ended Malformed l e = inr refl
 
 module _ (room : ℕ) where
   -- a line of the form is read as its call
   formed-read : {s : List ℕ} {c : ℕ} {ts : List (List ℕ)} → Formed s c ts → length ts ≤ 5 → callHeld room (lineOf s) ≡ cappedCall (callIn room s)
-  unfolding callBy
   formed-read {s} {c} {ts} f few =
       let all : take (length ts) (sets zeros 0 (map held ts)) ≡ map held ts =
       ap (λ (k : ℕ). take k (sets zeros 0 (map held ts))) (sym (length-held ts)) ∙ numbers-kept (map held ts) (rw (length-held ts) few) in
@@ -115,19 +119,20 @@ module _ (room : ℕ) where
 
   -- Every line is read as the call that it is, each number capped: in both directions, since it is of the form, or malformed and read so.
   pub call-read : (s : List ℕ) → callHeld room (lineOf s) ≡ cappedCall (callIn room s)
-  unfolding cappedCall
+  unfolding cappedCall callOf
   call-read s =
+      let read : Line = runOf emptyLine s in
       ⊎-elim
       (λ (h : lineOf s .phase ≡ Letter).
       let r = sound s h in
       formed-read (r .2) (r .3))
-      (λ unread.
+      (λ (unread : lineOf s ≡ malformedLine).
       ⊎-elim
-      (λ (e : callIn room s ≡ malformed). unread room (lineOf s) ∙ ap cappedCall (sym e))
+      (λ (e : callIn room s ≡ malformed). ap (callHeld room) unread ∙ ap cappedCall (sym e))
       (λ r.
       ⊎-elim
-      (λ many. unread room (lineOf s) ∙ ap cappedCall (sym (formed-call room (r .1) ∙ too-many room (r .0) (laterParts s) many)))
+      (λ many. ap (callHeld room) unread ∙ ap cappedCall (sym (formed-call room (r .1) ∙ too-many room (r .0) (laterParts s) many)))
       (λ few. formed-read (r .1) few)
       (lt-or-le 5 (length (laterParts s))))
       (formed-or-malformed room s))
-      (phase-cases (lineOf s .phase))
+      (ended (read .phase) read refl)

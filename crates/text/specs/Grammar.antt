@@ -10,8 +10,7 @@ use Rattle.word.specs.Limits.{between}
 use Rattle.rule.specs.Lists.{every}
 use Rattle.book.specs.Calls.{Call, callM, callO, callC, callV, callD, callL, callJ, callX, callI, callR, callA, malformed}
 use Rattle.book.specs.Letters.{callOf}
-use Rattle.text.specs.declared.line.Phase.{Phase}
-use Rattle.text.specs.declared.line.Phase.the-variants.{Start, Letter, Space, Zero, Number, Malformed}
+use Rattle.text.specs.declared.line.Phase.the-variants.{Letter}
 use Rattle.text.specs.declared.line.Line.{Line}
 use Rattle.text.specs.Reading.{capped, zeros}
 
@@ -99,18 +98,9 @@ held t = capped (numberIn t)
 abbrev pub lineFor : ℕ → List (List ℕ) → Line
 lineFor c ts = record { phase = Letter; letter = c; value = 0; count = length ts; numbers = sets zeros 0 (map held ts) }
 
--- the call of a line, by the phase
-unfoldable pub callBy : ℕ → Phase → Line → Call
-callBy room Start l = malformed
-callBy room Letter l = callOf room (l .letter) (take (l .count) (l .numbers))
-callBy room Space l = malformed
-callBy room Zero l = malformed
-callBy room Number l = malformed
-callBy room Malformed l = malformed
-
--- a line that has ended well is at Letter
+-- the call of a line that has ended: a line that has not ended well has the letter 0, which names none
 abbrev pub callHeld : ℕ → Line → Call
-callHeld room l = callBy room (l .phase) l
+callHeld room l = callOf room (l .letter) (take (l .count) (l .numbers))
 
 -- the call with each number as a line keeps it
 unfoldable pub cappedCall : Call → Call

@@ -2,3 +2,5 @@
 pub mod Reading
 pub mod Grammar
 pub mod Printing
+pub mod Sheets
+pub mod Pieces

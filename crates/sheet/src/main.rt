@@ -1,0 +1,121 @@
+// The sheet program: reads a call sheet from standard input over a fresh book, and prints the reply to each line.
+// Standard input comes in pieces, and a line may span pieces and have any length.
+ghost use mathlib.Core.Path.{_≡_};
+ghost use Prim.Native.Nat.{_≤_};
+ghost use lib.Dec.{T};
+ghost use lib.ListN.{length};
+ghost use Rattle.book.specs.Books.{isBook};
+ghost use Rattle.text.specs.Pieces.{lineRoom};
+use libc::STDIN_FILENO;
+use libc::STDOUT_FILENO;
+use scan::fresh;
+use text::line::Line;
+use text::line::Phase;
+use text::line::empty;
+use text::piece::end_line;
+use text::piece::read_piece;
+
+// Whether the input went on, and the line that has not ended.
+struct Turn {
+    more: bool,
+    line: Line,
+}
+
+// Makes a fresh book of the run.
+fn begin(run: &mut [u32])
+    requires { ⌜ 4096 ≡ length (now run) ⌝ }
+    ensures { λ _. ⌜ T (isBook (now (run .exit))) ⌝ }
+{
+    fresh(run);
+}
+
+// Reads a piece to its end and prints the replies to the lines that end in it. Answers the line that has not ended.
+fn read_whole(run: &mut [u32], second: &mut [u32], line: Line, piece: &[u8], out: &mut [u8]) -> Line
+    requires { ⌜ T (isBook (now run)) × (lineRoom (length (now second)) ≤ length (now out)) ⌝ }
+    ensures { λ _. ⌜ T (isBook (now (run .exit))) ⌝ }
+{
+    let mut line = line;
+    let mut from = 0;
+    while from < piece.len() {
+        let progress = read_piece(run, second, line, &piece[from..], out);
+        let put = progress.put;
+        io::write_all(STDOUT_FILENO, &out[..put]);
+        line = progress.line;
+        from += progress.read;
+    }
+    line
+}
+
+// Reads the next piece of standard input.
+fn take_turn(
+    run: &mut [u32],
+    second: &mut [u32],
+    line: Line,
+    input: &mut [u8],
+    out: &mut [u8],
+) -> Turn
+    requires { ⌜ T (isBook (now run)) × (lineRoom (length (now second)) ≤ length (now out)) ⌝ }
+    ensures { λ _. ⌜ T (isBook (now (run .exit))) ⌝ }
+{
+    let got = libc::read(STDIN_FILENO, input);
+    if got <= 0 {
+        return Turn {
+            more: false,
+            line: line,
+        };
+    }
+    let count = io::count(got, input);
+    let next = read_whole(run, second, line, &input[..count], out);
+    Turn {
+        more: true,
+        line: next,
+    }
+}
+
+// Reads standard input to its end. Answers the last line, where it lacks its line end. Nothing says that the input ends, so the turns are counted down.
+fn read_all(run: &mut [u32], second: &mut [u32], input: &mut [u8], out: &mut [u8]) -> Line
+    requires { ⌜ T (isBook (now run)) × (lineRoom (length (now second)) ≤ length (now out)) ⌝ }
+    ensures { λ _. ⌜ T (isBook (now (run .exit))) ⌝ }
+{
+    let mut line = empty();
+    let mut turns = u64::MAX;
+    while turns > 0 {
+        let turn = take_turn(run, second, line, input, out);
+        line = turn.line;
+        if !turn.more {
+            return line;
+        }
+        turns -= 1;
+    }
+    line
+}
+
+// Ends a last line that has begun, and prints the reply to it.
+fn end_last(run: &mut [u32], second: &mut [u32], line: Line, out: &mut [u8])
+    requires { ⌜ T (isBook (now run)) × (lineRoom (length (now second)) ≤ length (now out)) ⌝ }
+    ensures { λ _. ⌜ T (isBook (now (run .exit))) ⌝ }
+{
+    let phase = line.phase;
+    if let Phase::Start = phase {
+        return;
+    }
+    let put = end_line(run, second, line, out, 0);
+    io::write_all(STDOUT_FILENO, &out[..put]);
+}
+
+// The whole sheet, over a fresh book.
+fn run_sheet(run: &mut [u32], second: &mut [u32], input: &mut [u8], out: &mut [u8])
+    requires { ⌜ (4096 ≡ length (now run)) × (lineRoom (length (now second)) ≤ length (now out)) ⌝ }
+{
+    begin(run);
+    let line = read_all(run, second, input, out);
+    end_last(run, second, line, out);
+}
+
+fn main() {
+    let mut book = [0u32; 4096];
+    let mut second = [0u32; 512];
+    let mut input = io::large_buffer();
+    let mut out = io::large_buffer();
+    run_sheet(&mut book, &mut second, &mut input, &mut out);
+}

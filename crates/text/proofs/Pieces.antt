@@ -1,0 +1,141 @@
+-- What the bytes of a sheet make, in pieces or whole, is what the calls of its lines ask for: the line so far is what its bytes read give, and the capped call that is held is judged and answered like the call on the sheet. By recursion on the sheet. Assumes nothing.
+use Prim.Native.Nat.{ℕ}
+use mathlib.Core.Path.{_≡_, refl, sym, ap, _∙_}
+use mathlib.Core.Logic.{⊎-elim}
+use mathlib.Core.Bool.{Bool, true, false, cond}
+use mathlib.Core.List.{List, [], _∷_, _++_, map, append-assoc, append-nil}
+use lib.Dec.{eqb}
+use Rattle.book.specs.Calls.{Call, callM, callO, callC, callV, callD, callL, callJ, callX, callI, callR, callA, malformed, steps}
+use Rattle.book.specs.CallLists.{secondAfter}
+use Rattle.text.specs.declared.line.Phase.{Phase}
+use Rattle.text.specs.declared.line.Phase.the-variants.{Start, Letter, Space, Zero, Number, Malformed}
+use Rattle.text.specs.declared.line.Line.{Line}
+use Rattle.text.specs.Reading.{emptyLine, feedBy, feedOf, endOf, runOf}
+use Rattle.text.specs.Grammar.{callIn, callHeld, cappedCall}
+use Rattle.text.specs.Printing.{isShown}
+use Rattle.text.specs.Sheets.{withByte, linesOf, callsIn}
+use Rattle.text.specs.Pieces.{Reader, callEnded, callMade, byteRead, bytesRead, hasBegun, lastEnded, repliesTo, callsMade}
+use Rattle.text.proofs.Cases.{bool-cases}
+use Rattle.text.proofs.Limited.{same-number, same-value, same-written, same-step}
+use Rattle.text.proofs.Lines.{call-read}
+
+-- ---- one line
+
+-- the bytes of a line in two parts
+run-append : (l : Line) (a b : List ℕ) → runOf l (a ++ b) ≡ runOf (runOf l a) b
+unfolding runOf
+run-append l [] b = refl
+run-append l (x ∷ a) b = run-append (feedOf l x) a b
+
+-- a line with a byte more has begun
+begun-if : (t : Bool) (k l : Line) → hasBegun (cond t k l .phase) ≡ cond t (hasBegun (k .phase)) (hasBegun (l .phase))
+begun-if true k l = refl
+begun-if false k l = refl
+
+either-true : (t : Bool) → cond t true true ≡ true
+either-true true = refl
+either-true false = refl
+
+begun-fed : (p : Phase) (l : Line) (b : ℕ) → hasBegun (feedBy p l b .phase) ≡ true
+unfolding feedBy hasBegun
+begun-fed Start l b = simp (begun-if, either-true)
+begun-fed Letter l b = simp (begun-if, either-true)
+begun-fed Space l b = simp (begun-if, either-true)
+begun-fed Zero l b = simp (begun-if, either-true)
+begun-fed Number l b = simp (begun-if, either-true)
+begun-fed Malformed l b = refl
+
+begun-run : (l : Line) (b : ℕ) (s : List ℕ) → hasBegun (runOf l (b ∷ s) .phase) ≡ true
+unfolding runOf
+begun-run l b [] = begun-fed (l .phase) l b
+begun-run l b (d ∷ s) = begun-run (feedOf l b) d s
+
+-- ---- its call
+
+same-shown : (x : Call) → isShown (cappedCall x) ≡ isShown x
+unfolding isShown cappedCall
+same-shown (callM m) = refl
+same-shown (callO c) = refl
+same-shown (callC c p) = refl
+same-shown (callV c n) = refl
+same-shown (callD c p d) = refl
+same-shown (callL c m h) = refl
+same-shown (callJ c m h) = refl
+same-shown (callX c m h) = refl
+same-shown (callI c m h a b) = refl
+same-shown (callR c) = refl
+same-shown (callA c m room) = refl
+same-shown malformed = refl
+
+same-made : (n : ℕ) (x : Call) (r : Reader) → callMade n (cappedCall x) r ≡ callMade n x r
+unfolding callMade
+same-made n x r = rw (same-step, same-written, same-shown, same-number, same-value)
+
+-- ---- the lines of a sheet that begins with the bytes l, none of which ends a line
+
+abbrev withFront : List ℕ → List (List ℕ) → List (List ℕ)
+withFront [] ls = ls
+withFront (c ∷ l) [] = (c ∷ l) ∷ []
+withFront (c ∷ l) (k ∷ ls) = (c ∷ (l ++ k)) ∷ ls
+
+front-ended : (l : List ℕ) (ls : List (List ℕ)) → withFront l ([] ∷ ls) ≡ l ∷ ls
+front-ended [] ls = refl
+front-ended (c ∷ l) ls = rw (append-nil l)
+
+front-byte : (l : List ℕ) (b : ℕ) (ls : List (List ℕ)) → withFront l (withByte b ls) ≡ withFront (l ++ (b ∷ [])) ls
+front-byte [] b [] = refl
+front-byte [] b (k ∷ ls) = refl
+front-byte (c ∷ l) b [] = refl
+front-byte (c ∷ l) b (k ∷ ls) = rw (append-assoc l (b ∷ []) k)
+
+-- ---- a reader whose line has been read up to the bytes l
+
+module _ (n room : ℕ) where
+  line-made : (r : Reader) (l : List ℕ) → r .line ≡ runOf emptyLine l → callMade n (callEnded room r) r ≡ callMade n (callIn room l) r
+  line-made r l e =
+      let held : callEnded room r ≡ cappedCall (callIn room l) = ap (λ (k : Line). callHeld room (endOf k)) e ∙ call-read room l in
+      ap (λ (x : Call). callMade n x r) held ∙ same-made n (callIn room l) r
+
+  made-first : (x : Call) (xs : List Call) (r : Reader) → callsMade n xs (callMade n x r) ≡ callsMade n (x ∷ xs) r
+  unfolding callMade steps secondAfter repliesTo
+  made-first x xs r = simp append-assoc
+
+  made-none : (r : Reader) → r .line ≡ emptyLine → r ≡ callsMade n [] r
+  unfolding steps secondAfter repliesTo
+  made-none r e = λ i. record { line = e i; facts = r .facts; second = r .second; text = sym (append-nil (r .text)) i }
+
+  -- its calls are those of the lines that begin with l
+  read-from : (s : List ℕ) (r : Reader) (l : List ℕ) → r .line ≡ runOf emptyLine l
+      → lastEnded n room (bytesRead n room r s) ≡ callsMade n (map (callIn room) (withFront l (linesOf s))) r
+  unfolding lastEnded bytesRead byteRead callMade linesOf runOf hasBegun
+  read-from [] r [] e =
+      let not-begun : hasBegun (r .line .phase) ≡ false = ap (λ (k : Line). hasBegun (k .phase)) e in
+      rw not-begun (made-none r e)
+  read-from [] r (c ∷ l) e =
+      let begun : hasBegun (r .line .phase) ≡ true = ap (λ (k : Line). hasBegun (k .phase)) e ∙ begun-run emptyLine c l in
+      let x : Call = callIn room (c ∷ l) in
+      rw begun (line-made r (c ∷ l) e ∙ made-none (callMade n x r) refl ∙ made-first x [] r)
+  read-from (b ∷ s) r l e =
+      ⊎-elim
+      (λ (is : eqb b 10 ≡ true).
+      let x : Call = callIn room l in
+      let made : byteRead n room r b ≡ callMade n x r = rw is (line-made r l e) in
+      let lines : withFront l (linesOf (b ∷ s)) ≡ l ∷ linesOf s = rw is (front-ended l (linesOf s)) in
+      ap (λ (q : Reader). lastEnded n room (bytesRead n room q s)) made
+      ∙ read-from s (callMade n x r) [] refl
+      ∙ made-first x (callsIn room s) r
+      ∙ ap (λ (ls : List (List ℕ)). callsMade n (map (callIn room) ls) r) (sym lines))
+      (λ (is : eqb b 10 ≡ false).
+      let fed : Reader = record { line = feedOf (r .line) b; facts = r .facts; second = r .second; text = r .text } in
+      let made : byteRead n room r b ≡ fed = rw is in
+      let lines : withFront l (linesOf (b ∷ s)) ≡ withFront (l ++ (b ∷ [])) (linesOf s) = rw is (front-byte l b (linesOf s)) in
+      ap (λ (q : Reader). lastEnded n room (bytesRead n room q s)) made
+      ∙ read-from s fed (l ++ (b ∷ [])) (ap (λ (k : Line). feedOf k b) e ∙ sym (run-append emptyLine l (b ∷ [])))
+      ∙ ap (λ (ls : List (List ℕ)). callsMade n (map (callIn room) ls) r) (sym lines))
+      (bool-cases (eqb b 10))
+
+  -- a whole sheet from a line that has not begun, its last line ended with it
+  pub sheet-read : (s : List ℕ) (r : Reader) → r .line ≡ emptyLine
+      → lastEnded n room (bytesRead n room r s) ≡ callsMade n (callsIn room s) r
+  unfolding runOf
+  sheet-read s r e = read-from s r [] e

@@ -1,0 +1,205 @@
+-- A sheet read line by line: what the lines that are left make of the present words is what the whole sheet makes of the first ones; by what one call makes of any words. Assumes nothing.
+use Prim.Native.Nat.{ℕ, suc, _+_, _-_, _≤_, _<_, zero-le}
+use mathlib.Core.Path.{_≡_, refl, sym, ap, _∙_}
+use mathlib.Core.Bool.{Bool, true, false}
+use mathlib.Core.Logic.{_⊎_, ⊎-elim}
+use mathlib.Core.List.{List, [], _∷_, map}
+use native.Mathlib.Omega.{arith}
+use native.Mathlib.Numerals.{add-one}
+use lib.Dec.{eqb}
+use lib.ListN.{length, take, drop, getD, drop-of-length-le}
+use lib.Seq.{sets, set-out, drop-cons, drop-drop, drop-length}
+use borrow.Author.Tests.{eq-eqb, ne-eqb}
+use Rattle.word.specs.declared.answer.Answer.{Answer}
+use Rattle.word.specs.Answers.{answerNumber, answerValue}
+use Rattle.book.specs.Books.{isBook}
+use Rattle.book.specs.Calls.{Call, steps}
+use Rattle.book.specs.CallLists.{answersTo, secondAfter}
+use Rattle.book.specs.Made.{Made}
+use Rattle.book.proofs.Tests.{T-true, true-T}
+use Rattle.book.proofs.Layouts.{book-facts}
+use Rattle.book.proofs.Followed.{made-book}
+use Rattle.text.specs.Grammar.{callIn}
+use Rattle.text.specs.Sheets.{withByte, linesOf, lineEnd, callsIn, refusedAll, answersOver, wordsAfter, secondOver, SheetRun}
+use Rattle.text.proofs.Cases.{bool-cases}
+
+-- ---- one call of a list, over any words
+
+record Next (x : Call) (w v : List ℕ) (r : Answer) (w′ v′ : List ℕ) : Type 0 where
+  book : isBook w′ ≡ isBook w
+  answers : (xs : List Call) → answersOver w (x ∷ xs) ≡ answerNumber r ∷ answerValue r ∷ answersOver w′ xs
+  words : (xs : List Call) → wordsAfter w (x ∷ xs) ≡ wordsAfter w′ xs
+  second : (xs : List Call) → secondOver w (x ∷ xs) v ≡ secondOver w′ xs v′
+
+next : {x : Call} {w v w′ v′ : List ℕ} {r : Answer} → Made x w v r w′ v′ → Next x w v r w′ v′
+unfolding steps answersTo secondAfter refusedAll
+next {x} {w} {v} {w′} {v′} {r} m = go (isBook w) refl
+  where
+    go : (b : Bool) → isBook w ≡ b → Next x w v r w′ v′
+    go true e =
+        let left = made-book (true-T (isBook w) e) m in
+        let still : isBook w′ ≡ true = T-true (isBook w′) (left .0) in
+        record {
+          book = still ∙ sym e;
+          answers = λ xs. rw (m .number, m .value, e, still, left .1, left .2);
+          words = λ xs. rw (e, still, left .1, left .2);
+          second = λ xs. rw (m .second, e, still, left .1, left .2);
+        }
+    go false e =
+        let same : w′ ≡ w = rw e at (m .words) in
+        record {
+          book = ap isBook same;
+          answers = λ xs. rw (m .number, m .value, same, e);
+          words = λ xs. rw (same, e);
+          second = λ xs. rw (m .second, same, e);
+        }
+
+none-left : (w v : List ℕ) → (answersOver w [] ≡ []) × (wordsAfter w [] ≡ w) × (secondOver w [] v ≡ v)
+unfolding steps answersTo secondAfter refusedAll
+none-left w v =
+    ⊎-elim
+    (λ (e : isBook w ≡ true). (rw e, rw e (book-facts w (true-T (isBook w) e) .1), rw e))
+    (λ (e : isBook w ≡ false). (rw e, rw e, rw e))
+    (bool-cases (isBook w))
+
+-- ---- the lines of a sheet
+
+line-first :
+    (b : ℕ) (s : List ℕ)
+    → linesOf (b ∷ s) ≡ take (lineEnd (b ∷ s)) (b ∷ s) ∷ linesOf (drop (suc (lineEnd (b ∷ s))) (b ∷ s))
+unfolding linesOf lineEnd
+line-first b [] =
+    ⊎-elim (λ (e : eqb b 10 ≡ true). rw e) (λ (e : eqb b 10 ≡ false). rw e) (bool-cases (eqb b 10))
+line-first b (d ∷ s) =
+    ⊎-elim
+    (λ (e : eqb b 10 ≡ true). rw e)
+    (λ (e : eqb b 10 ≡ false). rw e (ap (withByte b) (line-first d s)))
+    (bool-cases (eqb b 10))
+
+-- the lines from a place on: the bytes up to the line end, and the lines after it
+line-next :
+    (sheet : List ℕ) (from end : ℕ) → from < length sheet → end ≡ from + lineEnd (drop from sheet)
+    → linesOf (drop from sheet) ≡ take (end - from) (drop from sheet) ∷ linesOf (drop (suc end) sheet)
+line-next sheet from end l e =
+    let s = drop from sheet in
+    let first : linesOf s ≡ take (lineEnd s) s ∷ linesOf (drop (suc (lineEnd s)) s) =
+    rw (drop-cons sheet from 0 l) (line-first (getD sheet from 0) (drop (suc from) sheet)) in
+    let long : end - from ≡ lineEnd s = omega arith in
+    let after : from + suc (lineEnd s) ≡ suc end = omega arith in
+    first ∙ rw (long, drop-drop (suc (lineEnd s)) from sheet, after)
+
+-- the line end from a place on, by the byte there
+module _ (s : List ℕ) (i : ℕ) where
+  pub end-here : i < length s → getD s i 0 ≡ 10 → lineEnd (drop i s) ≡ 0
+  unfolding lineEnd
+  end-here l e = rw (drop-cons s i 0 l, eq-eqb (getD s i 0) 10 e)
+
+  pub end-later : i < length s → (getD s i 0 ≡ 10 → ⊥) → lineEnd (drop i s) ≡ suc (lineEnd (drop (i + 1) s))
+  unfolding lineEnd
+  end-later l differs = rw (add-one, drop-cons s i 0 l, ne-eqb (getD s i 0) 10 differs)
+
+  pub end-none : length s ≤ i → lineEnd (drop i s) ≡ 0
+  unfolding lineEnd
+  end-none l = rw (drop-of-length-le s l)
+
+-- ---- the answers that are written
+
+-- there is no place past the end
+pub sets-out : (l : List ℕ) (i : ℕ) (xs : List ℕ) → length l ≤ i → sets l i xs ≡ l
+sets-out l i [] h = refl
+sets-out l i (x ∷ xs) h = rw (set-out l i x h) (sets-out l (suc i) xs (omega arith))
+
+-- ---- a sheet that has been read up to the place `from`
+
+pub record Reading (w₀ v₀ sheet answers₀ : List ℕ) (tested : Bool) (w v answers : List ℕ) (lines at from : ℕ) : Type 0 where
+  pub within : from ≤ length sheet
+  pub few : lines ≤ from
+  pub book : tested ≡ isBook w
+  pub size : length w ≡ length w₀
+  pub room : length v ≡ length v₀
+  pub places : length answers ≡ length answers₀
+  pub counted : lines + length (linesOf (drop from sheet)) ≡ length (linesOf sheet)
+  pub answered :
+      sets answers at (answersOver w (callsIn (length v₀) (drop from sheet)))
+      ≡ sets answers₀ 0 (answersOver w₀ (callsIn (length v₀) sheet))
+  pub words : wordsAfter w (callsIn (length v₀) (drop from sheet)) ≡ wordsAfter w₀ (callsIn (length v₀) sheet)
+  pub second : secondOver w (callsIn (length v₀) (drop from sheet)) v ≡ secondOver w₀ (callsIn (length v₀) sheet) v₀
+
+pub read-start : (w v sheet answers : List ℕ) {tested : Bool} → tested ≡ isBook w → Reading w v sheet answers tested w v answers 0 0 0
+read-start w v sheet answers is =
+    record {
+      within = zero-le;
+      few = zero-le;
+      book = is;
+      size = refl;
+      room = refl;
+      places = refl;
+      counted = omega arith;
+      answered = refl;
+      words = refl;
+      second = refl;
+    }
+
+-- the place after a line that ends at `end`: the end of the sheet, or after the line end
+abbrev pub After : List ℕ → ℕ → ℕ → Type 0
+After sheet end after = ((length sheet ≤ end) × (after ≡ length sheet)) ⊎ ((end < length sheet) × (after ≡ end + 1))
+
+same-rest : (sheet : List ℕ) (end after : ℕ) → After sheet end after → drop after sheet ≡ drop (suc end) sheet
+same-rest sheet end after place =
+    ⊎-elim
+    (λ w. ap (λ (k : ℕ). drop k sheet) (w .1) ∙ drop-length sheet ∙ sym (drop-of-length-le sheet {i = suc end} (omega (arith, w .0))))
+    (λ w. rw (w .1, add-one))
+    place
+
+module _
+    {w₀ v₀ sheet answers₀ : List ℕ}
+    {tested : Bool}
+    {w v answers : List ℕ}
+    {lines at from : ℕ}
+    (i : Reading w₀ v₀ sheet answers₀ tested w v answers lines at from)
+  where
+    -- one line more, which ends at `end`
+    pub read-more :
+        {end after number value at′ at″ : ℕ} {r : Answer} {w′ v′ answers′ answers″ : List ℕ} → from < length sheet
+        → end ≡ from + lineEnd (drop from sheet) → Made (callIn (length v) (take (end - from) (drop from sheet))) w v r w′ v′
+        → length w′ ≡ length w → length v′ ≡ length v → length answers″ ≡ length answers → number ≡ answerNumber r
+        → ((rest : List ℕ) → sets answers′ at′ rest ≡ sets answers at (number ∷ rest)) → value ≡ answerValue r
+        → ((rest : List ℕ) → sets answers″ at″ rest ≡ sets answers′ at′ (value ∷ rest)) → After sheet end after
+        → Reading w₀ v₀ sheet answers₀ tested w′ v′ answers″ (lines + 1) at″ after
+    read-more {end} {after} {value = value} {w′ = w′} l e m size room places n first k then place =
+        let line = take (end - from) (drop from sheet) in
+        let split : linesOf (drop from sheet) ≡ line ∷ linesOf (drop after sheet) =
+        line-next sheet from end l e ∙ ap (λ (u : List ℕ). line ∷ linesOf u) (sym (same-rest sheet end after place)) in
+        let calls = ap (map (callIn (length v₀))) split in
+        let rest = callsIn (length v₀) (drop after sheet) in
+        let made = next (rw (i .room) at m) in
+        let on : (from < after) × (after ≤ length sheet) =
+        ⊎-elim (λ w. (omega (arith, w .1), omega (arith, w .1))) (λ w. (omega (arith, w .1), omega (arith, w .0, w .1))) place in
+        record {
+          within = on .1;
+          few = omega (arith, i .few);
+          book = i .book ∙ sym (made .book);
+          size = size ∙ i .size;
+          room = room ∙ i .room;
+          places = places ∙ i .places;
+          counted = omega (arith, ap length split, i .counted);
+          answered =
+              then (answersOver w′ rest)
+              ∙ first (value ∷ answersOver w′ rest)
+              ∙ rw (n, k) (ap (sets answers at) (sym (ap (answersOver w) calls ∙ made .answers rest)))
+              ∙ i .answered;
+          words = sym (ap (wordsAfter w) calls ∙ made .words rest) ∙ i .words;
+          second = sym (ap (λ (xs : List Call). secondOver w xs v) calls ∙ made .second rest) ∙ i .second;
+        }
+
+    pub read-done : length sheet ≤ from → SheetRun w₀ v₀ sheet answers₀ lines w v answers
+    unfolding linesOf
+    read-done l =
+        let none : drop from sheet ≡ [] = drop-of-length-le sheet l in
+        let left = none-left w v in
+        record {
+          lines = omega (arith, rw none at (i .counted));
+          answered = sym (ap (sets answers at) (left .0)) ∙ rw none at (i .answered);
+          words = sym (left .1) ∙ rw none at (i .words);
+          second = sym (left .2) ∙ rw none at (i .second);
+        }

@@ -1,0 +1,109 @@
+-- `read_piece` reads as far as there is room: `Feeding` holds at each byte, and where the loop is left it is what the contract says. Assumes nothing.
+use Prim.Native.Nat.{_-_}
+use mathlib.Core.Logic.{⊎-elim}
+use native.Mathlib.Omega.{arith}
+use borrow.Author.Needs.{needs}
+use lib.ListN.{length}
+use Rattle.text.proofs.Readers.{Feeding, feeding-start, feeding-fed, feeding-ended, feeding-full, feeding-done}
+use Rattle.text.proofs.piece.read_piece.Statement.{statement}
+use Rattle.text.proofs.piece.read_piece.Tie as tie
+
+abbrev Inv-loop : tie.InvT-loop
+Inv-loop run₀ second₀ piece out₀ line₀ put₀ read₀ run second out line put read = Feeding run₀ second₀ piece out₀ line₀ run second out line put read
+
+abbrev μ-loop : tie.MeasureT-loop
+μ-loop run₀ second₀ piece out₀ line₀ put₀ read₀ run second out line put read = length piece - read
+
+loop-holds : tie.Need-loop-holds Inv-loop μ-loop
+loop-holds c = feeding-start _ _ _ _ _ (c .before .before .before .before .pre .0)
+
+shared-slice-read-byte : tie.Need-shared-slice-read-byte Inv-loop μ-loop
+shared-slice-read-byte c = omega arith
+
+sub-if2 : tie.Need-sub-if2 Inv-loop μ-loop
+sub-if2 c = omega arith
+
+mul-if2 : tie.Need-mul-if2 Inv-loop μ-loop
+mul-if2 c = omega arith
+
+add-if2 : tie.Need-add-if2 Inv-loop μ-loop
+add-if2 c = omega arith
+
+same-length : tie.Need-same-length Inv-loop μ-loop
+same-length c = omega arith
+
+same-length-2 : tie.Need-same-length-2 Inv-loop μ-loop
+same-length-2 c = omega arith
+
+same-length-3 : tie.Need-same-length-3 Inv-loop μ-loop
+same-length-3 c = omega arith
+
+returns : tie.Need-returns Inv-loop μ-loop
+returns c =
+    let at-loop = c .before .before .before .before in
+    feeding-full (at-loop .loop .inv) (at-loop .before .before .before .before .before .pre .1) (c .if2 .taken)
+
+end-line-requires : tie.Need-end-line-requires Inv-loop μ-loop
+end-line-requires c κs =
+    let at-loop = c .before .before .before .before .before .before .before in
+    (at-loop .loop .inv .holds .book, omega arith)
+
+empty-requires : tie.Need-empty-requires Inv-loop μ-loop
+empty-requires c κs = search needs
+
+feed-requires : tie.Need-feed-requires Inv-loop μ-loop
+feed-requires c κs = search needs
+
+add-read : tie.Need-add-read Inv-loop μ-loop
+add-read c = omega arith
+
+loop-less : tie.Need-loop-less Inv-loop μ-loop
+loop-less c = omega arith
+
+loop-again : tie.Need-loop-again Inv-loop μ-loop
+loop-again c =
+    let inside = c .before .before in
+    ⊎-elim
+    (λ w.
+    rw (w .13, w .14, w .15, w .16, w .17)
+    (feeding-ended (inside .before .loop .inv) (inside .loop-test .taken) (w .0 .taken) (w .5 .ensures) (w .12 .ensures) (w .5 .kept .1 .0) (w .5 .kept .1 .1 .1 .0)))
+    (λ w. rw (w .2, w .3, w .4, w .5, w .6) (feeding-fed (inside .before .loop .inv) (inside .loop-test .taken) (w .0 .left) (w .1 .ensures)))
+    (c .if1 .came)
+
+same-length-4 : tie.Need-same-length-4 Inv-loop μ-loop
+same-length-4 c = omega arith
+
+same-length-5 : tie.Need-same-length-5 Inv-loop μ-loop
+same-length-5 c = omega arith
+
+same-length-6 : tie.Need-same-length-6 Inv-loop μ-loop
+same-length-6 c = omega arith
+
+returns-2 : tie.Need-returns-2 Inv-loop μ-loop
+returns-2 c = feeding-done (c .before .loop .inv) (c .loop-test .left)
+
+pub read-piece-spec : {M : Type 1} → statement M
+read-piece-spec =
+    tie.close
+    (tie.spec
+    Inv-loop
+    μ-loop
+    loop-holds
+    shared-slice-read-byte
+    sub-if2
+    mul-if2
+    add-if2
+    same-length
+    same-length-2
+    same-length-3
+    returns
+    end-line-requires
+    empty-requires
+    feed-requires
+    add-read
+    loop-less
+    loop-again
+    same-length-4
+    same-length-5
+    same-length-6
+    returns-2)

@@ -1,0 +1,59 @@
+-- `line_end` finds the line end: what is left of the bytes has it, until the byte at the index is it or none is left. Assumes nothing.
+use Prim.Native.Nat.{_+_, _-_, _≤_}
+use mathlib.Core.Path.{_≡_, refl}
+use native.Mathlib.Omega.{arith}
+use lib.ListN.{length, drop}
+use borrow.Author.Needs.{needs}
+use Rattle.text.specs.Sheets.{lineEnd}
+use Rattle.text.proofs.Sheets.{end-here, end-later, end-none}
+use Rattle.text.proofs.sheet.line_end.Statement.{statement}
+use Rattle.text.proofs.sheet.line_end.Tie as tie
+
+abbrev Inv-loop : tie.InvT-loop
+Inv-loop sheet from i₀ i = (i ≤ length sheet) × (i + lineEnd (drop i sheet) ≡ from + lineEnd (drop from sheet))
+
+abbrev μ-loop : tie.MeasureT-loop
+μ-loop sheet from i₀ i = length sheet - i
+
+loop-holds : tie.Need-loop-holds Inv-loop μ-loop
+loop-holds c = (search needs, refl)
+
+shared-slice-read-if1 : tie.Need-shared-slice-read-if1 Inv-loop μ-loop
+shared-slice-read-if1 c = search needs
+
+returns : tie.Need-returns Inv-loop μ-loop
+returns c =
+    let l = c .before .before in
+    let s = l .before .before .args .sheet .now in
+    (omega (arith, end-here s (l .before .loop .i) (l .loop-test .taken) (c .if1 .taken), l .before .loop .inv .1), omega arith)
+
+add-i : tie.Need-add-i Inv-loop μ-loop
+add-i c = search needs
+
+loop-less : tie.Need-loop-less Inv-loop μ-loop
+loop-less c = search needs
+
+loop-again : tie.Need-loop-again Inv-loop μ-loop
+loop-again c =
+    let l = c .before .before in
+    let s = l .before .before .args .sheet .now in
+    (omega arith, omega (arith, end-later s (l .before .loop .i) (l .loop-test .taken) (c .if1 .left), l .before .loop .inv .1))
+
+returns-2 : tie.Need-returns-2 Inv-loop μ-loop
+returns-2 c =
+    let s = c .before .before .args .sheet .now in
+    (omega (arith, end-none s (c .before .loop .i) (c .loop-test .left), c .before .loop .inv .1), omega arith)
+
+pub line-end-spec : {M : Type 1} → statement M
+line-end-spec =
+    tie.close
+    (tie.spec
+    Inv-loop
+    μ-loop
+    loop-holds
+    shared-slice-read-if1
+    returns
+    add-i
+    loop-less
+    loop-again
+    returns-2)

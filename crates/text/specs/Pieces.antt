@@ -1,0 +1,122 @@
+-- A sheet read byte by byte, as it comes in pieces: what a reader holds between two bytes, and what it has printed. proofs/Pieces.antt shows that it is what the sheet's lines ask for. Assumes nothing.
+use Prim.Native.Nat.{ℕ, _+_, _*_, _≤_, _<_}
+use mathlib.Core.Path.{_≡_}
+use mathlib.Core.Bool.{Bool, true, false, cond}
+use mathlib.Core.List.{List, [], _∷_, _++_}
+use lib.Dec.{T, eqb}
+use lib.ListN.{length, take}
+use lib.Seq.{sets}
+use Rattle.book.specs.Facts.{Facts}
+use Rattle.book.specs.Layout.{layout, factsOf}
+use Rattle.book.specs.Books.{isBook}
+use Rattle.book.specs.Calls.{Call, written, step, steps}
+use Rattle.book.specs.CallLists.{secondAfter}
+use Rattle.book.specs.Made.{over}
+use Rattle.text.specs.declared.line.Phase.{Phase}
+use Rattle.text.specs.declared.line.Phase.the-variants.{Start, Letter, Space, Zero, Number, Malformed}
+use Rattle.text.specs.declared.line.Line.{Line}
+use Rattle.text.specs.declared.piece.Progress.{Progress}
+use Rattle.text.specs.Reading.{emptyLine, feedOf, endOf}
+use Rattle.text.specs.Grammar.{callHeld}
+use Rattle.text.specs.Printing.{replyTo}
+
+-- the line that has not ended, the facts of the book, the second run, and the text that has been printed
+pub record Reader : Type 0 where
+  pub line : Line
+  pub facts : Facts
+  pub second : List ℕ
+  pub text : List ℕ
+
+-- ---- in a run of n words, with a second run of `room` words
+
+-- the call of the line that ends here
+abbrev pub callEnded : ℕ → Reader → Call
+callEnded room r = callHeld room (endOf (r .line))
+
+-- a call is made, its answer printed, and a line begins
+unfoldable pub callMade : ℕ → Call → Reader → Reader
+callMade n x r =
+    record {
+      line = emptyLine;
+      facts = step n x (r .facts);
+      second = over (written n x (r .facts)) (r .second);
+      text = r .text ++ replyTo n x (r .facts);
+    }
+
+-- one byte more
+unfoldable pub byteRead : ℕ → ℕ → Reader → ℕ → Reader
+byteRead n room r b =
+    cond (eqb b 10) (callMade n (callEnded room r) r)
+    (record { line = feedOf (r .line) b; facts = r .facts; second = r .second; text = r .text })
+
+-- the bytes in turn
+unfoldable pub bytesRead : ℕ → ℕ → Reader → List ℕ → Reader
+bytesRead n room r [] = r
+bytesRead n room r (b ∷ bs) = bytesRead n room (byteRead n room r b) bs
+
+-- whether a line has begun
+unfoldable pub hasBegun : Phase → Bool
+hasBegun Start = false
+hasBegun Letter = true
+hasBegun Space = true
+hasBegun Zero = true
+hasBegun Number = true
+hasBegun Malformed = true
+
+-- "The last line may lack its line end": it ends with the sheet
+unfoldable pub lastEnded : ℕ → ℕ → Reader → Reader
+lastEnded n room r = cond (hasBegun (r .line .phase)) (callMade n (callEnded room r) r) r
+
+-- ---- what a list of calls asks for
+
+-- each call's reply in turn
+unfoldable pub repliesTo : ℕ → List Call → Facts → List ℕ
+repliesTo n [] f = []
+repliesTo n (x ∷ xs) f = replyTo n x f ++ repliesTo n xs (step n x f)
+
+-- the calls made in turn, from a line that has not begun
+abbrev pub callsMade : ℕ → List Call → Reader → Reader
+callsMade n xs r =
+    record {
+      line = emptyLine;
+      facts = steps n xs (r .facts);
+      second = secondAfter n xs (r .facts) (r .second);
+      text = r .text ++ repliesTo n xs (r .facts);
+    }
+
+-- ---- what is held in the words that are lent
+
+-- the bytes that the line of one answer takes at most, with a second run of `room` words
+abbrev pub lineRoom : ℕ → ℕ
+lineRoom room = 11 * room + 32
+
+-- the line of the call x ends over the words w of a book, with the second run v: its call is made, and its answer printed from `at` on
+pub record Ended (x : Call) (w v out : List ℕ) (at r : ℕ) (w′ v′ out′ : List ℕ) : Type 0 where
+  pub book : T (isBook w′)
+  pub words : w′ ≡ layout (length w) (step (length w) x (factsOf w))
+  pub second : v′ ≡ over (written (length w) x (factsOf w)) v
+  pub printed : out′ ≡ sets out at (replyTo (length w) x (factsOf w))
+  pub next : r ≡ at + length (replyTo (length w) x (factsOf w))
+  pub fits : r ≤ length out
+
+-- the words of a book of n words, a second run, the front of `out` and a line hold what the reader r holds
+pub record Holds (n : ℕ) (out : List ℕ) (r : Reader) (w′ v′ out′ : List ℕ) (line : Line) (put : ℕ) : Type 0 where
+  pub book : T (isBook w′)
+  pub size : length w′ ≡ n
+  pub facts-are : factsOf w′ ≡ r .facts
+  pub words : w′ ≡ layout n (r .facts)
+  pub second-is : v′ ≡ r .second
+  pub line-is : line ≡ r .line
+  pub printed : out′ ≡ sets out 0 (r .text)
+  pub put-is : put ≡ length (r .text)
+  pub fits : put ≤ length out
+
+-- a line that has begun over the words w of a book, with the second run v: nothing is printed yet
+abbrev pub begun : List ℕ → List ℕ → Line → Reader
+begun w v line = record { line = line; facts = factsOf w; second = v; text = [] }
+
+-- a piece read over the words w of a book, with the second run v and a line that has begun: as much of it as `out` has room for the answers to, and some of it
+pub record Pieced (w v piece out : List ℕ) (line : Line) (r : Progress) (w′ v′ out′ : List ℕ) : Type 0 where
+  pub holds : Holds (length w) out (bytesRead (length w) (length v) (begun w v line) (take (r .read) piece)) w′ v′ out′ (r .line) (r .put)
+  pub within : r .read ≤ length piece
+  pub onward : 0 < length piece → 0 < r .read

@@ -1,0 +1,56 @@
+-- Document 01, demand 1: "A call sheet with any numbers on any lines, over any words lent as the book, is read to its end": its lines, their calls, and what they leave. Assumes nothing.
+use Prim.Native.Nat.{ℕ, suc}
+use mathlib.Core.Path.{_≡_}
+use mathlib.Core.Bool.{cond}
+use mathlib.Core.List.{List, [], _∷_, map}
+use lib.Dec.{eqb}
+use lib.ListN.{length}
+use lib.Seq.{sets}
+use Rattle.book.specs.Layout.{layout, factsOf}
+use Rattle.book.specs.Books.{isBook}
+use Rattle.book.specs.Calls.{Call, steps}
+use Rattle.book.specs.CallLists.{answersTo, secondAfter}
+use Rattle.text.specs.Grammar.{callIn}
+
+-- a byte more at the front of the first line
+abbrev pub withByte : ℕ → List (List ℕ) → List (List ℕ)
+withByte b [] = (b ∷ []) ∷ []
+withByte b (l ∷ ls) = (b ∷ l) ∷ ls
+
+-- the lines of a sheet, which end in the byte 10: "The last line may lack its line end."
+unfoldable pub linesOf : List ℕ → List (List ℕ)
+linesOf [] = []
+linesOf (b ∷ s) = cond (eqb b 10) ([] ∷ linesOf s) (withByte b (linesOf s))
+
+-- the index of the first line end, or the length
+unfoldable pub lineEnd : List ℕ → ℕ
+lineEnd [] = 0
+lineEnd (b ∷ s) = cond (eqb b 10) 0 (suc (lineEnd s))
+
+-- the calls of a sheet, `A` with a second run of `room` words
+abbrev pub callsIn : ℕ → List ℕ → List Call
+callsIn room sheet = map (callIn room) (linesOf sheet)
+
+-- "1 the run is no book": each call draws it
+unfoldable pub refusedAll : List Call → List ℕ
+refusedAll [] = []
+refusedAll (x ∷ xs) = 1 ∷ 0 ∷ refusedAll xs
+
+-- the number and the value of each call's answer, over any words
+abbrev pub answersOver : List ℕ → List Call → List ℕ
+answersOver w xs = cond (isBook w) (answersTo (length w) xs (factsOf w)) (refusedAll xs)
+
+-- the words that calls leave, over any words
+abbrev pub wordsAfter : List ℕ → List Call → List ℕ
+wordsAfter w xs = cond (isBook w) (layout (length w) (steps (length w) xs (factsOf w))) w
+
+-- the words of the second run v that calls leave, over any words
+abbrev pub secondOver : List ℕ → List Call → List ℕ → List ℕ
+secondOver w xs v = cond (isBook w) (secondAfter (length w) xs (factsOf w) v) v
+
+-- a sheet read over any words w, with a second run v: how many lines it has, and the words that are left. The answers are written as far as `answers` has places for them
+pub record SheetRun (w v sheet answers : List ℕ) (r : ℕ) (w′ v′ answers′ : List ℕ) : Type 0 where
+  pub lines : r ≡ length (linesOf sheet)
+  pub answered : answers′ ≡ sets answers 0 (answersOver w (callsIn (length v) sheet))
+  pub words : w′ ≡ wordsAfter w (callsIn (length v) sheet)
+  pub second : v′ ≡ secondOver w (callsIn (length v) sheet) v

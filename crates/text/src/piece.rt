@@ -1,0 +1,87 @@
+// A sheet that comes in pieces, as a program reads it: the calls of the lines that end in a piece are made, and their answers printed into a lent buffer.
+ghost use mathlib.Core.Path.{_≡_};
+ghost use Prim.Native.Nat.{_+_, _≤_};
+ghost use mathlib.Core.Bool.{cond, _&&_};
+ghost use lib.Dec.{T, eqb};
+ghost use lib.ListN.{length};
+ghost use Rattle.book.specs.Books.{isBook};
+ghost use Rattle.text.specs.Reading.{endOf};
+ghost use Rattle.text.specs.Grammar.{callHeld};
+ghost use Rattle.text.specs.Printing.{isShownLetter};
+ghost use Rattle.text.specs.Pieces.{lineRoom, Ended, Pieced};
+use crate::line::Line;
+use crate::line::empty;
+use crate::line::end;
+use crate::line::feed;
+use crate::print::put_answer;
+use crate::sheet::make_line;
+
+// How far a piece has been read, the line that has not ended, and how many bytes were printed.
+pub struct Progress {
+    pub line: Line,
+    pub read: usize,
+    pub put: usize,
+}
+
+// Whether the value of an accepted call of this letter is printed.
+fn is_shown(letter: u8) -> bool
+    ensures { λ r. ⌜ r ≡ isShownLetter letter ⌝ }
+{
+    (letter == 76) | ((letter == 74) | ((letter == 82) | (letter == 65)))
+}
+
+// How many strikes a call of this letter has written to the second run, by the number and the value of its answer.
+fn strikes_listed(letter: u8, number: u32, value: u32) -> usize
+    ensures { λ r. ⌜ r ≡ cond (eqb number 0 && eqb letter 65) value 0 ⌝ }
+{
+    if (number == 0) & (letter == 65) {
+        return value as usize;
+    }
+    0
+}
+
+// Makes the call of a line that ends here, and prints its answer from `at` on.
+pub fn end_line(run: &mut [u32], second: &mut [u32], line: Line, out: &mut [u8], at: usize) -> usize
+    requires { ⌜ T (isBook (now run)) × (at + lineRoom (length (now second)) ≤ length (now out)) ⌝ }
+    ensures { λ r. ⌜ Ended (callHeld (length (now (second .entry))) (endOf line)) (now (run .entry)) (now (second .entry)) (now (out .entry)) at
+        r (now (run .exit)) (now (second .exit)) (now (out .exit)) ⌝ }
+{
+    let ended = end(line);
+    let answer = make_line(run, second, ended);
+    let letter = ended.letter;
+    let number = answer.number();
+    let value = answer.value();
+    let count = strikes_listed(letter, number, value);
+    put_answer(out, at, is_shown(letter), number, value, &second[0..count])
+}
+
+// Reads a piece of a sheet, as far as `out` has room for one answer more, and prints the answers from the front of `out` on.
+pub fn read_piece(
+    run: &mut [u32],
+    second: &mut [u32],
+    line: Line,
+    piece: &[u8],
+    out: &mut [u8],
+) -> Progress
+    requires { ⌜ T (isBook (now run)) × (lineRoom (length (now second)) ≤ length (now out)) ⌝ }
+    ensures { λ r. ⌜ Pieced (now (run .entry)) (now (second .entry)) (now (piece .entry)) (now (out .entry)) line
+        r (now (run .exit)) (now (second .exit)) (now (out .exit)) ⌝ }
+{
+    let mut line = line;
+    let mut put = 0;
+    let mut read = 0;
+    while read < piece.len() {
+        let byte = piece[read];
+        if byte == 10 {
+            if out.len() - put < 11 * second.len() + 32 {
+                return Progress { line, read, put };
+            }
+            put = end_line(run, second, line, out, put);
+            line = empty();
+        } else {
+            line = feed(line, byte);
+        }
+        read += 1;
+    }
+    Progress { line, read, put }
+}
