@@ -1,12 +1,12 @@
 -- The first of a list that passes a test, found one by one or by blocks: by induction on the list, and by what is left of it. Assumes nothing.
-use Prim.Native.Nat.{ℕ, suc, _+_, _-_, _≤_, _<_, zero-le}
-use mathlib.Core.Path.{_≡_, refl, ap, _∙_}
+use Prim.Native.Nat.{ℕ, zero, suc, _+_, _-_, _≤_, _<_, zero-le}
+use mathlib.Core.Path.{_≡_, refl, sym, ap, _∙_}
 use mathlib.Core.Bool.{Bool, true, false, cond}
 use mathlib.Core.List.{List, [], _∷_, _++_}
 use native.Mathlib.Omega.{arith}
 use native.Mathlib.Numerals.{add-one}
 use lib.ListN.{length, take, drop, getD, take-append-drop, drop-of-length-le, length-drop}
-use lib.Seq.{drop-cons, drop-drop, length-take-le, take-all}
+use lib.Seq.{drop-cons, drop-drop, length-take-le, take-all, getD-take, getD-drop}
 use Rattle.place.specs.Search.{firstAt}
 
 module _ {A : Type 0} (p : A → Bool) where
@@ -46,6 +46,44 @@ module _ {A : Type 0} (p : A → Bool) where
   first-none d (x ∷ xs) none =
       rw (none 0 (omega arith)) (ap suc (first-none d xs (λ i l. none (suc i) (omega arith))))
 
+  first-passes : (d : A) (xs : List A) → firstAt p xs < length xs → p (getD xs (firstAt p xs) d) ≡ true
+  first-passes d [] l = absurd (omega arith)
+  first-passes d (x ∷ xs) l = go (p x) refl l (first-passes d xs)
+    where
+      go :
+          (b : Bool) → p x ≡ b → cond {A = ℕ} b 0 (suc (firstAt p xs)) < suc (length xs)
+          → (firstAt p xs < length xs → p (getD xs (firstAt p xs) d) ≡ true)
+          → p (getD (x ∷ xs) (cond {A = ℕ} b 0 (suc (firstAt p xs))) d) ≡ true
+      go true e h r = e
+      go false e h r = r (omega arith)
+
+  -- what is left after some that stand before the first has it
+  first-left : (xs : List A) (i : ℕ) → i ≤ firstAt p xs → i + firstAt p (drop i xs) ≡ firstAt p xs
+  first-left xs zero l = omega arith
+  first-left [] (suc i) l = absurd (omega arith)
+  first-left (x ∷ xs) (suc i) l = go (p x) l (first-left xs i)
+    where
+      go :
+          (b : Bool) → suc i ≤ cond {A = ℕ} b 0 (suc (firstAt p xs))
+          → (i ≤ firstAt p xs → i + firstAt p (drop i xs) ≡ firstAt p xs)
+          → suc i + firstAt p (drop i xs) ≡ cond {A = ℕ} b 0 (suc (firstAt p xs))
+      go true h r = absurd (omega arith)
+      go false h r = omega (arith, r (omega arith))
+
+-- ---- the words from i to e, as a part is lent
+
+module _ {A : Type 0} (xs : List A) (i e : ℕ) (high : e ≤ length xs) where
+  part-length : i ≤ e → length (take (e - i) (drop i xs)) ≡ e - i
+  part-length low = length-take-le (e - i) (drop i xs) (simp length-drop (omega arith))
+
+  pub part-passes :
+      (p : A → Bool) (d : A) (j : ℕ) → j ≡ firstAt p (take (e - i) (drop i xs)) → i + j < e → p (getD xs (i + j) d) ≡ true
+  part-passes p d j q l =
+      let part = take (e - i) (drop i xs) in
+      ap p (sym (getD-take (e - i) (drop i xs) j d (omega arith) ∙ getD-drop i xs j d))
+      ∙ ap (λ (k : ℕ). p (getD part k d)) q
+      ∙ first-passes p d part (omega (arith, part-length (omega arith)))
+
 -- ---- a search that has come to the index i
 
 pub record Seeking {A : Type 0} (p : A → Bool) (xs : List A) (i : ℕ) : Type 0 where
@@ -55,6 +93,9 @@ pub record Seeking {A : Type 0} (p : A → Bool) (xs : List A) (i : ℕ) : Type 
 module _ {A : Type 0} (p : A → Bool) (xs : List A) where
   pub seek-start : Seeking p xs 0
   seek-start = record { within = zero-le; onward = omega arith }
+
+  pub seek-before : (i : ℕ) → i ≤ firstAt p xs → Seeking p xs i
+  seek-before i l = record { within = omega (arith, first-most p xs); onward = first-left p xs i l }
 
   module _ (d : A) (i : ℕ) (s : Seeking p xs i) (l : i < length xs) where
     pub seek-hit : p (getD xs i d) ≡ true → i ≡ firstAt p xs
@@ -81,16 +122,12 @@ module _ {A : Type 0} (p : A → Bool) (xs : List A) where
         let f = rw (take-all (length xs - i) (drop i xs) (simp length-drop (omega arith))) at q in
         (omega (arith, s .onward), omega (arith, s .onward, first-most p xs))
 
-    -- the words from i to e, as a part is lent
     module _ (e j : ℕ) (low : i ≤ e) (high : e ≤ length xs) (q : j ≡ firstAt p (take (e - i) (drop i xs))) where
-      part-length : length (take (e - i) (drop i xs)) ≡ e - i
-      part-length = length-take-le (e - i) (drop i xs) (simp length-drop (omega arith))
-
       pub seek-inside : i + j < e → i + j ≡ firstAt p xs
       seek-inside l =
           let part = take (e - i) (drop i xs) in
           let after = drop (e - i) (drop i xs) in
-          let f : firstAt p (part ++ after) ≡ firstAt p part = first-within p part after (omega (arith, part-length)) in
+          let f : firstAt p (part ++ after) ≡ firstAt p part = first-within p part after (omega (arith, part-length xs i e high low)) in
           let g = rw (take-append-drop (e - i) (drop i xs)) at f in
           omega (arith, s .onward)
 
@@ -99,8 +136,8 @@ module _ {A : Type 0} (p : A → Bool) (xs : List A) where
           let part = take (e - i) (drop i xs) in
           let after = drop (e - i) (drop i xs) in
           let f : firstAt p (part ++ after) ≡ length part + firstAt p after =
-          first-beyond p part after (omega (arith, part-length)) in
+          first-beyond p part after (omega (arith, part-length xs i e high low)) in
           let g = rw (take-append-drop (e - i) (drop i xs)) at f in
           let end : i + (e - i) ≡ e = omega arith in
           let d : after ≡ drop e xs = drop-drop (e - i) i xs ∙ ap (λ (k : ℕ). drop k xs) end in
-          record { within = high; onward = omega (arith, s .onward, part-length, ap (firstAt p) d) }
+          record { within = high; onward = omega (arith, s .onward, part-length xs i e high low, ap (firstAt p) d) }

@@ -30,10 +30,10 @@ use Rattle.book.proofs.Splits.{every-split, some-length}
 use Rattle.book.proofs.ClassWords.{class-good, series-good, class-words, numbers-rise}
 use Rattle.book.proofs.Runs.{bookWords, run-part, run-word, strikes-good, strikes-part}
 use Rattle.place.specs.declared.lookup.Part.{Part}
-use Rattle.place.specs.Search.{firstAt, isFrom, holdsAt, figuresAt, strikesAfter, strikesIn}
+use Rattle.place.specs.Search.{firstAt, isFrom, holdsAt, Rises, figuresAt, strikesAfter, strikesIn}
 use Rattle.place.proofs.Heads.{book-good, book-form, book-is}
 use Rattle.place.proofs.Words.{isKeyed}
-use Rattle.place.proofs.Laid.{first-after, stops-anywhere, sought, found, months-laid, strikes-laid, no-class, classes-laid}
+use Rattle.place.proofs.Laid.{first-after, stops-anywhere, sought, found, rising, months-laid, strikes-laid, no-class, classes-laid, classes-high}
 
 -- the three words of legal figures say them
 figures-said :
@@ -132,6 +132,12 @@ module _ (ws : List ℕ) (b : T (isBook ws)) where
       (ap (λ (l : List Word). Head (facts .now) (used facts) ∷ l) (sym (append-nil (classesWords (facts .classes) []))))
       refl (omega arith)
 
+  pub class-rises : (c end : ℕ) → end ≡ used facts → Rises 2 14 c (take (end - 1) (drop 1 ws))
+  class-rises c end d =
+      subst (Rises 2 14 c) (sym (body end d))
+      (rising number 2 (λ xs. classesWords xs []) classes-laid c (facts .classes)
+      (distinct-parts number c (facts .classes) (numbers-rise (length ws) facts (book-good ws b))) legal (classes-high c))
+
   module _ (c end i : ℕ) (d : end ≡ used facts) (e : i ≡ firstAt (isFrom 2 14 c) (take (end - 1) (drop 1 ws))) where
     class-index : i ≡ length (classesWords (only (isUnder number c) (facts .classes)) [])
     class-index =
@@ -206,7 +212,7 @@ module _ (ws : List ℕ) (b : T (isBook ws)) where
         (around ∙ ap (λ (l : List Word). (lower ++ figures) ++ l) (sym (append-nil (series ++ upper))))
         (omega (arith, before-length)) (ap length around ∙ length-append (lower ++ figures) (series ++ upper)) in
         let q =
-        first-after 2 0 series upper tail-legal (no-class 0 0 (class facts c .series) [] tt)
+        first-after 2 0 series upper tail-legal (no-class (λ w. not (isKeyed 2 0 w)) (λ w e. rw e tt) 0 (class facts c .series) [] tt)
         (stops-anywhere number 2 (λ xs. classesWords xs []) classes-laid (only (isOver number c) (facts .classes))) in
         omega (arith, ap (firstAt (isFrom 2 14 0)) p)
 

@@ -13,6 +13,7 @@ use Rattle.word.specs.declared.codec.Word.the-variants.{Head, Class, Close, Vol
 use Rattle.word.specs.Field.{field}
 use Rattle.word.specs.Caps.{own}
 use Rattle.word.specs.Codec.{isLegal, packed, Fits, kindOf}
+use Rattle.word.proofs.Tests.{and-both}
 use Rattle.word.proofs.Words.{kindIn, kind-packed, class-fields}
 use Rattle.rule.specs.Lists.{every}
 use Rattle.book.specs.Facts.{Series, OpenClass, Facts, sum, owned}
@@ -23,7 +24,7 @@ use Rattle.book.proofs.Tests.{ands}
 use Rattle.book.proofs.Forms.{well}
 use Rattle.place.specs.Search.{firstAt, isFrom}
 use Rattle.place.proofs.Heads.{book-good, book-room}
-use Rattle.place.proofs.Firsts.{first-most}
+use Rattle.place.proofs.Firsts.{first-most, part-passes}
 use Rattle.place.proofs.Found.{legal, body}
 
 -- the lowest bit of the designation in the program p
@@ -103,17 +104,6 @@ skipped p (w ∷ ws) = go (eqb (kindOf w) 2) refl (skipped p ws)
         let none : added p w ≡ 0 = rw q in
         ap (λ (k : ℕ). sum (added p) (drop k (w ∷ ws))) (class-later w ws q) ∙ omega arith
 
-class-there : (ws : List ℕ) → firstAt (isFrom 2 14 0) ws < length ws → kindOf (getD ws (firstAt (isFrom 2 14 0) ws) 0) ≡ 2
-class-there [] l = absurd (omega arith)
-class-there (w ∷ ws) l = go (eqb (kindOf w) 2) refl (class-there ws)
-  where
-    go :
-        (b : Bool) → eqb (kindOf w) 2 ≡ b
-        → (firstAt (isFrom 2 14 0) ws < length ws → kindOf (getD ws (firstAt (isFrom 2 14 0) ws) 0) ≡ 2)
-        → kindOf (getD (w ∷ ws) (firstAt (isFrom 2 14 0) (w ∷ ws)) 0) ≡ 2
-    go true q r = rw (class-first w ws q) (eqb-true (kindOf w) 2 q)
-    go false q r = let later = class-later w ws q in rw later (r (omega arith))
-
 -- the count has come to a class word, or to the words used
 pub record Counting (ws : List ℕ) (p at count : ℕ) : Type 0 where
   pub within : at ≤ used (factsOf ws)
@@ -151,8 +141,10 @@ module _ (ws : List ℕ) (b : T (isBook ws)) (p : ℕ) where
 
     next-class : next < used facts → kindOf (getD ws next 0) ≡ 2
     next-class h =
-        ap kindOf (sym (from-word at (firstAt (isFrom 2 14 0) (from at)) next e h))
-        ∙ class-there (from at) (omega (arith, from-length at l))
+        let j = firstAt (isFrom 2 14 0) (from at) in
+        let t = part-passes ws at (used facts) (book-room ws b) (isFrom 2 14 0) 0 j refl (omega arith) in
+        ap (λ (k : ℕ). kindOf (getD ws k 0)) e
+        ∙ eqb-true (kindOf (getD ws (at + j) 0)) 2 (and-both (eqb (kindOf (getD ws (at + j) 0)) 2) _ t .0)
 
     next-sum : sum (added p) (from next) ≡ sum (added p) (from at)
     next-sum =

@@ -1,5 +1,5 @@
 -- The first of a list that passes a test, and the tests by which words are sought: no sentence of document 01. Assumes nothing.
-use Prim.Native.Nat.{ℕ, suc, _+_, _≤_}
+use Prim.Native.Nat.{ℕ, suc, _+_, _<_, _≤_}
 use mathlib.Core.Path.{_≡_}
 use mathlib.Core.Bool.{Bool, true, false, cond, _&&_}
 use mathlib.Core.List.{List, [], _∷_}
@@ -30,6 +30,12 @@ pub record Finds (kind width key : ℕ) (ws : List ℕ) (r : Found) : Type 0 whe
   pub first : r .at ≡ firstAt (isFrom kind width key) ws
   pub holds : r .holds ≡ holdsAt width key ws (r .at)
   pub within : r .at ≤ length ws
+
+-- a word of the kind that does not hold at least the key stands before the first that does
+abbrev pub Rises : ℕ → ℕ → ℕ → List ℕ → Type 0
+Rises kind width key ws =
+    (i : ℕ) → i < length ws → isFrom kind width 0 (getD ws i 0) ≡ true → isFrom kind width key (getD ws i 0) ≡ false
+    → i < firstAt (isFrom kind width key) ws
 
 -- what the three words of a class say, which begin at this index
 abbrev pub figuresAt : ℕ → List ℕ → ClassRecord

@@ -10,6 +10,7 @@ ghost use Rattle.place.specs.Lookups.{lookupOf, expirationLookupOf, stri
 use crate::head;
 use crate::search::find;
 use crate::search::find_plainly;
+use crate::search::find_rising;
 use crate::search::first;
 use word::class::ClassRecord;
 use word::field::field_of;
@@ -96,7 +97,7 @@ pub fn look_up(run: &[u32], c: u32) -> Lookup
     ensures { λ r. ⌜ r ≡ lookupOf c (factsOf (now (run .entry))) ⌝ }
 {
     let used = head::used(run);
-    let found = find(&run[1..used], 2, 14, c);
+    let found = find_rising(&run[1..used], 2, 14, c);
     let at = 1 + found.at;
     if !found.holds {
         return Lookup::NotOpen(at);

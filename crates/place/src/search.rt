@@ -1,8 +1,8 @@
-// The first word of a kind from a key on: sixteen words are passed at a time where none of them can be of the kind.
+// The first word of a kind from a key on: sixteen words are passed at a time where none of them can be of the kind, and halves where the words of the kind rise.
 ghost use mathlib.Core.Path.{_≡_};
 ghost use Prim.Native.Nat.{ℕ, _<_, _≤_};
 ghost use lib.ListN.{getD, length};
-ghost use Rattle.place.specs.Search.{firstAt, isFrom, holdsAt, Finds};
+ghost use Rattle.place.specs.Search.{firstAt, isFrom, holdsAt, Finds, Rises};
 use word::codec;
 use word::field::field_of;
 
@@ -92,6 +92,29 @@ pub fn find(words: &[u32], kind: u32, width: u32, key: u32) -> Found
     ensures { λ r. ⌜ Finds kind width key (now (words .entry)) r ⌝ }
 {
     let at = first(words, kind, width, key);
+    Found {
+        at,
+        holds: holds_at(words, at, width, key),
+    }
+}
+
+// The same, where the words of the kind rise: by halves. Where the next word of the kind from the middle on holds less than the key, it and all before it are passed.
+pub fn find_rising(words: &[u32], kind: u32, width: u32, key: u32) -> Found
+    requires { ⌜ (width < 32) × Rises kind width key (now words) ⌝ }
+    ensures { λ r. ⌜ Finds kind width key (now (words .entry)) r ⌝ }
+{
+    let mut low = 0;
+    let mut high = words.len();
+    while 64 < high - low {
+        let middle = low + (high - low) / 2;
+        let next = middle + first(&words[middle..high], kind, width, 0);
+        if next < high && !is_from(words[next], kind, width, key) {
+            low = next + 1;
+        } else {
+            high = middle;
+        }
+    }
+    let at = low + first(&words[low..words.len()], kind, width, key);
     Found {
         at,
         holds: holds_at(words, at, width, key),

@@ -5,6 +5,7 @@ use native.Mathlib.Omega.{arith}
 use borrow.Author.Needs.{needs}
 use Rattle.place.specs.declared.lookup.Lookup.the-variants.{Open}
 use Rattle.place.proofs.Answers.{answer-not-open, answer-within, answer-open}
+use Rattle.place.proofs.Found.{class-rises}
 use Rattle.place.proofs.Heads.{book-room}
 use Rattle.place.proofs.lookup.look_up.Statement.{statement}
 use Rattle.place.proofs.lookup.look_up.Tie as tie
@@ -12,17 +13,17 @@ use Rattle.place.proofs.lookup.look_up.Tie as tie
 used-requires : tie.Need-used-requires
 used-requires c κs = search needs
 
-sub-find : tie.Need-sub-find
-sub-find c = search needs
+sub-find-rising : tie.Need-sub-find-rising
+sub-find-rising c = search needs
 
-part-find-start : tie.Need-part-find-start
-part-find-start c = search needs
+part-find-rising-start : tie.Need-part-find-rising-start
+part-find-rising-start c = search needs
 
-part-find-end : tie.Need-part-find-end
-part-find-end c = omega (arith, book-room _ (c .before .before .pre))
+part-find-rising-end : tie.Need-part-find-rising-end
+part-find-rising-end c = omega (arith, book-room _ (c .before .before .pre))
 
-find-requires : tie.Need-find-requires
-find-requires c κs = search needs
+find-rising-requires : tie.Need-find-rising-requires
+find-rising-requires c κs = (omega arith, class-rises _ (c .before .before .before .pre) _ _ (c .before .used .ensures))
 
 add-at : tie.Need-add-at
 add-at c = search needs
@@ -30,20 +31,20 @@ add-at c = search needs
 returns : tie.Need-returns
 returns c =
     let s = c .before .before .before in
-    answer-not-open _ (s .before .before .before .before .pre) _ _ _ (s .before .before .used .ensures) (s .find .ensures)
+    answer-not-open _ (s .before .before .before .before .pre) _ _ _ (s .before .before .used .ensures) (s .find-rising .ensures)
     (c .if1 .taken)
 
 figures-at-requires : tie.Need-figures-at-requires
 figures-at-requires c κs =
     let s = c .before .before .before in
-    answer-within _ (s .before .before .before .before .pre) _ _ _ (s .before .before .used .ensures) (s .find .ensures)
+    answer-within _ (s .before .before .before .before .pre) _ _ _ (s .before .before .used .ensures) (s .find-rising .ensures)
     (c .if1 .left)
 
 returns-2 : tie.Need-returns-2
 returns-2 c =
     let s = c .before .before .before .before in
-    ap (Open (1 + s .find .result .at)) (c .figures-at .ensures)
-    ∙ answer-open _ (s .before .before .before .before .pre) _ _ _ (s .before .before .used .ensures) (s .find .ensures)
+    ap (Open (1 + s .find-rising .result .at)) (c .figures-at .ensures)
+    ∙ answer-open _ (s .before .before .before .before .pre) _ _ _ (s .before .before .used .ensures) (s .find-rising .ensures)
     (c .before .if1 .left)
 
 pub look-up-spec : {M : Type 1} → statement M
@@ -51,10 +52,10 @@ look-up-spec =
     tie.close
     (tie.spec
     used-requires
-    sub-find
-    part-find-start
-    part-find-end
-    find-requires
+    sub-find-rising
+    part-find-rising-start
+    part-find-rising-end
+    find-rising-requires
     add-at
     returns
     figures-at-requires
