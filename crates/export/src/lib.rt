@@ -1,6 +1,29 @@
-// The proved functions under C names, for programs in C and Rust.
+// The proved functions under C names, for programs in C and Rust. include/strikebook.h says what each means in plain words.
+ghost use mathlib.Core.List.{[]};
 ghost use mathlib.Core.Path.{_≡_};
+ghost use lib.ListN.{length};
+ghost use Rattle.word.specs.Answers.{answerNumber, answerValue};
 ghost use Rattle.book.specs.Books.{isBook};
+ghost use Rattle.book.specs.Calls.{callM, callO, callC, callV, callD, callL, callJ, callX, callI, callR, callA};
+ghost use Rattle.text.specs.Sheets.{SheetRun};
+ghost use Rattle.export.specs.Answered.{Answered, Started};
+use word::answer::Answer;
+
+// The number and the value of an answer, document 01's.
+#[repr(C)]
+pub struct Reply {
+    pub number: u32,
+    pub value: u32,
+}
+
+fn reply_of(answer: Answer) -> Reply
+    ensures { λ r. ⌜ (r .number ≡ answerNumber answer) × (r .value ≡ answerValue answer) ⌝ }
+{
+    Reply {
+        number: answer.number(),
+        value: answer.value(),
+    }
+}
 
 // Whether the run is a book.
 #[no_mangle]
@@ -8,4 +31,126 @@ pub extern "C" fn strike_book_is_book(run: &[u32]) -> bool
     ensures { λ r. ⌜ r ≡ isBook (now (run .entry)) ⌝ }
 {
     scan::is_book(run)
+}
+
+// Makes a fresh book of the run.
+#[no_mangle]
+pub extern "C" fn strike_book_fresh(run: &mut [u32]) -> Reply
+    ensures { λ r. ⌜ Started (now (run .entry)) r (now (run .exit)) ⌝ }
+{
+    reply_of(scan::fresh(run))
+}
+
+// `M`.
+#[no_mangle]
+pub extern "C" fn strike_book_set_month(run: &mut [u32], m: u32) -> Reply
+    ensures { λ r. ⌜ Answered (callM m) (now (run .entry)) [] r (now (run .exit)) [] ⌝ }
+{
+    reply_of(call::set_month(run, m))
+}
+
+// `O`.
+#[no_mangle]
+pub extern "C" fn strike_book_open_class(run: &mut [u32], c: u32) -> Reply
+    ensures { λ r. ⌜ Answered (callO c) (now (run .entry)) [] r (now (run .exit)) [] ⌝ }
+{
+    reply_of(call::open_class(run, c))
+}
+
+// `C`.
+#[no_mangle]
+pub extern "C" fn strike_book_set_close(run: &mut [u32], c: u32, p: u32) -> Reply
+    ensures { λ r. ⌜ Answered (callC c p) (now (run .entry)) [] r (now (run .exit)) [] ⌝ }
+{
+    reply_of(call::set_close(run, c, p))
+}
+
+// `V`.
+#[no_mangle]
+pub extern "C" fn strike_book_set_volume(run: &mut [u32], c: u32, n: u32) -> Reply
+    ensures { λ r. ⌜ Answered (callV c n) (now (run .entry)) [] r (now (run .exit)) [] ⌝ }
+{
+    reply_of(call::set_volume(run, c, n))
+}
+
+// `D`.
+#[no_mangle]
+pub extern "C" fn strike_book_designate(run: &mut [u32], c: u32, p: u32, d: u32) -> Reply
+    ensures { λ r. ⌜ Answered (callD c p d) (now (run .entry)) [] r (now (run .exit)) [] ⌝ }
+{
+    reply_of(call::designate(run, c, p, d))
+}
+
+// `L`.
+#[no_mangle]
+pub extern "C" fn strike_book_list_strike(run: &mut [u32], c: u32, m: u32, h: u32) -> Reply
+    ensures { λ r. ⌜ Answered (callL c m h) (now (run .entry)) [] r (now (run .exit)) [] ⌝ }
+{
+    reply_of(call::list_strike(run, c, m, h))
+}
+
+// `J`.
+#[no_mangle]
+pub extern "C" fn strike_book_judge_strike(run: &[u32], c: u32, m: u32, h: u32) -> Reply
+    ensures { λ r. ⌜ Answered (callJ c m h) (now (run .entry)) [] r (now (run .entry)) [] ⌝ }
+{
+    reply_of(call::judge_strike(run, c, m, h))
+}
+
+// `X`.
+#[no_mangle]
+pub extern "C" fn strike_book_delist_strike(run: &mut [u32], c: u32, m: u32, h: u32) -> Reply
+    ensures { λ r. ⌜ Answered (callX c m h) (now (run .entry)) [] r (now (run .exit)) [] ⌝ }
+{
+    reply_of(call::delist_strike(run, c, m, h))
+}
+
+// `I`.
+#[no_mangle]
+pub extern "C" fn strike_book_mark_strike(
+    run: &mut [u32],
+    c: u32,
+    m: u32,
+    h: u32,
+    a: u32,
+    b: u32,
+) -> Reply
+    ensures { λ r. ⌜ Answered (callI c m h a b) (now (run .entry)) [] r (now (run .exit)) [] ⌝ }
+{
+    reply_of(call::mark_strike(run, c, m, h, a, b))
+}
+
+// `R`.
+#[no_mangle]
+pub extern "C" fn strike_book_review_class(run: &mut [u32], c: u32) -> Reply
+    ensures { λ r. ⌜ Answered (callR c) (now (run .entry)) [] r (now (run .exit)) [] ⌝ }
+{
+    reply_of(call::review_class(run, c))
+}
+
+// `A`.
+#[no_mangle]
+pub extern "C" fn strike_book_list_permitted(
+    run: &[u32],
+    second: &mut [u32],
+    c: u32,
+    m: u32,
+) -> Reply
+    ensures { λ r. ⌜ Answered (callA c m (length (now (second .entry)))) (now (run .entry)) (now (second .entry)) r (now (run .entry)) (now (second .exit)) ⌝ }
+{
+    reply_of(call::list_permitted(run, second, c, m))
+}
+
+// A whole sheet.
+#[no_mangle]
+pub extern "C" fn strike_book_run_sheet(
+    run: &mut [u32],
+    second: &mut [u32],
+    sheet: &[u8],
+    answers: &mut [u32],
+) -> usize
+    ensures { λ r. ⌜ SheetRun (now (run .entry)) (now (second .entry)) (now (sheet .entry)) (now (answers .entry))
+        r (now (run .exit)) (now (second .exit)) (now (answers .exit)) ⌝ }
+{
+    text::sheet::run_sheet(run, second, sheet, answers)
 }

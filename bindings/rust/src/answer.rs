@@ -1,0 +1,152 @@
+//! Answers: the value of an accepted call, or a refusal.
+
+use crate::library::Reply;
+use std::fmt;
+
+/// The ground on which a strike is listed.
+#[derive(Clone, Copy, Debug, PartialEq, Eq)]
+pub enum Ground {
+    /// The standard intervals: $2.50 to $25, $5 to $200, $10 above; by $5 below $50 in the $1 program.
+    Standard = 0,
+    /// Whole dollars to $50: near expirations, $1 program, close below $50.
+    Dollar = 1,
+    /// Half dollars to $5.50: near expirations, $0.50 program, close at most $5, volume at least 1,000.
+    Half = 2,
+    /// $2 or $3 above a multiple of $5, below $50: long expirations, $1 program, close below $50.
+    Wing = 3,
+}
+
+/// Why a call was refused. Of several reasons it is the one with the lowest number.
+#[derive(Clone, Copy, Debug, PartialEq, Eq)]
+pub enum Refusal {
+    /// 1: the run is no book.
+    NotABook,
+    /// 2: a number is beyond its limits, or a line of a sheet is malformed.
+    BeyondLimits,
+    /// 3: the class is open already.
+    AlreadyOpen,
+    /// 4: the class is not open.
+    NotOpen,
+    /// 5: the new current month is before the present one; or the month to list in is not after the
+    /// current one, or more than 39 months after it.
+    MonthOutside,
+    /// 6: the strike stands already.
+    AlreadyStanding,
+    /// 7: the strike does not stand.
+    NotStanding,
+    /// 8: the class has no close yet.
+    NoClose,
+    /// 9: close or volume does not qualify for the program.
+    NotQualified,
+    /// 10: the program has as many classes of our own as it may have.
+    CapReached,
+    /// 11: the strike is on no ground's grid.
+    OffGrid,
+    /// 12: the strike is on a grid, and out of range of the close.
+    OutOfRange,
+    /// 13: the strike is on a grid and in range, and too near to one that stands.
+    TooClose,
+    /// 14: the strike has open interest.
+    OpenInterest,
+    /// 15: the run has too few words for a class or a strike, or the second run for the permitted
+    /// strikes.
+    OutOfWords {
+        /// The words that the second run needs; 0 where it is the book's run that is too short.
+        needed: u32,
+    },
+}
+
+impl Refusal {
+    /// The number of the refusal, 1 to 15.
+    pub fn number(self) -> u32 {
+        match self {
+            Refusal::NotABook => 1,
+            Refusal::BeyondLimits => 2,
+            Refusal::AlreadyOpen => 3,
+            Refusal::NotOpen => 4,
+            Refusal::MonthOutside => 5,
+            Refusal::AlreadyStanding => 6,
+            Refusal::NotStanding => 7,
+            Refusal::NoClose => 8,
+            Refusal::NotQualified => 9,
+            Refusal::CapReached => 10,
+            Refusal::OffGrid => 11,
+            Refusal::OutOfRange => 12,
+            Refusal::TooClose => 13,
+            Refusal::OpenInterest => 14,
+            Refusal::OutOfWords { .. } => 15,
+        }
+    }
+
+    fn of(reply: Reply) -> Refusal {
+        match reply.number {
+            1 => Refusal::NotABook,
+            2 => Refusal::BeyondLimits,
+            3 => Refusal::AlreadyOpen,
+            4 => Refusal::NotOpen,
+            5 => Refusal::MonthOutside,
+            6 => Refusal::AlreadyStanding,
+            7 => Refusal::NotStanding,
+            8 => Refusal::NoClose,
+            9 => Refusal::NotQualified,
+            10 => Refusal::CapReached,
+            11 => Refusal::OffGrid,
+            12 => Refusal::OutOfRange,
+            13 => Refusal::TooClose,
+            14 => Refusal::OpenInterest,
+            15 => Refusal::OutOfWords {
+                needed: reply.value,
+            },
+            number => unreachable!("no refusal has the number {number}"),
+        }
+    }
+}
+
+impl fmt::Display for Refusal {
+    fn fmt(&self, formatter: &mut fmt::Formatter<'_>) -> fmt::Result {
+        let text = match self {
+            Refusal::NotABook => "the run is no book",
+            Refusal::BeyondLimits => "a number is beyond its limits, or a line is malformed",
+            Refusal::AlreadyOpen => "the class is open already",
+            Refusal::NotOpen => "the class is not open",
+            Refusal::MonthOutside => "the month is too early or too late",
+            Refusal::AlreadyStanding => "the strike stands already",
+            Refusal::NotStanding => "the strike does not stand",
+            Refusal::NoClose => "the class has no close yet",
+            Refusal::NotQualified => "close or volume does not qualify for the program",
+            Refusal::CapReached => "the cap of the program is reached",
+            Refusal::OffGrid => "the strike is on no grid",
+            Refusal::OutOfRange => "the strike is out of range of the close",
+            Refusal::TooClose => "the strike is too near to one that stands",
+            Refusal::OpenInterest => "the strike has open interest",
+            Refusal::OutOfWords { .. } => "the run has too few words",
+        };
+        formatter.write_str(text)
+    }
+}
+
+impl std::error::Error for Refusal {}
+
+/// The value of an accepted call.
+pub(crate) fn accepted(reply: Reply) -> Result<u32, Refusal> {
+    match reply.number {
+        0 => Ok(reply.value),
+        _ => Err(Refusal::of(reply)),
+    }
+}
+
+/// An accepted call whose value says nothing.
+pub(crate) fn done(reply: Reply) -> Result<(), Refusal> {
+    accepted(reply).map(|_| ())
+}
+
+/// An accepted call whose value is a ground.
+pub(crate) fn ground(reply: Reply) -> Result<Ground, Refusal> {
+    accepted(reply).map(|value| match value {
+        0 => Ground::Standard,
+        1 => Ground::Dollar,
+        2 => Ground::Half,
+        3 => Ground::Wing,
+        _ => unreachable!("no ground has the number {value}"),
+    })
+}

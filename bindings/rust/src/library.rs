@@ -1,0 +1,161 @@
+//! The functions of the static library, each with a safe one over it.
+//!
+//! They are safe for any slices: a slice's pointer is non-null, aligned and valid for its length (an
+//! empty slice's too, of which nothing is read or written), and Rust's borrows keep the slices of
+//! one call apart and everyone else from writing them. The library keeps no pointer after a call.
+
+/// The number and the value of an answer.
+#[derive(Clone, Copy)]
+#[repr(C)]
+pub struct Reply {
+    pub number: u32,
+    pub value: u32,
+}
+
+mod raw {
+    use super::Reply;
+
+    extern "C" {
+        pub fn strike_book_is_book(run: *const u32, length: usize) -> bool;
+        pub fn strike_book_fresh(run: *mut u32, length: usize) -> Reply;
+        pub fn strike_book_set_month(run: *mut u32, length: usize, m: u32) -> Reply;
+        pub fn strike_book_open_class(run: *mut u32, length: usize, c: u32) -> Reply;
+        pub fn strike_book_set_close(run: *mut u32, length: usize, c: u32, p: u32) -> Reply;
+        pub fn strike_book_set_volume(run: *mut u32, length: usize, c: u32, n: u32) -> Reply;
+        pub fn strike_book_designate(run: *mut u32, length: usize, c: u32, p: u32, d: u32)
+            -> Reply;
+        pub fn strike_book_list_strike(
+            run: *mut u32,
+            length: usize,
+            c: u32,
+            m: u32,
+            h: u32,
+        ) -> Reply;
+        pub fn strike_book_judge_strike(
+            run: *const u32,
+            length: usize,
+            c: u32,
+            m: u32,
+            h: u32,
+        ) -> Reply;
+        pub fn strike_book_delist_strike(
+            run: *mut u32,
+            length: usize,
+            c: u32,
+            m: u32,
+            h: u32,
+        ) -> Reply;
+        pub fn strike_book_mark_strike(
+            run: *mut u32,
+            length: usize,
+            c: u32,
+            m: u32,
+            h: u32,
+            a: u32,
+            b: u32,
+        ) -> Reply;
+        pub fn strike_book_review_class(run: *mut u32, length: usize, c: u32) -> Reply;
+        pub fn strike_book_list_permitted(
+            run: *const u32,
+            length: usize,
+            second: *mut u32,
+            second_length: usize,
+            c: u32,
+            m: u32,
+        ) -> Reply;
+        pub fn strike_book_run_sheet(
+            run: *mut u32,
+            length: usize,
+            second: *mut u32,
+            second_length: usize,
+            sheet: *const u8,
+            sheet_length: usize,
+            answers: *mut u32,
+            answers_length: usize,
+        ) -> usize;
+    }
+}
+
+pub fn is_book(run: &[u32]) -> bool {
+    // SAFETY: the slice is valid for reading its length, and nobody writes it during the borrow.
+    unsafe { raw::strike_book_is_book(run.as_ptr(), run.len()) }
+}
+
+pub fn fresh(run: &mut [u32]) -> Reply {
+    // SAFETY: the slice is valid for reading and writing its length, and borrowed by us alone.
+    unsafe { raw::strike_book_fresh(run.as_mut_ptr(), run.len()) }
+}
+
+pub fn set_month(run: &mut [u32], m: u32) -> Reply {
+    // SAFETY: the slice is valid for reading and writing its length, and borrowed by us alone.
+    unsafe { raw::strike_book_set_month(run.as_mut_ptr(), run.len(), m) }
+}
+
+pub fn open_class(run: &mut [u32], c: u32) -> Reply {
+    // SAFETY: the slice is valid for reading and writing its length, and borrowed by us alone.
+    unsafe { raw::strike_book_open_class(run.as_mut_ptr(), run.len(), c) }
+}
+
+pub fn set_close(run: &mut [u32], c: u32, p: u32) -> Reply {
+    // SAFETY: the slice is valid for reading and writing its length, and borrowed by us alone.
+    unsafe { raw::strike_book_set_close(run.as_mut_ptr(), run.len(), c, p) }
+}
+
+pub fn set_volume(run: &mut [u32], c: u32, n: u32) -> Reply {
+    // SAFETY: the slice is valid for reading and writing its length, and borrowed by us alone.
+    unsafe { raw::strike_book_set_volume(run.as_mut_ptr(), run.len(), c, n) }
+}
+
+pub fn designate(run: &mut [u32], c: u32, p: u32, d: u32) -> Reply {
+    // SAFETY: the slice is valid for reading and writing its length, and borrowed by us alone.
+    unsafe { raw::strike_book_designate(run.as_mut_ptr(), run.len(), c, p, d) }
+}
+
+pub fn list_strike(run: &mut [u32], c: u32, m: u32, h: u32) -> Reply {
+    // SAFETY: the slice is valid for reading and writing its length, and borrowed by us alone.
+    unsafe { raw::strike_book_list_strike(run.as_mut_ptr(), run.len(), c, m, h) }
+}
+
+pub fn judge_strike(run: &[u32], c: u32, m: u32, h: u32) -> Reply {
+    // SAFETY: the slice is valid for reading its length, and nobody writes it during the borrow.
+    unsafe { raw::strike_book_judge_strike(run.as_ptr(), run.len(), c, m, h) }
+}
+
+pub fn delist_strike(run: &mut [u32], c: u32, m: u32, h: u32) -> Reply {
+    // SAFETY: the slice is valid for reading and writing its length, and borrowed by us alone.
+    unsafe { raw::strike_book_delist_strike(run.as_mut_ptr(), run.len(), c, m, h) }
+}
+
+pub fn mark_strike(run: &mut [u32], c: u32, m: u32, h: u32, a: u32, b: u32) -> Reply {
+    // SAFETY: the slice is valid for reading and writing its length, and borrowed by us alone.
+    unsafe { raw::strike_book_mark_strike(run.as_mut_ptr(), run.len(), c, m, h, a, b) }
+}
+
+pub fn review_class(run: &mut [u32], c: u32) -> Reply {
+    // SAFETY: the slice is valid for reading and writing its length, and borrowed by us alone.
+    unsafe { raw::strike_book_review_class(run.as_mut_ptr(), run.len(), c) }
+}
+
+pub fn list_permitted(run: &[u32], second: &mut [u32], c: u32, m: u32) -> Reply {
+    let (at, length) = (second.as_mut_ptr(), second.len());
+    // SAFETY: `run` is valid for reading and `second` for reading and writing their lengths. The
+    // second is borrowed by us alone, so the two don't overlap; nobody writes the first.
+    unsafe { raw::strike_book_list_permitted(run.as_ptr(), run.len(), at, length, c, m) }
+}
+
+pub fn run_sheet(run: &mut [u32], second: &mut [u32], sheet: &[u8], answers: &mut [u32]) -> usize {
+    // SAFETY: each slice is valid for its length, the three that are written are borrowed by us
+    // alone, so no two overlap; nobody writes the sheet.
+    unsafe {
+        raw::strike_book_run_sheet(
+            run.as_mut_ptr(),
+            run.len(),
+            second.as_mut_ptr(),
+            second.len(),
+            sheet.as_ptr(),
+            sheet.len(),
+            answers.as_mut_ptr(),
+            answers.len(),
+        )
+    }
+}

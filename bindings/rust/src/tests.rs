@@ -1,0 +1,155 @@
+use crate::{is_book, Book, Designation, Ground, Program, Refusal};
+
+/// A fresh book at month 4 with class 7 open at a close.
+fn at_close(run: &mut [u32], close: u32) -> Book<'_> {
+    let mut book = Book::fresh(run).unwrap();
+    book.set_month(4).unwrap();
+    book.open_class(7).unwrap();
+    book.set_close(7, close).unwrap();
+    book
+}
+
+const SAMPLE: &[u8] = b"M 4\nO 7\nC 7 200\nD 7 1 1\nA 7 5\nL 7 5 14\nL 7 5 16\nL 7 5 14";
+
+#[test]
+fn sample_sheet() {
+    let mut run = [9; 4_096];
+    let mut second = [0; 512];
+    let mut answers = [[99; 2]; 9];
+    let mut book = Book::fresh(&mut run).unwrap();
+    assert_eq!(book.run_sheet(&mut second, SAMPLE, &mut answers), 8);
+    let wanted = [
+        [0, 0],
+        [0, 0],
+        [0, 0],
+        [0, 0],
+        [0, 7],
+        [0, 1],
+        [12, 0],
+        [6, 0],
+        [99, 99],
+    ];
+    assert_eq!(answers, wanted);
+    assert_eq!(second[..8], [2, 4, 6, 8, 10, 12, 14, 0]);
+}
+
+#[test]
+fn a_sheet_with_few_places_for_answers() {
+    let mut run = [0; 4_096];
+    let mut answers = [[99; 2]; 2];
+    let mut book = Book::fresh(&mut run).unwrap();
+    assert_eq!(book.run_sheet(&mut [], SAMPLE, &mut answers), 8);
+    assert_eq!(answers, [[0, 0], [0, 0]]);
+    assert_eq!(book.list_strike(7, 5, 14), Err(Refusal::AlreadyStanding));
+    assert_eq!(book.run_sheet(&mut [], b"", &mut []), 0);
+}
+
+#[test]
+fn runs_that_are_no_books() {
+    assert!(!is_book(&[]));
+    assert_eq!(Book::fresh(&mut []).unwrap_err(), Refusal::NotABook);
+    let mut long = vec![0; 65_536];
+    assert_eq!(Book::fresh(&mut long).unwrap_err(), Refusal::NotABook);
+    let mut words = [5, 6, 7];
+    assert_eq!(Book::open(&mut words).unwrap_err(), Refusal::NotABook);
+    assert_eq!(words, [5, 6, 7]);
+    Book::fresh(&mut words).unwrap();
+    assert_eq!(words, [1 << 28 | 1 << 10, 0, 0]);
+    assert!(is_book(&words));
+    assert_eq!(Book::open(&mut words).unwrap().words().len(), 3);
+}
+
+#[test]
+fn refusals_of_months_and_classes() {
+    let mut run = [0; 64];
+    let mut book = at_close(&mut run, 200);
+    assert_eq!(book.set_month(1_024), Err(Refusal::BeyondLimits));
+    assert_eq!(book.set_month(u32::MAX), Err(Refusal::BeyondLimits));
+    assert_eq!(book.set_month(3), Err(Refusal::MonthOutside));
+    assert_eq!(book.open_class(7), Err(Refusal::AlreadyOpen));
+    assert_eq!(book.set_volume(8, 1_000), Err(Refusal::NotOpen));
+    assert_eq!(book.judge_strike(7, 4, 5), Err(Refusal::MonthOutside));
+    assert_eq!(book.judge_strike(7, 44, 5), Err(Refusal::MonthOutside));
+    assert_eq!(book.delist_strike(7, 5, 5), Err(Refusal::NotStanding));
+    book.open_class(8).unwrap();
+    assert_eq!(book.review_class(8), Err(Refusal::NoClose));
+}
+
+#[test]
+fn programs_and_their_caps() {
+    let mut run = [0; 4_096];
+    let mut book = at_close(&mut run, 5_000);
+    let ours = |book: &mut Book, class, program| book.designate(class, program, Designation::Ours);
+    assert_eq!(
+        ours(&mut book, 7, Program::Dollar),
+        Err(Refusal::NotQualified)
+    );
+    for class in 101..=121 {
+        book.open_class(class).unwrap();
+        book.set_close(class, 500).unwrap();
+        book.set_volume(class, 1_000).unwrap();
+        let wanted = match class {
+            121 => Err(Refusal::CapReached),
+            _ => Ok(()),
+        };
+        assert_eq!(ours(&mut book, class, Program::Half), wanted);
+    }
+    book.designate(101, Program::Half, Designation::Another)
+        .unwrap();
+    assert_eq!(ours(&mut book, 121, Program::Half), Ok(()));
+    book.designate(121, Program::Half, Designation::None)
+        .unwrap();
+}
+
+#[test]
+fn grounds_spacing_and_review() {
+    let mut run = [0; 64];
+    let mut book = at_close(&mut run, 1_300);
+    assert_eq!(book.list_strike(7, 5, 25), Ok(Ground::Standard));
+    book.designate(7, Program::Dollar, Designation::Ours)
+        .unwrap();
+    assert_eq!(book.judge_strike(7, 5, 24), Err(Refusal::TooClose));
+    assert_eq!(book.judge_strike(7, 13, 24), Ok(Ground::Wing));
+    assert_eq!(book.judge_strike(7, 5, 23), Err(Refusal::OffGrid));
+    assert_eq!(book.list_strike(7, 5, 14), Ok(Ground::Dollar));
+    assert_eq!(book.list_strike(7, 5, 38), Ok(Ground::Dollar));
+    book.mark_strike(7, 5, 14, false, true).unwrap();
+    assert_eq!(book.delist_strike(7, 5, 14), Err(Refusal::OpenInterest));
+    assert_eq!(book.review_class(7), Ok(1));
+    assert_eq!(book.review_class(7), Ok(0));
+    book.mark_strike(7, 5, 14, false, false).unwrap();
+    book.delist_strike(7, 5, 14).unwrap();
+    book.set_close(7, 500).unwrap();
+    book.set_volume(7, 1_000).unwrap();
+    book.designate(7, Program::Half, Designation::Ours).unwrap();
+    assert_eq!(book.judge_strike(7, 5, 1), Ok(Ground::Half));
+}
+
+#[test]
+fn words_that_are_needed() {
+    let mut run = [0; 5];
+    let mut book = at_close(&mut run, 200);
+    assert_eq!(book.open_class(8), Err(Refusal::OutOfWords { needed: 0 }));
+    assert_eq!(
+        book.list_strike(7, 5, 5),
+        Err(Refusal::OutOfWords { needed: 0 })
+    );
+    let mut second = [77; 6];
+    assert_eq!(
+        book.list_permitted(7, 5, &mut second[..4]),
+        Err(Refusal::OutOfWords { needed: 5 })
+    );
+    assert_eq!(
+        book.list_permitted(7, 5, &mut []),
+        Err(Refusal::OutOfWords { needed: 5 })
+    );
+    assert_eq!(second, [77; 6]);
+    assert_eq!(
+        book.list_permitted(7, 5, &mut second).unwrap(),
+        [5, 10, 15, 20, 25]
+    );
+    assert_eq!(second[5], 77);
+    let refusal = book.list_permitted(7, 5, &mut []).unwrap_err();
+    assert_eq!(refusal.number(), 15);
+    assert_eq!(refusal.to_string(), "the run has too few words");
+}
