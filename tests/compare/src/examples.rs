@@ -1,0 +1,208 @@
+//! Document 01's examples, with the answers that it gives, asserted of both sides.
+
+use crate::pair::{same, same_words, Pair};
+use crate::tally::Tally;
+use crate::{library, written};
+use second::{parse_line, printed, Reply};
+
+/// What `A` prints for these strikes.
+fn permitted(strikes: &[u32]) -> String {
+    let mut text = format!("0 {}", strikes.len());
+    for h in strikes {
+        text.push_str(&format!(" {h}"));
+    }
+    text
+}
+
+fn by(step: usize, from: u32, to: u32) -> Vec<u32> {
+    (from..=to).step_by(step).collect()
+}
+
+/// Makes the calls on a fresh book of the length with a second run of 512, and wants the answers, both
+/// written as document 01 writes its sample.
+fn list(length: usize, calls: &str, answers: &str, tally: &mut Tally) -> Result<(), String> {
+    let mut pair = Pair::fresh(vec![7; length])?;
+    let calls: Vec<&str> = calls.split(" / ").collect();
+    let answers: Vec<&str> = answers.split(" / ").collect();
+    assert_eq!(calls.len(), answers.len(), "an answer for each call");
+    for (line, wanted) in calls.iter().zip(answers) {
+        let call = parse_line(line.as_bytes());
+        let told = |text| format!("`{line}`: {text}");
+        let (reply, second) = pair.make(&call, &[7; 512], tally).map_err(told)?;
+        // The two sides agree; the strikes are those that the library wrote.
+        let strikes = match (written::letter(&call), reply.number) {
+            ('A', 0) => second[..reply.value as usize].to_vec(),
+            _ => Vec::new(),
+        };
+        let text = printed(&call, &Reply { strikes, ..reply });
+        if text != wanted {
+            let said = format!("both sides answer {text}, document 01 {wanted}");
+            return Err(told(said));
+        }
+    }
+    Ok(())
+}
+
+const SAMPLE: &str = "M 4 / O 7 / C 7 200 / D 7 1 1 / A 7 5 / L 7 5 14 / L 7 5 16 / L 7 5 14";
+
+/// The sample as one sheet, its last line with and without a line end.
+fn sample_sheet() -> Result<(), String> {
+    let sheet = SAMPLE.replace(" / ", "\n");
+    for sheet in [sheet.clone(), sheet + "\n"] {
+        let mut run = vec![7; 4_096];
+        let (mut second, mut answers) = ([7; 512], [7; 16]);
+        library::fresh(&mut run);
+        let lines = library::run_sheet(&mut run, &mut second, sheet.as_bytes(), &mut answers);
+        same("the lines of the sample", lines, 8)?;
+        let wanted = [0, 0, 0, 0, 0, 0, 0, 0, 0, 7, 0, 1, 12, 0, 6, 0];
+        same_words("the answers to the sample", &answers, &wanted)?;
+        let strikes = [2, 4, 6, 8, 10, 12, 14, 7];
+        same_words("the strikes of the sample", &second[..8], &strikes)?;
+    }
+    Ok(())
+}
+
+/// Opens and qualifies `count` + 1 classes for a program, and gives it to all: the last draws 10, also
+/// once it is another exchange's, and passes after a release, which frees one place only.
+fn cap(program: u32, count: u32) -> (String, String) {
+    let other = 3 - program;
+    let last = count + 1;
+    let (mut calls, mut answers) = (Vec::new(), Vec::new());
+    for c in 1..=last {
+        calls.push(format!(
+            "O {c} / C {c} 500 / V {c} 1000 / D {c} {program} 1"
+        ));
+        answers.push(format!("0 / 0 / 0 / {}", if c <= count { 0 } else { 10 }));
+    }
+    calls.push(format!(
+        "D {last} {program} 2 / D {last} {program} 1 / D {last} {other} 1 / D 3 {program} 1 / \
+         D 3 {program} 0 / D {last} {program} 1 / D 3 {program} 1 / D 4 {program} 2 / D 3 {program} 1 / \
+         D 4 {program} 1"
+    ));
+    answers.push("0 / 10 / 0 / 0 / 0 / 0 / 10 / 0 / 0 / 10".to_string());
+    (calls.join(" / "), answers.join(" / "))
+}
+
+pub fn compare(tally: &mut Tally) -> Result<(), String> {
+    let both = |mut strikes: Vec<u32>, more: &[u32]| {
+        strikes.extend(more);
+        permitted(&strikes)
+    };
+    let t4 = both(by(2, 50, 100), &[110, 120, 130, 140]);
+    let t8 = both(by(1, 1, 10), &[15, 20, 25]);
+    let t6 = permitted(&[30, 36, 40, 44, 50, 54, 60, 64, 70]);
+    let t7 = permitted(&[30, 36, 40, 44, 46, 50, 54, 60, 64, 70]);
+    let (dollar_calls, dollar_answers) = cap(1, 150);
+    let (half_calls, half_answers) = cap(2, 20);
+    let reviewed = "M 4 / O 7 / C 7 1300 / D 7 1 1 / L 7 5 14 / L 7 5 16 / L 7 5 38 / L 7 5 40";
+    let stood = "0 / 0 / 0 / 0 / 0 1 / 0 1 / 0 1 / 0 0";
+    let examples: Vec<(&str, usize, String, String)> = vec![
+        (
+            "the sample",
+            4_096,
+            SAMPLE.to_string(),
+            "0 / 0 / 0 / 0 / 0 7 2 4 6 8 10 12 14 / 0 1 / 12 / 6".to_string(),
+        ),
+        (
+            "T1",
+            4_096,
+            "M 4 / O 7 / C 7 200 / D 7 1 1 / A 7 5".to_string(),
+            format!("0 / 0 / 0 / 0 / {}", permitted(&by(2, 2, 14))),
+        ),
+        (
+            "T2, and the five are counted from P",
+            4_096,
+            "M 4 / O 7 / C 7 200 / A 7 5 / A 7 43 / J 7 5 30".to_string(),
+            "0 / 0 / 0 / 0 5 5 10 15 20 25 / 0 5 5 10 15 20 25 / 12".to_string(),
+        ),
+        (
+            "T3",
+            4_096,
+            "M 4 / O 7 / C 7 2400 / D 7 1 1 / A 7 5".to_string(),
+            format!("0 / 0 / 0 / 0 / {}", permitted(&by(2, 24, 72))),
+        ),
+        (
+            "T4",
+            4_096,
+            "M 4 / O 7 / C 7 4999 / D 7 1 1 / A 7 5".to_string(),
+            format!("0 / 0 / 0 / 0 / {t4}"),
+        ),
+        (
+            "T5",
+            4_096,
+            "M 4 / O 7 / C 7 4999 / D 7 1 1 / C 7 5000 / A 7 5 / J 7 5 52 / L 7 5 52".to_string(),
+            format!("0 / 0 / 0 / 0 / 0 / {} / 11 / 11", permitted(&by(10, 50, 150))),
+        ),
+        (
+            "T6, and $13 is out of range",
+            4_096,
+            "M 4 / O 7 / C 7 2450 / D 7 1 1 / A 7 13 / L 7 13 26".to_string(),
+            format!("0 / 0 / 0 / 0 / {t6} / 12"),
+        ),
+        (
+            "T7",
+            4_096,
+            "M 4 / O 7 / C 7 2500 / D 7 1 1 / A 7 13 / L 7 13 44 / L 7 13 46 / J 7 13 46".to_string(),
+            format!("0 / 0 / 0 / 0 / {t7} / 0 3 / 13 / 13"),
+        ),
+        (
+            "T8",
+            4_096,
+            "M 4 / O 7 / C 7 200 / V 7 1000 / D 7 2 1 / A 7 5".to_string(),
+            format!("0 / 0 / 0 / 0 / 0 / {t8}"),
+        ),
+        (
+            "T9",
+            4_096,
+            "M 4 / O 7 / C 7 1300 / L 7 5 25 / D 7 1 1 / L 7 5 24 / L 7 5 26 / L 7 5 28".to_string(),
+            "0 / 0 / 0 / 0 0 / 0 / 13 / 13 / 0 1".to_string(),
+        ),
+        (
+            "T10: $22 is Dollar when near and Wing when long",
+            4_096,
+            "M 4 / O 7 / C 7 2500 / D 7 1 1 / L 7 4 44 / J 7 4 44 / A 7 4 / L 7 44 44 / J 7 44 44 / A 7 44 / \
+             L 7 12 44 / L 7 13 44 / L 7 43 44"
+                .to_string(),
+            "0 / 0 / 0 / 0 / 5 / 5 / 5 / 5 / 5 / 5 / 0 1 / 0 3 / 0 3".to_string(),
+        ),
+        (
+            "closes and volumes that qualify",
+            4_096,
+            "O 7 / C 7 5000 / D 7 1 1 / C 7 4999 / D 7 1 1 / V 7 1000 / C 7 501 / D 7 2 1 / C 7 500 / V 7 999 / \
+             D 7 2 1 / V 7 1000 / D 7 2 1"
+                .to_string(),
+            "0 / 0 / 9 / 0 / 0 / 0 / 0 / 9 / 0 / 0 / 9 / 0 / 0".to_string(),
+        ),
+        ("the 151st class", 4_096, dollar_calls, dollar_answers),
+        ("the 21st half class", 4_096, half_calls, half_answers),
+        (
+            "the review with none marked",
+            4_096,
+            format!("{reviewed} / R 7 / J 7 5 14 / L 7 5 16 / J 7 5 38 / L 7 5 40"),
+            format!("{stood} / 0 2 / 0 1 / 6 / 0 1 / 6"),
+        ),
+        (
+            "the review with $7 marked",
+            4_096,
+            format!("{reviewed} / I 7 5 14 1 0 / R 7 / L 7 5 14 / L 7 5 16 / J 7 5 38 / L 7 5 40"),
+            format!("{stood} / 0 / 0 1 / 6 / 6 / 0 1 / 6"),
+        ),
+        (
+            "no expiration word without strikes, and no 15 while words remain",
+            6,
+            "O 7 / C 7 1300 / D 7 1 1 / L 7 5 14 / L 7 6 14 / X 7 5 14 / L 7 6 14 / R 7 / L 7 5 14 / M 6 / L 7 7 14"
+                .to_string(),
+            "0 / 0 / 0 / 0 1 / 15 / 0 / 0 1 / 0 1 / 0 1 / 0 / 0 1".to_string(),
+        ),
+        (
+            "malformed lines",
+            4_096,
+            "M 4 /  / M 04 / M  4 / m 4 / M 4  / M 4 5 / M / M 3".to_string(),
+            "0 / 2 / 2 / 2 / 2 / 2 / 2 / 2 / 5".to_string(),
+        ),
+    ];
+    for (name, length, calls, answers) in examples {
+        list(length, &calls, &answers, tally).map_err(|text| format!("{name}: {text}"))?;
+    }
+    sample_sheet()
+}

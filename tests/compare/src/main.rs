@@ -1,0 +1,58 @@
+//! Compares the static library with `second`, document 01 written a second time: document 01's
+//! examples, and more than a million generated calls from fixed seeds. It fails at the first
+//! difference, with its seed and its call.
+
+mod books;
+mod draw;
+mod examples;
+mod library;
+mod lists;
+mod pair;
+mod random;
+mod runs;
+mod sheets;
+mod tally;
+mod written;
+
+use std::process::ExitCode;
+use tally::Tally;
+
+type Part = fn(&mut Tally) -> Result<(), String>;
+
+const LEAST_CALLS: u64 = 1_000_000;
+
+fn compare(tally: &mut Tally) -> Result<(), String> {
+    examples::compare(tally)?;
+    println!("document 01's examples agree");
+    let parts: [(&str, Part); 3] = [
+        ("sheets", sheets::compare),
+        ("lists", lists::compare),
+        ("runs", runs::compare),
+    ];
+    for (name, part) in parts {
+        let before = tally.calls();
+        part(tally)?;
+        println!("{name}: {} calls agree", tally.calls() - before);
+    }
+    tally.is_complete()?;
+    match tally.calls() {
+        LEAST_CALLS.. => Ok(()),
+        calls => Err(format!("only {calls} calls were made")),
+    }
+}
+
+fn main() -> ExitCode {
+    let mut tally = Tally::default();
+    let compared = compare(&mut tally);
+    tally.print();
+    match compared {
+        Ok(()) => {
+            println!("{} calls agree", tally.calls());
+            ExitCode::SUCCESS
+        }
+        Err(text) => {
+            eprintln!("difference: {text}");
+            ExitCode::FAILURE
+        }
+    }
+}

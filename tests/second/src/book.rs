@@ -1,0 +1,117 @@
+//! "The plain book holds `now`, and for each open class its close, volume,
+//! two designations and a set of (month, h, ground, put, call). It holds the
+//! run's length too."
+
+use crate::units::{is_length, DOLLAR_CAP, HALF_CAP, HIGHEST_STRIKE, LOWEST_STRIKE};
+use std::collections::{BTreeMap, BTreeSet};
+
+#[derive(Clone, Debug, PartialEq, Eq)]
+pub struct PlainBook {
+    pub now: u32,
+    pub length: usize,
+    pub classes: BTreeMap<u32, Class>,
+}
+
+#[derive(Clone, Debug, PartialEq, Eq, Default)]
+pub struct Class {
+    /// In cents, 0 when none has come.
+    pub close: u32,
+    pub volume: u32,
+    /// 0 none, 1 ours, 2 another exchange's.
+    pub dollar_designation: u32,
+    /// 0 none, 1 ours, 2 another exchange's.
+    pub half_designation: u32,
+    /// By (month, h).
+    pub strikes: BTreeMap<(u32, u32), Strike>,
+}
+
+#[derive(Clone, Copy, Debug, PartialEq, Eq)]
+pub struct Strike {
+    /// 0 Standard, 1 Dollar, 2 Half, 3 Wing.
+    pub ground: u32,
+    /// Put open interest, 1 yes.
+    pub put: u32,
+    /// Call open interest, 1 yes.
+    pub call: u32,
+}
+
+impl Strike {
+    /// "A marked strike has a mark of 1"
+    pub fn is_marked(&self) -> bool {
+        self.put == 1 || self.call == 1
+    }
+}
+
+impl Class {
+    /// "A *$1 class* has $1 designation 1 or 2"
+    pub fn is_dollar_class(&self) -> bool {
+        self.dollar_designation == 1 || self.dollar_designation == 2
+    }
+
+    /// "a *half class* has $0.50 designation 1 or 2."
+    pub fn is_half_class(&self) -> bool {
+        self.half_designation == 1 || self.half_designation == 2
+    }
+
+    /// "close ... 0 when none has come."
+    pub fn has_close(&self) -> bool {
+        self.close != 0
+    }
+
+    /// The months that have a strike.
+    pub fn expirations(&self) -> BTreeSet<u32> {
+        self.strikes.keys().map(|(month, _)| *month).collect()
+    }
+
+    /// The strikes of one expiration, h rising.
+    pub fn strikes_of(&self, month: u32) -> Vec<(u32, Strike)> {
+        let of_month = (month, LOWEST_STRIKE)..=(month, HIGHEST_STRIKE);
+        let strikes = self.strikes.range(of_month);
+        strikes.map(|((_, h), strike)| (*h, *strike)).collect()
+    }
+}
+
+impl PlainBook {
+    /// "A fresh book has `now` 0 and no class; making one ... refuses 1 on a
+    /// bad length." (`None` stands for the refusal.)
+    pub fn fresh(length: usize) -> Option<PlainBook> {
+        if !is_length(length) {
+            return None;
+        }
+        Some(PlainBook {
+            now: 0,
+            length,
+            classes: BTreeMap::new(),
+        })
+    }
+
+    /// "The words the facts take are 1 + 3 × classes + expirations that have
+    /// strikes + strikes."
+    pub fn words_taken(&self) -> usize {
+        let mut words = 1;
+        for class in self.classes.values() {
+            words += 3;
+            words += class.expirations().len();
+            words += class.strikes.len();
+        }
+        words
+    }
+
+    /// The count against 150.
+    pub fn dollar_count(&self) -> usize {
+        let ours = |class: &&Class| class.dollar_designation == 1;
+        self.classes.values().filter(ours).count()
+    }
+
+    /// The count against 20.
+    pub fn half_count(&self) -> usize {
+        let ours = |class: &&Class| class.half_designation == 1;
+        self.classes.values().filter(ours).count()
+    }
+
+    /// "at most 150 classes with $1 designation 1 and at most 20 with $0.50
+    /// designation 1."
+    pub fn caps_hold(&self) -> bool {
+        self.dollar_count() <= DOLLAR_CAP && self.half_count() <= HALF_CAP
+    }
+}

@@ -1,0 +1,357 @@
+//! The layout: books, and words that are no book.
+
+mod common;
+use common::*;
+use second::{make_on_words, Call, PlainBook};
+
+const HEAD: u32 = 1 << 28;
+const CLASS: u32 = 2 << 28;
+const CLOSE: u32 = 3 << 28;
+const VOLUME: u32 = 4 << 28;
+const EXPIRATION: u32 = 5 << 28;
+const STRIKE: u32 = 6 << 28;
+
+fn head(now: u32, used: u32) -> u32 {
+    HEAD + now + used * 1_024
+}
+
+fn is_book(words: &[u32]) -> bool {
+    match PlainBook::read(words) {
+        None => false,
+        Some(book) => {
+            assert_eq!(book.words(), words);
+            true
+        }
+    }
+}
+
+/// A small book: class 7, two expirations, three strikes; class 9, none.
+fn small() -> Vec<u32> {
+    vec![
+        head(4, 12),
+        CLASS + 7 + 16_384 + 2 * 65_536,
+        CLOSE + 999_999,
+        VOLUME + 9_999_999,
+        EXPIRATION + 4,
+        STRIKE + 5,
+        STRIKE + 19_999 + 3 * 32_768 + 262_144 + 524_288,
+        EXPIRATION + 43,
+        STRIKE + 1 + 32_768 + 524_288,
+        CLASS + 16_383,
+        CLOSE,
+        VOLUME,
+        0,
+        0,
+    ]
+}
+
+#[test]
+fn the_small_book() {
+    let words = small();
+    assert!(is_book(&words));
+    let book = PlainBook::read(&words).unwrap();
+    assert_eq!((book.now, book.length), (4, 14));
+    let class = &book.classes[&7];
+    assert_eq!((class.close, class.volume), (999_999, 9_999_999));
+    assert_eq!((class.dollar_designation, class.half_designation), (1, 2));
+    let strike = class.strikes[&(4, 19_999)];
+    assert_eq!((strike.ground, strike.put, strike.call), (3, 1, 1));
+    let strike = class.strikes[&(43, 1)];
+    assert_eq!((strike.ground, strike.put, strike.call), (1, 0, 1));
+    assert_eq!(book.words_taken(), 12);
+}
+
+#[test]
+fn lengths() {
+    assert_eq!(PlainBook::fresh(0), None);
+    assert_eq!(PlainBook::fresh(65_536), None);
+    assert!(!is_book(&[]));
+    for length in [1, 2, 4_096, 65_535] {
+        let book = PlainBook::fresh(length).unwrap();
+        let words = book.words();
+        assert_eq!(words[0], head(0, 1));
+        assert!(words[1..].iter().all(|word| *word == 0));
+        assert_eq!(words.len(), length);
+        assert_eq!(PlainBook::read(&words), Some(book));
+    }
+    let mut long = vec![0; 65_536];
+    long[0] = head(0, 1);
+    assert!(!is_book(&long));
+    assert!(is_book(
+        &long[1..]
+            .iter()
+            .enumerate()
+            .map(|(i, _)| if i == 0 { head(0, 1) } else { 0 })
+            .collect::<Vec<_>>()
+    ));
+}
+
+#[test]
+fn damaged_words() {
+    let change = |at: usize, word: u32| {
+        let mut words = small();
+        words[at] = word;
+        words
+    };
+    let no_books = [
+        ("no head", change(0, 0)),
+        ("head of another kind", change(0, head(4, 12) + HEAD)),
+        ("head's stray bit", change(0, head(4, 12) + (1 << 26))),
+        ("head's stray bit", change(0, head(4, 12) + (1 << 27))),
+        ("count 0", change(0, head(4, 0))),
+        ("count short by one", change(0, head(4, 11))),
+        ("count short by one class", change(0, head(4, 9))),
+        ("count long by one", change(0, head(4, 13))),
+        ("count beyond the run", change(0, head(4, 15))),
+        ("now above an expiration", change(0, head(5, 12))),
+        ("expiration above now + 39", change(0, head(3, 12))),
+        ("expiration above now + 39", change(7, EXPIRATION + 44)),
+        ("expiration below now", change(4, EXPIRATION + 3)),
+        ("class 0", change(1, CLASS)),
+        ("class designation 3", change(1, CLASS + 7 + 3 * 16_384)),
+        ("class designation 3", change(1, CLASS + 7 + 3 * 65_536)),
+        ("class stray bit", change(1, CLASS + 7 + (1 << 18))),
+        ("class stray bit", change(1, CLASS + 7 + (1 << 27))),
+        ("class twice", change(1, CLASS + 16_383)),
+        ("classes fall", change(9, CLASS + 6)),
+        ("close too high", change(2, CLOSE + 1_000_000)),
+        ("close stray bit", change(2, CLOSE + (1 << 20))),
+        ("close missing", change(2, VOLUME)),
+        ("volume too high", change(3, VOLUME + 10_000_000)),
+        ("volume stray bit", change(3, VOLUME + (1 << 24))),
+        ("volume missing", change(3, CLOSE)),
+        (
+            "expiration stray bit",
+            change(4, EXPIRATION + 4 + (1 << 10)),
+        ),
+        ("expiration twice", change(7, EXPIRATION + 4)),
+        ("expiration missing", change(4, STRIKE + 4)),
+        ("expiration with no strike", change(5, EXPIRATION + 5)),
+        ("expiration with no strike", change(8, EXPIRATION + 44)),
+        ("strike 0", change(5, STRIKE)),
+        ("strike 20,000", change(6, STRIKE + 20_000)),
+        ("ground 4", change(5, STRIKE + 5 + 4 * 32_768)),
+        ("strike stray bit", change(5, STRIKE + 5 + (1 << 20))),
+        ("strike twice", change(6, STRIKE + 5)),
+        ("strikes fall", change(6, STRIKE + 4)),
+        ("word past those used", change(12, 1)),
+        ("word past those used", change(13, 1 << 31)),
+        ("kind 7", change(5, 7 << 28)),
+        ("kind 0 among the used", change(5, 0)),
+        ("a second head", change(9, head(4, 1))),
+        ("order of close and volume", {
+            let mut words = small();
+            words.swap(10, 11);
+            words
+        }),
+    ];
+    for (name, words) in no_books {
+        assert!(!is_book(&words), "{name}");
+        let mut changed = words.clone();
+        let mut second = [5, 6];
+        for call in [
+            Call::Malformed,
+            Call::M { m: 9 },
+            Call::A { c: 7, m: 9 },
+            Call::O { c: 3 },
+        ] {
+            let reply = make_on_words(&mut changed, &mut second, &call);
+            assert_eq!((reply.number, reply.value, reply.strikes.len()), (1, 0, 0));
+        }
+        assert_eq!(changed, words);
+        assert_eq!(second, [5, 6]);
+    }
+    // An expiration last among the used words, with no strike.
+    assert!(!is_book(&[
+        head(0, 5),
+        CLASS + 1,
+        CLOSE,
+        VOLUME,
+        EXPIRATION
+    ]));
+    assert!(is_book(&[
+        head(0, 6),
+        CLASS + 1,
+        CLOSE,
+        VOLUME,
+        EXPIRATION,
+        STRIKE + 1
+    ]));
+    // A class cut short.
+    assert!(!is_book(&[head(0, 3), CLASS + 1, CLOSE]));
+    assert!(!is_book(&[head(0, 2), CLASS + 1]));
+}
+
+#[test]
+fn caps_in_a_read_book() {
+    let designated = |count: u32, bits: u32| {
+        let mut words = vec![head(0, 1 + 3 * count)];
+        for c in 1..=count {
+            words.extend([CLASS + c + bits, CLOSE, VOLUME]);
+        }
+        words
+    };
+    assert!(is_book(&designated(150, 1 << 14)));
+    assert!(!is_book(&designated(151, 1 << 14)));
+    assert!(is_book(&designated(20, 1 << 16)));
+    assert!(!is_book(&designated(21, 1 << 16)));
+    assert!(is_book(&designated(200, 2 << 14)));
+    assert!(is_book(&designated(200, 2 << 16)));
+}
+
+/// Each single bit turned: no bit that isn't named leaves a book ("every bit
+/// not named is zero"), and what is still a book is laid out as it stood.
+#[test]
+fn single_bits() {
+    let words = small();
+    // The count of named bits of each word, all from bit 0.
+    let named = [26, 18, 20, 24, 10, 20, 20, 10, 20, 18, 20, 24, 0, 0];
+    let mut books = 0;
+    for at in 0..words.len() {
+        for bit in 0..32 {
+            let mut turned = words.clone();
+            turned[at] ^= 1 << bit;
+            if is_book(&turned) {
+                assert!(bit < named[at], "word {at}, bit {bit}");
+                books += 1;
+            }
+        }
+    }
+    assert!(books > 0);
+}
+
+// ---- Random calls ------------------------------------------------------
+
+/// Any standing series of the book.
+fn standing_series(random: &mut Seeded, book: &PlainBook) -> Option<(u64, u64, u64)> {
+    let mut all = Vec::new();
+    for (c, class) in &book.classes {
+        for (m, h) in class.strikes.keys() {
+            all.push((u64::from(*c), u64::from(*m), u64::from(*h)));
+        }
+    }
+    if all.is_empty() {
+        return None;
+    }
+    Some(all[random.below(all.len() as u64) as usize])
+}
+
+fn random_call(random: &mut Seeded, book: &PlainBook) -> Call {
+    let c = random.one_of(&[1, 7, 7, 7, 7, 7, 16_383, 0, 9]);
+    let m = match random.below(12) {
+        0 => random.below(1_030),
+        1 => random.below(60),
+        _ => random.one_of(&[1, 5, 6, 7, 14, 16, 17, 40]),
+    };
+    let h = match random.below(12) {
+        0 => random.below(20_010),
+        1 => 5 * random.below(300),
+        2 => random.below(100),
+        _ => random.one_of(&[
+            1, 4, 5, 6, 10, 14, 15, 20, 24, 25, 26, 38, 40, 44, 45, 46, 50, 54, 60,
+        ]),
+    };
+    // Half of the series named are standing ones, or $0.50 or $1 beside.
+    let (c, m, h) = match (random.below(2), standing_series(random, book)) {
+        (0, Some((c, m, h))) => (c, m, h + random.one_of(&[0, 0, 0, 1, 2])),
+        _ => (c, m, h),
+    };
+    match random.below(40) {
+        0 => match random.below(20) {
+            0 => Call::M {
+                m: random.below(40),
+            },
+            1..=9 => Call::M { m: random.below(8) },
+            _ => Call::M { m: 0 },
+        },
+        1 => Call::X { c, m, h },
+        2..=4 => Call::O { c },
+        5..=7 => {
+            let edges = [
+                200, 500, 501, 1_300, 2_000, 2_001, 2_450, 2_500, 4_999, 5_000, 20_000, 0,
+            ];
+            let p = match random.below(3) {
+                0 => random.below(6_000),
+                _ => random.one_of(&edges),
+            };
+            Call::C { c, p }
+        }
+        8..=9 => Call::V {
+            c,
+            n: random.one_of(&[0, 999, 1_000, 1_001, 9_999_999, 10_000_000]),
+        },
+        10..=13 => Call::D {
+            c,
+            p: 1 + random.below(2),
+            d: random.below(3),
+        },
+        14..=28 => Call::L { c, m, h },
+        29..=30 => Call::J { c, m, h },
+        31 => Call::X { c, m, h },
+        32..=36 => Call::I {
+            c,
+            m,
+            h,
+            a: random.below(2),
+            b: random.below(2),
+        },
+        37 => Call::R { c },
+        38 => Call::A { c, m },
+        _ => Call::Malformed,
+    }
+}
+
+/// One call on the plain book and the same on its words: all equal, the book
+/// read back from its own words, refusals changing nothing.
+fn check_call(book: &mut PlainBook, words: &mut Vec<u32>, call: &Call, room: usize) -> u32 {
+    let before = book.clone();
+    let mut second = vec![99; room];
+    let mut second_on_words = second.clone();
+    let reply = book.make(call, &mut second);
+    let reply_on_words = make_on_words(words, &mut second_on_words, call);
+    assert_eq!(reply, reply_on_words, "{call:?}");
+    assert_eq!(second, second_on_words);
+    assert_eq!(&book.words(), words);
+    assert_eq!(PlainBook::read(words).as_ref(), Some(&*book));
+    assert_eq!(second[..reply.strikes.len()], reply.strikes[..]);
+    assert!(second[reply.strikes.len()..].iter().all(|word| *word == 99));
+    if reply.number != 0 {
+        assert_eq!(&before, book);
+        assert!(reply.strikes.is_empty());
+    }
+    if let (Call::A { c, m }, true) = (call, reply.number == 0) {
+        for h in 1..=19_999 {
+            let judged = book.make(&Call::J { c: *c, m: *m, h }, &mut []);
+            assert_eq!(judged.number == 0, reply.strikes.contains(&(h as u32)));
+        }
+    }
+    reply.number
+}
+
+#[test]
+fn random_lists() {
+    let mut random = Seeded(0x5EED_0001);
+    let mut drawn = [0; 16];
+    for _ in 0..150 {
+        let length = random.one_of(&[1, 5, 12, 30, 60, 200, 500]) as usize;
+        let mut book = PlainBook::fresh(length).unwrap();
+        let mut words = book.words();
+        for _ in 0..400 {
+            let call = random_call(&mut random, &book);
+            let room = random.one_of(&[0, 3, 20, 100]) as usize;
+            drawn[check_call(&mut book, &mut words, &call, room) as usize] += 1;
+        }
+        // Damage: what is still a book is laid out as it stood.
+        for _ in 0..50 {
+            let mut damaged = words.clone();
+            let at = random.below(book.words_taken() as u64 + 1) as usize % length;
+            damaged[at] ^= 1 << random.below(32);
+            is_book(&damaged);
+        }
+    }
+    println!("drawn: {drawn:?}");
+    // Each number but 1 (no book) and 10 (no 151 classes here) was drawn.
+    for (number, times) in drawn.iter().enumerate() {
+        assert_eq!(*times > 0, number != 1 && number != 10, "{number}: {times}");
+    }
+}
