@@ -1,56 +1,187 @@
-//! Prints how long the proved functions take beside hand-written Rust, as ratios measured in one run.
+//! Prints how long the proved functions take beside two versions in Rust, as ratios measured in one run: (b) is `tests/hand`, made for speed, and (a) is
+//! `tests/second`, written plainly. `bench sheet` times the sheet programs instead. The tables go to standard output, the nanoseconds to standard error.
 
 mod books;
-mod hand;
+mod clock;
+mod programs;
+mod proved;
+mod side;
 
-use std::hint::black_box;
-use std::time::Instant;
+use books::Book;
+use clock::{compare, Batch, Compared};
+use second::Call;
+use side::{work, Lent, Side, Work};
 
-extern "C" {
-    fn strike_book_is_book(words: *const u32, length: usize) -> bool;
+const LENGTHS: [usize; 3] = [64, 4_096, 65_535];
+
+/// The lines of a sheet.
+const LINES: u32 = 2_000;
+
+/// Rounds beside (b).
+const ROUNDS: usize = 301;
+
+/// Rounds beside (a), which is slow; a sheet has fewer.
+const PLAIN_ROUNDS: usize = 5;
+
+struct Row {
+    name: &'static str,
+    /// Beside (b) and beside (a), by length.
+    cells: Vec<[Compared; 2]>,
 }
 
-fn proved(words: &[u32]) -> bool {
-    // The function reads the lent words and nothing else.
-    unsafe { strike_book_is_book(words.as_ptr(), words.len()) }
-}
-
-/// The nanoseconds of one call, over enough calls for the clock.
-fn time(test: fn(&[u32]) -> bool, words: &[u32]) -> f64 {
-    let calls = if words.len() > 10_000 { 20 } else { 300 };
-    let start = Instant::now();
-    for _ in 0..calls {
-        assert!(black_box(test)(black_box(words)));
+fn lent() -> Lent {
+    Lent {
+        second: vec![0; 512],
+        answers: vec![0; 2 * LINES as usize],
     }
-    start.elapsed().as_secs_f64() * 1e9 / f64::from(calls)
 }
 
-/// Rounds that time both in turn: the best of each, and the median of the rounds' ratios.
-fn compare(name: &str, words: &[u32]) {
-    let rounds = 80;
-    let (mut ours, mut theirs) = (f64::MAX, f64::MAX);
-    let mut ratios = Vec::with_capacity(rounds);
-    for _ in 0..rounds {
-        let a = time(proved, words);
-        let b = time(hand::is_book, words);
-        ours = ours.min(a);
-        theirs = theirs.min(b);
-        ratios.push(a / b);
+/// Makes a book of a length from a seed.
+type Kind = fn(usize, u64) -> Book;
+
+/// Different books of one kind, enough of them for the clock and few enough for the cache.
+fn books_of(kind: Kind, length: usize) -> Vec<Book> {
+    let count = (65_536 / length).clamp(4, 256) as u64;
+    (0..count).map(|seed| kind(length, seed)).collect()
+}
+
+/// What is timed: the name of the row, and the work on each book. A sheet is read over the first book only.
+fn rows_of(books: &[Book]) -> Vec<(&'static str, Vec<Work>)> {
+    let tests = books.iter().map(|_| Work::IsBook).collect();
+    let mut rows: Vec<(&str, Vec<Work>)> = vec![("`is_book`", tests)];
+    for (place, (name, _)) in books[0].calls().iter().enumerate() {
+        let call = |book: &Book| Work::Call(book.calls().swap_remove(place).1);
+        rows.push((name, books.iter().map(call).collect()));
     }
-    ratios.sort_by(f64::total_cmp);
-    println!(
-        "is_book | {} words | {name} | best {:.2} | median {:.2} | {ours:.0} ns",
-        words.len(),
-        ours / theirs,
-        ratios[rounds / 2]
+    rows.push(("`run_sheet`", vec![Work::Sheet(books[0].sheet(LINES))]));
+    rows
+}
+
+/// Checks that all sides answer the same and leave the same words in all runs, and that a call is accepted, or refused where its row says so.
+fn check(name: &str, book: &Book, what: &Work, lent: &Lent) {
+    let did = |side| {
+        let (mut run, mut lent) = (book.run.clone(), lent.clone());
+        let answer = work(side, what, &mut run, &mut lent);
+        (answer, run, lent)
+    };
+    let proved = did(Side::Proved);
+    assert!(proved == did(Side::Hand), "{name}: (b) differs");
+    assert!(proved == did(Side::Plain), "{name}: (a) differs");
+    let number = proved.0 .0;
+    match what {
+        Work::IsBook => assert_eq!(number, 1),
+        Work::Call(_) if name.ends_with("refused 6") => assert_eq!(number, 6),
+        Work::Call(_) => assert_eq!(number, 0, "{name}: accepted"),
+        Work::Sheet(_) => {
+            assert_eq!(number, LINES);
+            let accepted = proved.2.answers.iter().step_by(2).filter(|n| **n == 0);
+            assert!(accepted.count() > LINES as usize / 4);
+        }
+    }
+    let reads_only = matches!(
+        what,
+        Work::IsBook | Work::Call(Call::J { .. } | Call::A { .. })
+    ) || name.ends_with("refused 6");
+    assert_eq!(proved.1 == book.run, reads_only, "{name}: the book's words");
+}
+
+fn measure(name: &str, books: &[Book], works: &[Work]) -> [Compared; 2] {
+    let books = &books[..works.len()];
+    let length = books[0].run.len();
+    let lent = lent();
+    for (book, what) in books.iter().zip(works) {
+        check(name, book, what, &lent);
+    }
+    let (rounds, plain_count, plain_rounds) = if matches!(works[0], Work::Sheet(_)) {
+        (ROUNDS / 3, 1, 3)
+    } else {
+        (ROUNDS, (4_096 / length).max(1), PLAIN_ROUNDS)
+    };
+    let beside = |side, count, rounds| {
+        let mut batch = Batch::of(&books[..count], &works[..count], &lent);
+        compare(rounds, |first| {
+            batch.time(if first { Side::Proved } else { side })
+        })
+    };
+    let hand = beside(Side::Hand, books.len(), rounds);
+    let plain = beside(Side::Plain, plain_count, plain_rounds);
+    eprintln!(
+        "{name}, {length} words: {:.0} ns, (b) {:.0} ns, (a) {:.0} ns",
+        hand.first, hand.second, plain.second
     );
+    [hand, plain]
+}
+
+fn table(title: &str, kind: Kind) {
+    let mut rows: Vec<Row> = Vec::new();
+    for length in LENGTHS {
+        let books = books_of(kind, length);
+        let used = books[0].run[0] >> 10 & 65_535;
+        let classes = books[0].run.iter().filter(|word| **word >> 28 == 2).count();
+        eprintln!("{title}, {used} of {length} words used, classes: {classes}");
+        for (place, (name, works)) in rows_of(&books).iter().enumerate() {
+            if place == rows.len() {
+                let cells = Vec::new();
+                rows.push(Row { name, cells });
+            }
+            rows[place].cells.push(measure(name, &books, works));
+        }
+    }
+    println!("### {title}\n");
+    println!("| | 64 words: (b) best | median | (a) | 4,096: (b) best | median | (a) | 65,535: (b) best | median | (a) |");
+    println!("|---|---|---|---|---|---|---|---|---|---|");
+    for row in &rows {
+        print!("| {} |", row.name);
+        for [hand, plain] in &row.cells {
+            let (best, median) = (hand.best(), hand.median);
+            print!(" {best:.2} | {median:.2} | {} |", small(plain.best()));
+        }
+        println!();
+    }
+    println!();
+}
+
+/// A ratio with two figures that count.
+fn small(ratio: f64) -> String {
+    let places = (1 - ratio.log10().floor() as i32).max(2) as usize;
+    format!("{ratio:.places$}")
+}
+
+/// The proved function's time for each word of the run, as a ratio to that at 4,096 words; the three lengths are timed in turn.
+fn growth() {
+    println!("### Time per word of the run, beside that at 4,096 words\n");
+    println!("| | book | 64 | 4,096 | 65,535 |");
+    println!("|---|---|---|---|---|");
+    let kinds: [(&str, Kind); 2] = [("full", books::full), ("nearly empty", books::nearly_empty)];
+    for (title, kind) in kinds {
+        let books = LENGTHS.map(|length| books_of(kind, length));
+        let rows = [0, 1, 2].map(|i| rows_of(&books[i]));
+        for name in ["`is_book`", "`J`", "`L`"] {
+            let mut batches = [0, 1, 2].map(|i| {
+                let row = rows[i].iter().find(|row| row.0 == name);
+                Batch::of(&books[i], &row.expect("a row").1, &lent())
+            });
+            let mut best = [f64::MAX; 3];
+            for _ in 0..ROUNDS {
+                for i in 0..3 {
+                    best[i] = best[i].min(batches[i].time(Side::Proved));
+                }
+            }
+            let per_word = |i: usize| best[i] / LENGTHS[i] as f64;
+            let [short, middle, long] = [0, 1, 2].map(|i| per_word(i) / per_word(1));
+            println!("| {name} | {title} | {short:.2} | {middle:.2} | {long:.2} |");
+        }
+    }
 }
 
 fn main() {
-    for length in [4_096, 65_535] {
-        for strikes in [1, 5, 25, 60] {
-            compare(&format!("full, {strikes} strikes an expiration"), &books::full(length, strikes));
+    match std::env::args().nth(1).as_deref() {
+        None => {
+            table("Full books", books::full);
+            table("Nearly empty books", books::nearly_empty);
+            growth();
         }
-        compare("nearly empty", &books::nearly_empty(length));
+        Some("sheet") => programs::sheet(),
+        Some(other) => panic!("no mode {other}"),
     }
 }

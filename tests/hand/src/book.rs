@@ -1,0 +1,178 @@
+//! Whether a run is a book: one pass, 64 words at a time.
+
+use crate::word::{head, CLOSE, EXPIRATION, KEY, STRIKE, VOLUME};
+
+/// Makes a fresh book of the run, whatever it held; false, and nothing changed, where its length is bad.
+pub fn fresh(run: &mut [u32]) -> bool {
+    if run.is_empty() || run.len() > 65_535 {
+        return false;
+    }
+    run.fill(0);
+    run[0] = head(0, 1);
+    true
+}
+
+/// Whether `w` is a strike word that may follow `before`, an expiration or a strike. That h is at least 1 after an expiration, and at most 19,999 at
+/// the end of a stretch of strikes, is tested elsewhere.
+#[inline(always)]
+fn is_next_strike(before: u32, w: u32) -> bool {
+    (w & 0xfff2_0000 == STRIKE) & ((w & KEY) as i32 > (before & KEY) as i32)
+}
+
+/// False for a strike above 19,999.
+#[inline(always)]
+fn is_strike_low(w: u32) -> bool {
+    w & KEY <= STRIKE + 19_999
+}
+
+/// One bit for each word, from the lowest, that is no next strike.
+#[inline(always)]
+fn others(before: &[u32; 32], words: &[u32; 32]) -> u32 {
+    let mut bits = 0;
+    for i in 0..32 {
+        bits |= if is_next_strike(before[i], words[i]) {
+            0
+        } else {
+            1 << i
+        };
+    }
+    bits
+}
+
+/// What is remembered of the classes and months passed.
+struct Passed {
+    now: u32,
+    latest: u32,
+    least_month: u32,
+    class: u32,
+    dollars: u32,
+    halves: u32,
+}
+
+impl Passed {
+    /// An expiration between two words.
+    #[inline(always)]
+    fn expiration(&mut self, before: u32, w: u32, after: u32) -> bool {
+        let month = w - EXPIRATION;
+        let good = (month >= self.least_month)
+            & (month <= self.latest)
+            & (after & KEY > STRIKE)
+            & is_strike_low(before);
+        self.least_month = month + 1;
+        good
+    }
+
+    /// The three words of a class, at `at`, and that no strike follows them.
+    #[inline(always)]
+    fn class(&mut self, words: &[u32], at: usize) -> bool {
+        let Some(&[before, w, close, volume]) = words.get(at - 1..at + 3) else {
+            return false;
+        };
+        let class = w & 16_383;
+        let (dollar, half) = ((w >> 14) & 3, (w >> 16) & 3);
+        self.dollars += (dollar == 1) as u32;
+        self.halves += (half == 1) as u32;
+        let good = (w >> 18 == 2 << 10)
+            & (class > self.class)
+            & (dollar != 3)
+            & (half != 3)
+            & (self.dollars <= 150)
+            & (self.halves <= 20)
+            & (close.wrapping_sub(CLOSE) <= 999_999)
+            & (volume.wrapping_sub(VOLUME) <= 9_999_999)
+            & is_strike_low(before);
+        self.class = class;
+        self.least_month = self.now;
+        good && words.get(at + 3).map_or(true, |next| next >> 28 != 6)
+    }
+}
+
+pub fn is_book(run: &[u32]) -> bool {
+    let length = run.len();
+    if length == 0 || length > 65_535 {
+        return false;
+    }
+    let used = ((run[0] >> 10) & 65_535) as usize;
+    if run[0] >> 26 != 4 || used == 0 || used > length {
+        return false;
+    }
+    let (words, rest) = run.split_at(used);
+    are_words(words) && are_zero(rest)
+}
+
+fn are_zero(words: &[u32]) -> bool {
+    words.iter().fold(0, |all, w| all | w) == 0
+}
+
+/// Whether the words used, with their good head, are those of a book.
+fn are_words(words: &[u32]) -> bool {
+    // A strike or an expiration straight after the head would pass the tests below.
+    if words.len() > 1 && words[1] >> 28 != 2 {
+        return false;
+    }
+    let now = words[0] & 1_023;
+    let mut passed = Passed {
+        now,
+        latest: (now + 39).min(1_023),
+        least_month: now,
+        class: 0,
+        dollars: 0,
+        halves: 0,
+    };
+    let mut at = 1;
+    // The first word that isn't tested yet, where it is beyond `at`.
+    let mut next = 1;
+    while let Some(part) = words.get(at - 1..at + 65) {
+        let part: &[u32; 66] = part.try_into().unwrap();
+        let low = others(
+            part[..32].try_into().unwrap(),
+            part[1..33].try_into().unwrap(),
+        );
+        let high = others(
+            part[32..64].try_into().unwrap(),
+            part[33..65].try_into().unwrap(),
+        );
+        let mut bits = u64::from(low) | u64::from(high) << 32;
+        if next > at {
+            bits &= u64::MAX << (next - at);
+        }
+        while bits != 0 {
+            let i = (bits.trailing_zeros() & 63) as usize;
+            let w = part[i + 1];
+            if w >> 28 == 5 {
+                if !passed.expiration(part[i], w, part[i + 2]) {
+                    return false;
+                }
+                bits &= bits - 1;
+            } else {
+                if !passed.class(words, at + i) {
+                    return false;
+                }
+                next = at + i + 3;
+                bits &= !(7 << i);
+            }
+        }
+        at += 64;
+    }
+    at = at.max(next);
+    while at < words.len() {
+        let (before, w) = (words[at - 1], words[at]);
+        if is_next_strike(before, w) {
+            at += 1;
+        } else if w >> 28 == 5 {
+            let Some(&after) = words.get(at + 1) else {
+                return false;
+            };
+            if !passed.expiration(before, w, after) {
+                return false;
+            }
+            at += 1;
+        } else {
+            if !passed.class(words, at) {
+                return false;
+            }
+            at += 3;
+        }
+    }
+    is_strike_low(words[words.len() - 1])
+}

@@ -1,0 +1,32 @@
+//! The fields of the words.
+
+pub const HEAD: u32 = 1 << 28;
+pub const CLASS: u32 = 2 << 28;
+pub const CLOSE: u32 = 3 << 28;
+pub const VOLUME: u32 = 4 << 28;
+pub const EXPIRATION: u32 = 5 << 28;
+pub const STRIKE: u32 = 6 << 28;
+
+/// The kind and the widest number that orders words of one kind: h, or a month, or a class number with its designations.
+pub const KEY: u32 = 0xf000_7fff;
+
+/// All of a strike word but its marks.
+pub const UNMARKED: u32 = !MARKS;
+
+/// The two marks of a strike word.
+pub const MARKS: u32 = 3 << 18;
+
+#[inline(always)]
+pub fn now(run: &[u32]) -> u32 {
+    run[0] & 1_023
+}
+
+#[inline(always)]
+pub fn used(run: &[u32]) -> usize {
+    ((run[0] >> 10) & 65_535) as usize
+}
+
+#[inline(always)]
+pub fn head(now: u32, used: usize) -> u32 {
+    HEAD | now | (used as u32) << 10
+}
