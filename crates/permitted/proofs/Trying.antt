@@ -2,58 +2,29 @@
 use mathlib.Core.Path.{_≡_, refl, ap, _∙_}
 use mathlib.Core.Bool.{Bool, true, false, cond, and-false}
 use mathlib.Core.List.{List, _∷_, map}
-use Prim.Native.Nat.{ℕ, suc, _+_, _-_, _*_, _/_, _%_, _≤_, _<_, min}
-use native.Mathlib.Nat.{mod-one, mul-mod-left, mul-add-mod-self-left, mod-eq-of-lt, div-add-mod, add-mod-right}
+use Prim.Native.Nat.{ℕ, suc, _+_, _-_, _%_, _≤_, _<_, min}
+use native.Mathlib.Nat.{add-mod-right}
 use native.Mathlib.Omega.{arith}
 use lib.Dec.{leb, ltb}
 use lib.ListN.{length, getD, set}
 use lib.Seq.{sets}
-use borrow.Author.Tests.{leb-true, ltb-true, ltb-false, leb-false}
+use borrow.Author.Tests.{ltb-true, ltb-false, leb-false}
 use Rattle.rule.specs.declared.terms.Setting.{Setting}
 use Rattle.rule.specs.Terms.{price}
 use Rattle.rule.specs.Ends.{stride, lowestPermitted, highestPermitted}
 use Rattle.rule.specs.Spacing.{standingIn}
 use Rattle.rule.specs.Judgement.{isPermittedBeside, permitted}
 use Rattle.rule.proofs.Walks.{First}
+use Rattle.rule.proofs.Strides.{stride-bounds, between-multiples, lowest-first}
 use Rattle.rule.proofs.Bound.{Tried, refused-untried}
 use Rattle.permitted.specs.Listing.{strikeIn, strikeFrom, Listable, Triable}
 use Rattle.permitted.proofs.Strikes.{strike-found}
 use Rattle.permitted.proofs.Filling.{left, left-here, left-skip, Filling, filling-start, filling-as, filling-one, filling-done}
 
--- ---- the stride
-
-stride-bounds : (p : ℕ) → (1 ≤ stride p) × (stride p ≤ 10)
-stride-bounds p = go (ltb p 5000)
-  where
-    go : (t : Bool) → (1 ≤ cond {A = ℕ} t 1 10) × (cond {A = ℕ} t 1 10 ≤ 10)
-    go true = omega arith
-    go false = omega arith
-
-lowest-first : (p : ℕ) → (1 ≤ lowestPermitted p) × (lowestPermitted p % stride p ≡ 0)
-lowest-first p = go (leb p 2000) refl (ltb p 5000) refl
-  where
-    go : (t : Bool) → leb p 2000 ≡ t → (u : Bool) → ltb p 5000 ≡ u →
-        (1 ≤ cond t 1 (cond u ((p + 99) / 100) ((p + 999) / 1000 * 10)))
-        × (cond t 1 (cond u ((p + 99) / 100) ((p + 999) / 1000 * 10)) % cond {A = ℕ} u 1 10 ≡ 0)
-    go true a true b = (omega arith, refl)
-    go true a false b = absurd (omega (arith, leb-true p 2000 a, ltb-false p 5000 b))
-    go false a true b = (omega (arith, leb-false p 2000 a), mod-one ((p + 99) / 100))
-    go false a false b = (omega (arith, ltb-false p 5000 b), mul-mod-left ((p + 999) / 1000) 10)
-
--- no multiple of k stands between two that follow each other
-between-multiples : (k h i : ℕ) → h % k ≡ 0 → i % k ≡ 0 → h < i → i < h + k → ⊥
-between-multiples k h i a b l m =
-    let e : i ≡ k * (h / k) + (i - h) = omega (arith, div-add-mod h k) in
-    let d : i % k ≡ i - h =
-    ap (λ (n : ℕ). n % k) e ∙ mul-add-mod-self-left k (h / k) (i - h) ∙ mod-eq-of-lt (omega arith) in
-    omega arith
-
--- ---- the loop
-
 -- the strikes below h are done
 pub record Trying (s : Setting) (ws o : List ℕ) (high step : ℕ) (b : List ℕ) (from n h : ℕ) : Type 0 where
   pub last : high ≡ min (highestPermitted (price s)) 19999
-  pub by : step ≡ stride (price s)
+  pub by : step ≡ stride (s .class)
   pub steps : (1 ≤ step) × (step ≤ 10)
   pub least : 1 ≤ h
   pub fewer : n < h
@@ -66,24 +37,24 @@ module _ (s : Setting) (ws : List ℕ) where
   abbrev test : ℕ → Bool
   test h = isPermittedBeside s (map standingIn ws) h
 
-  untried : (h : ℕ) → 1 ≤ h → (Tried (price s) h → ⊥) → test h ≡ false
+  untried : (h : ℕ) → 1 ≤ h → (Tried (s .class) h → ⊥) → test h ≡ false
   untried h l not-tried = rw (refused-untried s (map standingIn ws) h l not-tried, and-false)
 
   all-left : permitted s (map standingIn ws) ≡ left test 20000 1
   unfolding permitted
   all-left = refl
 
-  pub trying-start : (o : List ℕ) (high step h : ℕ) → high ≡ min (highestPermitted (price s)) 19999 → step ≡ stride (price s) →
-      h ≡ lowestPermitted (price s) → Trying s ws o high step o 0 0 h
+  pub trying-start : (o : List ℕ) (high step h : ℕ) → high ≡ min (highestPermitted (price s)) 19999 → step ≡ stride (s .class) →
+      h ≡ lowestPermitted (s .class) → Trying s ws o high step o 0 0 h
   trying-start o high step h last by e =
-      let f = lowest-first (price s) in
+      let f = lowest-first (s .class) in
       let k : 1 + (h - 1) ≡ h = omega arith in
       let same : permitted s (map standingIn ws) ≡ left test 20000 h =
       all-left ∙ left-skip test 20000 (h - 1) 1 (λ i l m. untried i l (λ t. omega (arith, t .0))) ∙ ap (left test 20000) k in
       record {
         last = last;
         by = by;
-        steps = rw by (stride-bounds (price s));
+        steps = rw by (stride-bounds (s .class));
         least = omega arith;
         fewer = omega arith;
         multiple = rw (e, by) (f .1);

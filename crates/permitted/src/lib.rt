@@ -74,12 +74,12 @@ pub fn write_permitted(s: Setting, standing: &[u32], out: &mut [u32]) -> u32
     ensures { λ r. ⌜ r ≡ length (permitted s (map standingIn (now (standing .entry)))) ⌝ }
     ensures { λ _. ⌜ now (out .exit) ≡ sets (now (out .entry)) 0 (permitted s (map standingIn (now (standing .entry)))) ⌝ }
 {
-    let p = s.class.close;
-    let high = highest_permitted(p);
-    let step = stride(p);
+    let class = s.class;
+    let high = highest_permitted(class.close);
+    let step = stride(class);
     let mut from: usize = 0;
     let mut count: u32 = 0;
-    let mut h = lowest_permitted(p);
+    let mut h = lowest_permitted(class);
     while h <= high {
         if is_permitted_at(s, standing, from, h) {
             put(out, count as usize, h);

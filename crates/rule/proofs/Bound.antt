@@ -1,22 +1,24 @@
 -- An accepted strike is in a range and on a grid, so that the permitted strikes are found among few: from `lowestPermitted` to `highestPermitted`, and every `stride`. Assumes nothing.
 use mathlib.Core.Path.{_≡_, refl, sym, ap, _∙_}
-use mathlib.Core.Bool.{Bool, true, false, cond, _&&_, _||_, and-false, true≢false}
+use mathlib.Core.Bool.{Bool, true, false, not, cond, _&&_, _||_, and-false, true≢false}
 use mathlib.Core.List.{List, [], _∷_, map}
 use mathlib.Core.Logic.{⊎-elim}
 use Prim.Native.Nat.{ℕ, zero, suc, _+_, _-_, _*_, _/_, _%_, _≤_, _<_}
 use native.Mathlib.Omega.{arith}
-use native.Mathlib.Nat.{suc-add, zero-add, mul-mod-right}
-use lib.Dec.{leb, ltb}
-use borrow.Author.Tests.{ltb-false, leb-true, leb-false, eqb-true, le-ltb, lt-leb}
+use native.Mathlib.Nat.{suc-add, zero-add, mod-one, mul-mod-right}
+use lib.Dec.{leb, ltb, eqb}
+use borrow.Author.Tests.{ltb-false, leb-true, eqb-true, le-ltb, lt-leb}
+use Rattle.word.specs.declared.class.ClassRecord.{ClassRecord}
 use Rattle.rule.specs.declared.terms.Setting.{Setting}
 use Rattle.rule.specs.Lists.{some, only, upFrom}
-use Rattle.rule.specs.Terms.{cents, isDollarClass, isNear, price}
-use Rattle.rule.specs.Grids.{multiple, ladder, halfDollars, wingBase, gridOf, grounds}
+use Rattle.rule.specs.Terms.{cents, isDollarClass, isHalfClass, isLong, isNear, price}
+use Rattle.rule.specs.Grids.{multiple, ladder, standardGrid, halfDollars, wingBase, wingAt, gridOf, grounds}
 use Rattle.rule.specs.Ranges.{amongFive, rangeBy, rangeGrid, standardRange, rangeOf}
 use Rattle.rule.specs.Ends.{fifthAbove, highestPermitted, lowestPermitted, stride}
 use Rattle.rule.specs.Spacing.{Standing, spacingOf}
 use Rattle.rule.specs.Judgement.{rowOf, rowsOf, passes, judgement, isAccepted, isPermittedBeside, permitted}
 use Rattle.rule.proofs.Tests.{and-left, and-right, or-cases}
+use Rattle.rule.proofs.Strides.{lowest-least}
 use Rattle.rule.proofs.Five.{five, five-half-dollars}
 use Rattle.rule.proofs.Rows.{accepted-passes}
 
@@ -84,63 +86,130 @@ ground-bound s (suc (suc (suc g))) h e =
     let b : Ranged (price s) (l + 10) = standard-bound s (l + 10) (and-right (standardRange s l) (standardRange s (l + 10)) e) in
     record { low = λ k. omega (arith, a .low k); high = omega (arith, b .high) }
 
-tens : (h q : ℕ) → h ≡ 10 * q → h % 10 ≡ 0
-tens h q e = rw (e, mul-mod-right)
+-- ---- the grids hold multiples of the stride only
 
--- from $25 on the ladder holds multiples of $5
-ladder-five : (h : ℕ) → 2500 ≤ cents h → ladder (cents h) ≡ true → h % 10 ≡ 0
-ladder-five h l e = ⊎-elim (λ d. ⊎-elim to-25 to-200 (or-cases _ _ d)) above-200 (or-cases _ _ e)
+times : (n h q : ℕ) → h ≡ n * q → h % n ≡ 0
+times n h q e = rw (e, mul-mod-right)
+
+-- the ladder holds multiples of $2.50, and from $25 on of $5
+ladder-steps : (h : ℕ) → ladder (cents h) ≡ true → (h % 5 ≡ 0) × (2500 ≤ cents h → h % 10 ≡ 0)
+ladder-steps h e = ⊎-elim (λ d. ⊎-elim to-25 to-200 (or-cases _ _ d)) above-200 (or-cases _ _ e)
   where
-    to-25 : (leb (cents h) 2500 && multiple 250 (cents h)) ≡ true → h % 10 ≡ 0
-    to-25 a = tens h 5 (omega (arith, leb-true (cents h) 2500 (and-left (leb (cents h) 2500) (multiple 250 (cents h)) a)))
+    fives : h % 10 ≡ 0 → (h % 5 ≡ 0) × (2500 ≤ cents h → h % 10 ≡ 0)
+    fives m = (times 5 h (2 * (h / 10)) (omega arith), λ l. m)
 
-    to-200 : (ltb 2500 (cents h) && leb (cents h) 20000 && multiple 500 (cents h)) ≡ true → h % 10 ≡ 0
-    to-200 a = tens h (cents h / 500) (omega (arith, eqb-true (cents h % 500) 0 (and-right (ltb 2500 (cents h) && leb (cents h) 20000) (multiple 500 (cents h)) a)))
+    to-25 : (leb (cents h) 2500 && multiple 250 (cents h)) ≡ true → (h % 5 ≡ 0) × (2500 ≤ cents h → h % 10 ≡ 0)
+    to-25 a =
+        let most : cents h ≤ 2500 = leb-true (cents h) 2500 (and-left (leb (cents h) 2500) (multiple 250 (cents h)) a) in
+        let m : cents h % 250 ≡ 0 = eqb-true (cents h % 250) 0 (and-right (leb (cents h) 2500) (multiple 250 (cents h)) a) in
+        (times 5 h (cents h / 250) (omega arith), λ l. times 10 h 5 (omega arith))
 
-    above-200 : (ltb 20000 (cents h) && multiple 1000 (cents h)) ≡ true → h % 10 ≡ 0
-    above-200 a = tens h (2 * (cents h / 1000)) (omega (arith, eqb-true (cents h % 1000) 0 (and-right (ltb 20000 (cents h)) (multiple 1000 (cents h)) a)))
+    to-200 : (ltb 2500 (cents h) && leb (cents h) 20000 && multiple 500 (cents h)) ≡ true → (h % 5 ≡ 0) × (2500 ≤ cents h → h % 10 ≡ 0)
+    to-200 a = fives (times 10 h (cents h / 500) (omega (arith, eqb-true (cents h % 500) 0 (and-right (ltb 2500 (cents h) && leb (cents h) 20000) (multiple 500 (cents h)) a))))
+
+    above-200 : (ltb 20000 (cents h) && multiple 1000 (cents h)) ≡ true → (h % 5 ≡ 0) × (2500 ≤ cents h → h % 10 ≡ 0)
+    above-200 a = fives (times 10 h (2 * (cents h / 1000)) (omega (arith, eqb-true (cents h % 1000) 0 (and-right (ltb 20000 (cents h)) (multiple 1000 (cents h)) a))))
+
+-- in a $1 class Standard holds multiples of $5
+standard-five : (c : ClassRecord) (h : ℕ) → isDollarClass c ≡ true → standardGrid c (cents h) ≡ true → h % 10 ≡ 0
+standard-five c h d e = go (ltb (cents h) 5000) refl (multiple 500 (cents h)) refl (ap less (sym d) ∙ and-right (ladder (cents h)) (less (isDollarClass c)) e)
+  where
+    less : Bool → Bool
+    less t = not (t && ltb (cents h) 5000 && not (multiple 500 (cents h)))
+
+    go : (t : Bool) → ltb (cents h) 5000 ≡ t → (u : Bool) → multiple 500 (cents h) ≡ u → not (true && t && not u) ≡ true → h % 10 ≡ 0
+    go true a true b n = times 10 h (cents h / 500) (omega (arith, eqb-true (cents h % 500) 0 b))
+    go true a false b n = absurd (true≢false (sym n))
+    go false a u b n =
+        ladder-steps h (and-left (ladder (cents h)) (less (isDollarClass c)) e) .1 (omega (arith, ltb-false (cents h) 5000 a))
+
+-- a wing stands $2 or $3 above a multiple of $5
+module _ (p h : ℕ) where
+  abbrev base : ℕ
+  base = wingBase (cents h)
+
+  abbrev at-2 : Bool
+  at-2 = eqb (cents h) (base + 200)
+
+  abbrev at-3 : Bool
+  at-3 = eqb (cents h) (base + 300)
+
+  wing-whole : wingAt p base (cents h) ≡ true → h % 2 ≡ 0
+  wing-whole e =
+      ⊎-elim
+      (λ d.
+      ⊎-elim (λ a. two (and-left at-2 (leb p base) a)) (λ a. three (and-left at-3 (leb (base + 500) p) a))
+      (or-cases (at-2 && leb p base) (at-3 && leb (base + 500) p) d))
+      (λ a. two (and-left at-2 (ltb base p && leb p (base + 500)) a))
+      (or-cases (at-2 && leb p base || at-3 && leb (base + 500) p) (at-2 && (ltb base p && leb p (base + 500))) e)
+    where
+      two : at-2 ≡ true → h % 2 ≡ 0
+      two a = times 2 h (5 * (cents h / 500) + 2) (omega (arith, eqb-true (cents h) (base + 200) a))
+
+      three : at-3 ≡ true → h % 2 ≡ 0
+      three a = times 2 h (5 * (cents h / 500) + 3) (omega (arith, eqb-true (cents h) (base + 300) a))
 
 -- from a price of $50 on only Standard has a grid
 grid-five : (s : Setting) (g h : ℕ) → 5000 ≤ price s → 2500 ≤ cents h → gridOf s g h ≡ true → h % 10 ≡ 0
-grid-five s zero h l k e = ladder-five h k (and-left _ _ e)
+grid-five s zero h l k e = ladder-steps h (and-left _ _ e) .1 k
 grid-five s (suc zero) h l k e = absurd (true≢false (sym (simp (le-ltb (price s) 5000 l, and-false) at e)))
 grid-five s (suc (suc zero)) h l k e =
     let far : 500 < price s = omega arith in
     absurd (true≢false (sym (simp (lt-leb (price s) 500 far, and-false) at e)))
 grid-five s (suc (suc (suc g))) h l k e = absurd (true≢false (sym (simp (le-ltb (price s) 5000 l, and-false) at e)))
 
--- where the strike h is tried at the price p
-abbrev pub Tried : ℕ → ℕ → Type 0
-Tried p h = (lowestPermitted p ≤ h) × ((h ≤ highestPermitted p) × (h % stride p ≡ 0))
+module _ (s : Setting) (h : ℕ) (other : isHalfClass (s .class) ≡ false) where
+  -- a $1 class that is no half class has whole dollars only
+  grid-whole : (g : ℕ) → isDollarClass (s .class) ≡ true → gridOf s g h ≡ true → h % 2 ≡ 0
+  grid-whole zero d e = let m = standard-five (s .class) h d e in times 2 h (5 * (h / 10)) (omega arith)
+  grid-whole (suc zero) d e =
+      let a : (multiple 100 (cents h) && leb 100 (cents h) && leb (cents h) 5000) ≡ true = and-right (isNear s && isDollarClass (s .class) && ltb (price s) 5000) _ e in
+      let m : (multiple 100 (cents h) && leb 100 (cents h)) ≡ true = and-left _ (leb (cents h) 5000) a in
+      times 2 h (cents h / 100) (omega (arith, eqb-true (cents h % 100) 0 (and-left _ (leb 100 (cents h)) m)))
+  grid-whole (suc (suc zero)) d e = absurd (true≢false (sym (simp (other, and-false) at e)))
+  grid-whole (suc (suc (suc g))) d e =
+      let l : ℕ = wingBase (cents h) in
+      let a : (leb 500 l && leb l 4500 && wingAt (price s) l (cents h)) ≡ true = and-right (isLong s && isDollarClass (s .class) && ltb (price s) 5000) _ e in
+      wing-whole (price s) h (and-right (leb 500 l && leb l 4500) _ a)
 
-tried : (p h : ℕ) → 1 ≤ h → Ranged p h → (5000 ≤ p → 2500 ≤ cents h → h % 10 ≡ 0) → Tried p h
-tried p h l r f = go (leb p 2000) refl (ltb p 5000) refl
+  -- a class of neither program has Standard only
+  grid-ladder : (g : ℕ) → isDollarClass (s .class) ≡ false → gridOf s g h ≡ true → h % 5 ≡ 0
+  grid-ladder zero d e = ladder-steps h (and-left _ _ e) .0
+  grid-ladder (suc zero) d e = absurd (true≢false (sym (simp (d, and-false) at e)))
+  grid-ladder (suc (suc zero)) d e = absurd (true≢false (sym (simp (other, and-false) at e)))
+  grid-ladder (suc (suc (suc g))) d e = absurd (true≢false (sym (simp (d, and-false) at e)))
+
+grid-stride : (s : Setting) (g h : ℕ) → (5000 ≤ price s → 2500 ≤ cents h) → gridOf s g h ≡ true → h % stride (s .class) ≡ 0
+grid-stride s g h low e = go (leb 5000 (price s)) refl (isHalfClass (s .class)) refl (isDollarClass (s .class)) refl
   where
-    go : (t : Bool) → leb p 2000 ≡ t → (u : Bool) → ltb p 5000 ≡ u →
-        (cond t 1 (cond u ((p + 99) / 100) ((p + 999) / 1000 * 10)) ≤ h) × ((h ≤ highestPermitted p) × (h % cond {A = ℕ} u 1 10 ≡ 0))
-    go true a true b = (l, (r .high, omega arith))
-    go true a false b = absurd (omega (arith, leb-true p 2000 a, ltb-false p 5000 b))
-    go false a true b = (omega (arith, r .low (leb-false p 2000 a)), (r .high, omega arith))
-    go false a false b =
-        let k : p ≤ 2 * cents h = r .low (leb-false p 2000 a) in
-        let m : h % 10 ≡ 0 = f (ltb-false p 5000 b) (omega (arith, ltb-false p 5000 b)) in
-        (omega arith, (r .high, m))
+    go : (t : Bool) → leb 5000 (price s) ≡ t → (u : Bool) → isHalfClass (s .class) ≡ u → (v : Bool) → isDollarClass (s .class) ≡ v →
+        h % cond {A = ℕ} t 10 (cond {A = ℕ} u 1 (cond {A = ℕ} v 2 5)) ≡ 0
+    go true a u b v d = let l : 5000 ≤ price s = leb-true 5000 (price s) a in grid-five s g h l (low l) e
+    go false a true b v d = mod-one h
+    go false a false b true d = grid-whole s h b g d e
+    go false a false b false d = grid-ladder s h b g d e
+
+-- where the strike h is tried in the class
+abbrev pub Tried : ClassRecord → ℕ → Type 0
+Tried c h = (lowestPermitted c ≤ h) × ((h ≤ highestPermitted (c .close)) × (h % stride c ≡ 0))
 
 some-cases : {A B P : Type 0} (test : B → Bool) (f : A → B) (xs : List A) → ((x : A) → test (f x) ≡ true → P) → some test (map f xs) ≡ true → P
 some-cases test f [] each e = absurd (true≢false (sym e))
 some-cases test f (x ∷ xs) each e = ⊎-elim (each x) (some-cases test f xs each) (or-cases (test (f x)) (some test (map f xs)) e)
 
-pub accepted-tried : (s : Setting) (standing : List Standing) (h : ℕ) → 1 ≤ h → isAccepted (judgement s standing h) ≡ true → Tried (price s) h
+pub accepted-tried : (s : Setting) (standing : List Standing) (h : ℕ) → 1 ≤ h → isAccepted (judgement s standing h) ≡ true → Tried (s .class) h
 accepted-tried s standing h l e =
     some-cases passes (rowOf s standing h) grounds row (sym (accepted-passes (rowsOf s standing h)) ∙ e)
   where
-    row : (g : ℕ) → passes (rowOf s standing h g) ≡ true → Tried (price s) h
+    row : (g : ℕ) → passes (rowOf s standing h g) ≡ true → Tried (s .class) h
     row g p =
         let a : (gridOf s g h && rangeOf s g h) ≡ true = and-left (gridOf s g h && rangeOf s g h) (spacingOf s standing g h) p in
-        tried (price s) h l (ground-bound s g h (and-right (gridOf s g h) (rangeOf s g h) a))
-        (λ m k. grid-five s g h m k (and-left (gridOf s g h) (rangeOf s g h) a))
+        let r : Ranged (price s) h = ground-bound s g h (and-right (gridOf s g h) (rangeOf s g h) a) in
+        let m : h % stride (s .class) ≡ 0 =
+        grid-stride s g h (λ k. omega (arith, r .low (omega arith))) (and-left (gridOf s g h) (rangeOf s g h) a) in
+        (lowest-least (s .class) h l (λ k. omega (arith, r .low k)) m, (r .high, m))
 
-pub refused-untried : (s : Setting) (standing : List Standing) (h : ℕ) → 1 ≤ h → (Tried (price s) h → ⊥) → isAccepted (judgement s standing h) ≡ false
+pub refused-untried : (s : Setting) (standing : List Standing) (h : ℕ) → 1 ≤ h → (Tried (s .class) h → ⊥) → isAccepted (judgement s standing h) ≡ false
 refused-untried s standing h l untried = go (isAccepted (judgement s standing h)) refl
   where
     go : (t : Bool) → isAccepted (judgement s standing h) ≡ t → t ≡ false

@@ -1,4 +1,5 @@
 pub mod Tests
+pub mod Strides
 pub mod Five
 pub mod Grounds
 pub mod Rows

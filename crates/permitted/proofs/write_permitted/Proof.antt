@@ -8,10 +8,10 @@ use Rattle.permitted.proofs.write_permitted.Statement.{statement}
 use Rattle.permitted.proofs.write_permitted.Tie as tie
 
 abbrev Inv-loop : tie.InvT-loop
-Inv-loop s standing out₀ p high step from₀ count₀ h₀ out from count h = Trying s standing out₀ high step out from count h
+Inv-loop s standing out₀ high step from₀ count₀ h₀ out from count h = Trying s standing out₀ high step out from count h
 
 abbrev μ-loop : tie.MeasureT-loop
-μ-loop s standing out₀ p high step from₀ count₀ h₀ out from count h = 20000 - h
+μ-loop s standing out₀ high step from₀ count₀ h₀ out from count h = 20000 - h
 
 highest-permitted-requires : tie.Need-highest-permitted-requires Inv-loop μ-loop
 highest-permitted-requires c κs = search needs
@@ -28,7 +28,7 @@ loop-holds c =
 
 is-permitted-at-requires : tie.Need-is-permitted-at-requires Inv-loop μ-loop
 is-permitted-at-requires c κs =
-    trying-here _ _ (c .before .loop .inv) (c .before .before .before .before .before .before .before .pre) (c .loop-test .taken)
+    trying-here _ _ (c .before .loop .inv) (c .before .before .before .before .before .before .before .before .pre) (c .loop-test .taken)
 
 cast-put : tie.Need-cast-put Inv-loop μ-loop
 cast-put c = search needs
