@@ -8,10 +8,11 @@ use native.Mathlib.Omega.{arith}
 use lib.ListN.{length}
 use lib.Dec.{T, T-not}
 use Rattle.rule.specs.Lists.{every, some, only}
+use Rattle.rule.proofs.Near.{not-some}
 use Rattle.book.specs.Facts.{inserted, sum}
 use Rattle.book.specs.Books.{rises}
 use Rattle.book.proofs.Tests.{and-intro, ands}
-use Rattle.book.proofs.Alternatives.{or-cases, nor-left, nor-right}
+use Rattle.book.proofs.Alternatives.{or-cases}
 
 -- ---- a test of each element
 
@@ -41,13 +42,6 @@ module _ {A : Type 0} where
       go : (b : Bool) → keep x ≡ b → T (every q (only keep xs)) → T (every q (cond b (x ∷ only keep xs) (only keep xs)))
       go true e rest = let a : T (q x) = f x (rw e tt) (search ands) in search and-intro
       go false e rest = rest
-
-  pub not-some : (p : A → Bool) (xs : List A) → T (not (some p xs)) → T (every (λ x. not (p x)) xs)
-  not-some p [] t = tt
-  not-some p (x ∷ xs) t =
-      let a : T (not (p x)) = nor-left (p x) (some p xs) t in
-      let b : T (every (λ x. not (p x)) xs) = not-some p xs (nor-right (p x) (some p xs) t) in
-      search and-intro
 
   pub some-map : {B : Type 0} (p : B → Bool) (q : A → Bool) (g : A → B) → ((x : A) → p (g x) ≡ q x) → (xs : List A) → some p (map g xs) ≡ some q xs
   some-map p q g f [] = refl
@@ -194,4 +188,4 @@ module _ {A : Type 0} (same before : A → A → Bool) (order : StrictOrder same
       (y : A) (xs : List A) → T (not (some (same y) xs)) → T (rises before xs) → T (rises before (inserted before y xs))
   rises-inserted y xs n t =
       ordered-rises same before order (inserted before y xs)
-      (ordered-inserted y xs (not-some (same y) xs n) (rises-ordered same before order xs t))
+      (ordered-inserted y xs (subst T (not-some (same y) xs) n) (rises-ordered same before order xs t))

@@ -1,6 +1,6 @@
 -- A list that rises by a number of its elements is what stands below a number, at it and above it, and an edit at that number leaves what stands beside it: by induction on the list. Assumes nothing.
 use Prim.Native.Nat.{ℕ, _≤_, _<_}
-use mathlib.Core.Path.{_≡_, refl, sym, ap, _∙_}
+use mathlib.Core.Path.{_≡_, refl, sym, ap, _∙_, subst}
 use mathlib.Core.Bool.{Bool, true, false, cond, not, _&&_, _||_, and-comm}
 use mathlib.Core.List.{List, [], _∷_, _++_, map}
 use mathlib.Core.Logic.{_⊎_, inl, inr}
@@ -8,10 +8,11 @@ use native.Mathlib.Omega.{arith}
 use lib.Dec.{T, eqb, leb, ltb, leb→le, le→leb, ltb→lt, eqb→eq}
 use borrow.Author.Tests.{eqb-true, lt-ltb, le-ltb, eq-eqb, ne-eqb, not-true}
 use Rattle.rule.specs.Lists.{every, some, only}
+use Rattle.rule.proofs.Near.{not-some}
 use Rattle.book.specs.Facts.{inserted}
 use Rattle.book.proofs.Tests.{and-intro, ands, T-true}
 use Rattle.book.proofs.Alternatives.{or-left, or-right, trichotomy}
-use Rattle.book.proofs.Lists.{every-imply, not-some, ordered}
+use Rattle.book.proofs.Lists.{every-imply, ordered}
 
 module _ {A : Type 0} where
   -- none is kept by p where each passes q, which p excludes
@@ -22,7 +23,7 @@ module _ {A : Type 0} where
 
   pub only-absent : (p : A → Bool) (xs : List A) → T (not (some p xs)) → only p xs ≡ []
   only-absent p xs t =
-      only-none p (λ x. not (p x)) (λ x u. not-true (p x) (T-true (not (p x)) u)) xs (not-some p xs t)
+      only-none p (λ x. not (p x)) (λ x u. not-true (p x) (T-true (not (p x)) u)) xs (subst T (not-some p xs) t)
 
   pub every-kept : (p : A → Bool) (xs : List A) → T (every p (only p xs))
   every-kept p [] = tt

@@ -16,14 +16,7 @@ use Rattle.book.specs.Calls.{Call, callM, callO, callD, callL, callJ, callX, ca
 use Rattle.book.specs.Letters.{callOfOne, callOfThree, callOfFive}
 use Rattle.book.specs.Made.{Made}
 use Rattle.class_call.proofs.Ways.{beyond-limits}
-
-none-either : (b : Bool) → cond {A = List ℕ} b [] [] ≡ []
-none-either true = refl
-none-either false = refl
-
-if-same : (b : Bool) (v : List ℕ) → v ≡ cond b v v
-if-same true v = refl
-if-same false v = refl
+use Rattle.dispatch.proofs.Choices.{same-either}
 
 -- a call that lists nothing leaves any second run as it is
 pub any-second :
@@ -31,7 +24,7 @@ pub any-second :
     → Made x w v r w′ v
 unfolding written
 any-second {x} {w} v none m =
-    record { number = m .number; value = m .value; words = m .words; second = simp (none, none-either) (if-same (isBook w) v) }
+    record { number = m .number; value = m .value; words = m .words; second = simp (none, same-either) }
 
 pub malformed-refused : (w v : List ℕ) → T (isBook w) → Made malformed w v (Refused BeyondLimits) w v
 unfolding listed

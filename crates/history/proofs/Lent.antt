@@ -1,7 +1,6 @@
 -- A call that is lent the front of a pool: it is the call of its letter and numbers with that room, changes the facts alike, and leaves the rest of the pool; by cases on the call, since what it writes fits. Assumes nothing.
 use Prim.Native.Nat.{ℕ, _≤_, zero-le, min}
 use mathlib.Core.Path.{_≡_, refl, sym, ap, _∙_}
-use mathlib.Core.Bool.{Bool, true, false, cond}
 use mathlib.Core.List.{List, [], _∷_, _++_, append-assoc}
 use native.Mathlib.Omega.{arith}
 use lib.ListN.{length, take, drop, length-take, take-append-drop}
@@ -16,25 +15,22 @@ use Rattle.book.specs.Letters.{callOf}
 use Rattle.book.specs.Made.{over, Made}
 use Rattle.book.specs.CallLists.{lentWithin}
 use Rattle.book.proofs.Tests.{T-true}
+use Rattle.dispatch.proofs.Choices.{same-either, under-choice}
 use Rattle.history.specs.Turns.{lent}
 use Rattle.history.specs.Runs.{Lent}
 use Rattle.history.proofs.Made.{written-fits}
 
 -- ---- the call that at most p words are lent
 
-lent-if : (p : ℕ) (t : Bool) (x y : Call) → lentWithin p (cond t x y) ≡ cond t (lentWithin p x) (lentWithin p y)
-lent-if p true x y = refl
-lent-if p false x y = refl
-
 lent-call :
     (p room letter : ℕ) (ns : List ℕ) → lentWithin p (callOf room letter ns) ≡ callOf (min room p) letter ns
 unfolding lentWithin callOf
 lent-call p room letter [] = refl
-lent-call p room letter (a ∷ []) = simp lent-if
-lent-call p room letter (a ∷ b ∷ []) = simp lent-if
-lent-call p room letter (a ∷ b ∷ c ∷ []) = simp lent-if
+lent-call p room letter (a ∷ []) = simp (under-choice (lentWithin p))
+lent-call p room letter (a ∷ b ∷ []) = simp (under-choice (lentWithin p))
+lent-call p room letter (a ∷ b ∷ c ∷ []) = simp (under-choice (lentWithin p))
 lent-call p room letter (a ∷ b ∷ c ∷ d ∷ []) = refl
-lent-call p room letter (a ∷ b ∷ c ∷ d ∷ e ∷ []) = simp lent-if
+lent-call p room letter (a ∷ b ∷ c ∷ d ∷ e ∷ []) = simp (under-choice (lentWithin p))
 lent-call p room letter (a ∷ b ∷ c ∷ d ∷ e ∷ f ∷ more) = refl
 
 lent-within : (p : ℕ) (x : Call) → lent (lentWithin p x) ≤ p
@@ -52,10 +48,6 @@ lent-within p (callR c) = zero-le
 lent-within p (callA c m room) = omega arith
 lent-within p malformed = zero-le
 
-unchanged : (t : Bool) (f : Facts) → cond t f f ≡ f
-unchanged true f = refl
-unchanged false f = refl
-
 -- only `A` is another call, and it changes nothing
 pub lent-step : (n p : ℕ) (x : Call) (f : Facts) → step n (lentWithin p x) f ≡ step n x f
 unfolding lentWithin step changed
@@ -70,7 +62,7 @@ lent-step n p (callX c m h) f = refl
 lent-step n p (callI c m h a b) f = refl
 lent-step n p (callR c) f = refl
 lent-step n p (callA c m room) f =
-    unchanged (eqb (numberOf n (callA c m (min room p)) f) 0) f ∙ sym (unchanged (eqb (numberOf n (callA c m room) f) 0) f)
+    same-either (eqb (numberOf n (callA c m (min room p)) f) 0) f ∙ sym (same-either (eqb (numberOf n (callA c m room) f) 0) f)
 lent-step n p malformed f = refl
 
 -- ---- the front of the pool

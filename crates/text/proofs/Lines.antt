@@ -1,7 +1,7 @@
 -- A line is read as the call that it is, its numbers capped, and as malformed where it is of no form: by whether the reading ends well. Assumes nothing.
 use mathlib.Core.Path.{_≡_, refl, sym, ap, _∙_}
 use mathlib.Core.Logic.{_⊎_, inl, inr, ⊎-elim}
-use mathlib.Core.Bool.{Bool, true, false, cond, _&&_}
+use mathlib.Core.Bool.{Bool, true, false, _&&_}
 use mathlib.Core.List.{List, [], _∷_, map, map-map}
 use Prim.Native.Nat.{ℕ, suc, _≤_, _<_}
 use native.Mathlib.Omega.{arith}
@@ -12,8 +12,9 @@ use borrow.Author.Tests.{le-leb}
 use Rattle.word.specs.Limits.{between}
 use Rattle.word.proofs.Tests.{and-both}
 use Rattle.rule.specs.Lists.{every}
-use Rattle.book.specs.Calls.{Call, malformed}
+use Rattle.book.specs.Calls.{malformed}
 use Rattle.book.specs.Letters.{callOf}
+use Rattle.dispatch.proofs.Choices.{under-choice}
 use Rattle.text.specs.declared.line.Phase.{Phase}
 use Rattle.text.specs.declared.line.Phase.the-variants.{Start, Letter, Space, Zero, Number, Malformed}
 use Rattle.text.specs.declared.line.Line.{Line}
@@ -53,19 +54,15 @@ formed-or-malformed room s = parted room s (firstPart s) refl
 
 -- ---- the call that is read
 
-capped-if : (t : Bool) (x y : Call) → cappedCall (cond t x y) ≡ cond t (cappedCall x) (cappedCall y)
-capped-if true x y = refl
-capped-if false x y = refl
-
 -- the capped call is the call of the capped numbers
 capped-call : (room c : ℕ) (ns : List ℕ) → cappedCall (callOf room c ns) ≡ callOf room c (map capped ns)
 unfolding cappedCall callOf
 capped-call room c [] = refl
-capped-call room c (a ∷ []) = simp capped-if
-capped-call room c (a ∷ b ∷ []) = simp capped-if
-capped-call room c (a ∷ b ∷ d ∷ []) = simp capped-if
+capped-call room c (a ∷ []) = simp (under-choice cappedCall)
+capped-call room c (a ∷ b ∷ []) = simp (under-choice cappedCall)
+capped-call room c (a ∷ b ∷ d ∷ []) = simp (under-choice cappedCall)
 capped-call room c (a ∷ b ∷ d ∷ e ∷ []) = refl
-capped-call room c (a ∷ b ∷ d ∷ e ∷ f ∷ []) = simp capped-if
+capped-call room c (a ∷ b ∷ d ∷ e ∷ f ∷ []) = simp (under-choice cappedCall)
 capped-call room c (a ∷ b ∷ d ∷ e ∷ f ∷ g ∷ more) = refl
 
 -- the numbers that a line of the form keeps

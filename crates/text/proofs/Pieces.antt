@@ -2,11 +2,12 @@
 use Prim.Native.Nat.{ℕ}
 use mathlib.Core.Path.{_≡_, refl, sym, ap, _∙_}
 use mathlib.Core.Logic.{⊎-elim}
-use mathlib.Core.Bool.{Bool, true, false, cond}
+use mathlib.Core.Bool.{true, false}
 use mathlib.Core.List.{List, [], _∷_, _++_, map, append-assoc, append-nil}
 use lib.Dec.{eqb}
 use Rattle.book.specs.Calls.{Call, callM, callO, callC, callV, callD, callL, callJ, callX, callI, callR, callA, malformed, steps}
 use Rattle.book.specs.CallLists.{secondAfter}
+use Rattle.dispatch.proofs.Choices.{same-either, under-choice}
 use Rattle.text.specs.declared.line.Phase.{Phase}
 use Rattle.text.specs.declared.line.Phase.the-variants.{Start, Letter, Space, Zero, Number, Malformed}
 use Rattle.text.specs.declared.line.Line.{Line}
@@ -28,21 +29,13 @@ run-append l [] b = refl
 run-append l (x ∷ a) b = run-append (feedOf l x) a b
 
 -- a line with a byte more has begun
-begun-if : (t : Bool) (k l : Line) → hasBegun (cond t k l .phase) ≡ cond t (hasBegun (k .phase)) (hasBegun (l .phase))
-begun-if true k l = refl
-begun-if false k l = refl
-
-either-true : (t : Bool) → cond t true true ≡ true
-either-true true = refl
-either-true false = refl
-
 begun-fed : (p : Phase) (l : Line) (b : ℕ) → hasBegun (feedBy p l b .phase) ≡ true
 unfolding feedBy hasBegun
-begun-fed Start l b = simp (begun-if, either-true)
-begun-fed Letter l b = simp (begun-if, either-true)
-begun-fed Space l b = simp (begun-if, either-true)
-begun-fed Zero l b = simp (begun-if, either-true)
-begun-fed Number l b = simp (begun-if, either-true)
+begun-fed Start l b = simp (under-choice (λ (k : Line). hasBegun (k .phase)), same-either)
+begun-fed Letter l b = simp (under-choice (λ (k : Line). hasBegun (k .phase)), same-either)
+begun-fed Space l b = simp (under-choice (λ (k : Line). hasBegun (k .phase)), same-either)
+begun-fed Zero l b = simp (under-choice (λ (k : Line). hasBegun (k .phase)), same-either)
+begun-fed Number l b = simp (under-choice (λ (k : Line). hasBegun (k .phase)), same-either)
 begun-fed Malformed l b = refl
 
 begun-run : (l : Line) (b : ℕ) (s : List ℕ) → hasBegun (runOf l (b ∷ s) .phase) ≡ true
