@@ -25,7 +25,7 @@
 #![warn(missing_docs)]
 
 mod answer;
-mod library;
+pub mod library;
 #[cfg(test)]
 mod tests;
 

@@ -1,14 +1,17 @@
-//! The functions of the static library, each with a safe one over it.
+//! The functions of the static library over any words, each with a safe one over it: for callers who hold a run
+//! and no [`Book`](crate::Book). Over words that are no book each call replies 1 and changes nothing.
 //!
 //! They are safe for any slices: a slice's pointer is non-null, aligned and valid for its length (an
 //! empty slice's too, of which nothing is read or written), and Rust's borrows keep the slices of
 //! one call apart and everyone else from writing them. The library keeps no pointer after a call.
 
 /// The number and the value of an answer.
-#[derive(Clone, Copy)]
+#[derive(Clone, Copy, Debug, PartialEq, Eq)]
 #[repr(C)]
 pub struct Reply {
+    /// 0 where the call is accepted, else the number of its refusal.
     pub number: u32,
+    /// What the call answers beside it; 0 where nothing is said.
     pub value: u32,
 }
 
@@ -76,66 +79,92 @@ mod raw {
     }
 }
 
+/// Whether the run is a book.
+#[inline]
 pub fn is_book(run: &[u32]) -> bool {
     // SAFETY: the slice is valid for reading its length, and nobody writes it during the borrow.
     unsafe { raw::strike_book_is_book(run.as_ptr(), run.len()) }
 }
 
+/// Makes a fresh book of the run, whatever it holds.
+#[inline]
 pub fn fresh(run: &mut [u32]) -> Reply {
     // SAFETY: the slice is valid for reading and writing its length, and borrowed by us alone.
     unsafe { raw::strike_book_fresh(run.as_mut_ptr(), run.len()) }
 }
 
+/// `M`: sets the current month.
+#[inline]
 pub fn set_month(run: &mut [u32], m: u32) -> Reply {
     // SAFETY: the slice is valid for reading and writing its length, and borrowed by us alone.
     unsafe { raw::strike_book_set_month(run.as_mut_ptr(), run.len(), m) }
 }
 
+/// `O`: opens a class.
+#[inline]
 pub fn open_class(run: &mut [u32], c: u32) -> Reply {
     // SAFETY: the slice is valid for reading and writing its length, and borrowed by us alone.
     unsafe { raw::strike_book_open_class(run.as_mut_ptr(), run.len(), c) }
 }
 
+/// `C`: sets the close.
+#[inline]
 pub fn set_close(run: &mut [u32], c: u32, p: u32) -> Reply {
     // SAFETY: the slice is valid for reading and writing its length, and borrowed by us alone.
     unsafe { raw::strike_book_set_close(run.as_mut_ptr(), run.len(), c, p) }
 }
 
+/// `V`: sets the volume.
+#[inline]
 pub fn set_volume(run: &mut [u32], c: u32, n: u32) -> Reply {
     // SAFETY: the slice is valid for reading and writing its length, and borrowed by us alone.
     unsafe { raw::strike_book_set_volume(run.as_mut_ptr(), run.len(), c, n) }
 }
 
+/// `D`: gives the program p the designation d.
+#[inline]
 pub fn designate(run: &mut [u32], c: u32, p: u32, d: u32) -> Reply {
     // SAFETY: the slice is valid for reading and writing its length, and borrowed by us alone.
     unsafe { raw::strike_book_designate(run.as_mut_ptr(), run.len(), c, p, d) }
 }
 
+/// `L`: adds a strike; its value is the ground.
+#[inline]
 pub fn list_strike(run: &mut [u32], c: u32, m: u32, h: u32) -> Reply {
     // SAFETY: the slice is valid for reading and writing its length, and borrowed by us alone.
     unsafe { raw::strike_book_list_strike(run.as_mut_ptr(), run.len(), c, m, h) }
 }
 
+/// `J`: judges a strike and adds nothing; its value is the ground.
+#[inline]
 pub fn judge_strike(run: &[u32], c: u32, m: u32, h: u32) -> Reply {
     // SAFETY: the slice is valid for reading its length, and nobody writes it during the borrow.
     unsafe { raw::strike_book_judge_strike(run.as_ptr(), run.len(), c, m, h) }
 }
 
+/// `X`: delists a strike.
+#[inline]
 pub fn delist_strike(run: &mut [u32], c: u32, m: u32, h: u32) -> Reply {
     // SAFETY: the slice is valid for reading and writing its length, and borrowed by us alone.
     unsafe { raw::strike_book_delist_strike(run.as_mut_ptr(), run.len(), c, m, h) }
 }
 
+/// `I`: sets the put mark a and the call mark b.
+#[inline]
 pub fn mark_strike(run: &mut [u32], c: u32, m: u32, h: u32, a: u32, b: u32) -> Reply {
     // SAFETY: the slice is valid for reading and writing its length, and borrowed by us alone.
     unsafe { raw::strike_book_mark_strike(run.as_mut_ptr(), run.len(), c, m, h, a, b) }
 }
 
+/// `R`: reviews a class; its value is how many strikes it removed.
+#[inline]
 pub fn review_class(run: &mut [u32], c: u32) -> Reply {
     // SAFETY: the slice is valid for reading and writing its length, and borrowed by us alone.
     unsafe { raw::strike_book_review_class(run.as_mut_ptr(), run.len(), c) }
 }
 
+/// `A`: writes the permitted strikes to the second run; its value is their count.
+#[inline]
 pub fn list_permitted(run: &[u32], second: &mut [u32], c: u32, m: u32) -> Reply {
     let (at, length) = (second.as_mut_ptr(), second.len());
     // SAFETY: `run` is valid for reading and `second` for reading and writing their lengths. The
@@ -143,6 +172,8 @@ pub fn list_permitted(run: &[u32], second: &mut [u32], c: u32, m: u32) -> Reply 
     unsafe { raw::strike_book_list_permitted(run.as_ptr(), run.len(), at, length, c, m) }
 }
 
+/// Reads a whole sheet, two words of `answers` a line; answers how many lines it has.
+#[inline]
 pub fn run_sheet(run: &mut [u32], second: &mut [u32], sheet: &[u8], answers: &mut [u32]) -> usize {
     // SAFETY: each slice is valid for its length, the three that are written are borrowed by us
     // alone, so no two overlap; nobody writes the sheet.

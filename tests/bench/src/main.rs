@@ -4,6 +4,7 @@
 mod books;
 mod clock;
 mod programs;
+#[path = "../../compare/src/proved.rs"]
 mod proved;
 mod side;
 

@@ -2,6 +2,7 @@
 
 use crate::proved;
 use second::{lines, make_on_words, parse_line, Call, PlainBook};
+use strikebook::library;
 
 #[derive(Clone, Copy, PartialEq, Eq)]
 pub enum Side {
@@ -28,10 +29,13 @@ pub struct Lent {
 #[inline(always)]
 pub fn work(side: Side, work: &Work, run: &mut [u32], lent: &mut Lent) -> (u32, u32) {
     match (work, side) {
-        (Work::IsBook, Side::Proved) => (proved::is_book(run) as u32, 0),
+        (Work::IsBook, Side::Proved) => (library::is_book(run) as u32, 0),
         (Work::IsBook, Side::Hand) => (hand::is_book(run) as u32, 0),
         (Work::IsBook, Side::Plain) => (PlainBook::read(run).is_some() as u32, 0),
-        (Work::Call(call), Side::Proved) => proved::make(run, &mut lent.second, call),
+        (Work::Call(call), Side::Proved) => {
+            let reply = proved::make(run, &mut lent.second, call);
+            (reply.number, reply.value)
+        }
         (Work::Call(call), Side::Hand) => hand_make(run, &mut lent.second, call),
         (Work::Call(call), Side::Plain) => {
             let reply = make_on_words(run, &mut lent.second, call);
@@ -40,7 +44,7 @@ pub fn work(side: Side, work: &Work, run: &mut [u32], lent: &mut Lent) -> (u32, 
         (Work::Sheet(sheet), _) => {
             let (second, answers) = (&mut lent.second, &mut lent.answers);
             let lines = match side {
-                Side::Proved => proved::run_sheet(run, second, sheet, answers),
+                Side::Proved => library::run_sheet(run, second, sheet, answers),
                 Side::Hand => hand::run_sheet(run, second, sheet, answers),
                 Side::Plain => plain_sheet(run, second, sheet, answers),
             };

@@ -2,8 +2,9 @@
 
 use crate::pair::{same, same_words, Pair};
 use crate::tally::Tally;
-use crate::{library, written};
+use crate::written;
 use second::{parse_line, printed, Reply};
+use strikebook::library;
 
 /// What `A` prints for these strikes.
 fn permitted(strikes: &[u32]) -> String {

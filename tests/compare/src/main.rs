@@ -5,9 +5,9 @@
 mod books;
 mod draw;
 mod examples;
-mod library;
 mod lists;
 mod pair;
+mod proved;
 mod random;
 mod runs;
 mod sheets;

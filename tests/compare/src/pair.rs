@@ -1,8 +1,9 @@
 //! One call made on both sides, and what it left compared.
 
-use crate::library;
+use crate::proved;
 use crate::tally::Tally;
 use second::{make_on_words, Call, PlainBook, Reply};
+use strikebook::library;
 
 /// A book on both sides: the words that the library has, and the plain book.
 pub struct Pair {
@@ -36,7 +37,7 @@ impl Pair {
         let mut expected = second.to_vec();
         let mut written = second.to_vec();
         let reply = self.plain.make(call, &mut expected);
-        let answer = library::make(&mut self.words, &mut written, call);
+        let answer = proved::make(&mut self.words, &mut written, call);
         same_answer(answer, &reply)?;
         same_words("the run", &self.words, &self.plain.words())?;
         same_words("the second run", &written, &expected)?;
@@ -55,7 +56,7 @@ pub fn make_on_any(
     let (mut expected, mut left) = (words.to_vec(), words.to_vec());
     let (mut expected_second, mut left_second) = (second.to_vec(), second.to_vec());
     let reply = make_on_words(&mut expected, &mut expected_second, call);
-    let answer = library::make(&mut left, &mut left_second, call);
+    let answer = proved::make(&mut left, &mut left_second, call);
     same_answer(answer, &reply)?;
     same_words("the run", &left, &expected)?;
     same_words("the second run", &left_second, &expected_second)?;

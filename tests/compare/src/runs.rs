@@ -2,12 +2,12 @@
 
 use crate::books;
 use crate::draw::{self, Mix};
-use crate::library;
 use crate::pair::{make_on_any, same, same_words};
 use crate::random::Random;
 use crate::tally::Tally;
 use crate::written::line;
 use second::{Call, PlainBook};
+use strikebook::library;
 
 const RUNS: u64 = 25_000;
 

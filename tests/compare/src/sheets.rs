@@ -2,13 +2,13 @@
 
 use crate::books;
 use crate::draw::{self, Mix};
-use crate::library;
 use crate::pair::{same, same_words};
 use crate::random::Random;
 use crate::runs::damaged;
 use crate::tally::Tally;
 use crate::written::{letter, line_of, numbers};
 use second::{lines, parse_line, PlainBook};
+use strikebook::library;
 
 const SHEETS: u64 = 9_000;
 
