@@ -6,7 +6,7 @@ use mathlib.Core.Bool.{true, false, not, _||_}
 use mathlib.Core.List.{List, [], _∷_, _++_, map}
 use native.Mathlib.Omega.{arith}
 use lib.ListN.{length, take, drop, getD, replicate, length-map, length-drop, length-replicate, take-append-drop}
-use lib.Seq.{drop-cons, drop-drop, take-all, take-at, drop-at, length-take-le}
+use lib.Seq.{drop-cons, drop-drop, take-nil, take-all, take-at, drop-at, length-take-le}
 use lib.Dec.{T, eqb, leb, ltb, leb→le, le→leb, eqb→eq}
 use borrow.Author.Tests.{le-leb, ne-eqb, not-true, not-false}
 use Rattle.word.specs.declared.codec.Word.the-variants.{Head}
@@ -40,6 +40,15 @@ front ws = take (usedIn ws - 1) (drop 1 ws)
 
 abbrev pub past : List ℕ → List ℕ
 past ws = take (length ws - usedIn ws) (drop (usedIn ws) ws)
+
+-- the words used, of which the head is dropped
+pub used-front : (u : ℕ) (ws : List ℕ) → drop 1 (take (u - 0) ws) ≡ take (u - 1) (drop 1 ws)
+used-front zero ws = refl
+used-front (suc u) [] = simp take-nil
+used-front (suc u) (w ∷ ws) =
+    let all : suc u - 0 ≡ suc u = omega arith in
+    let rest : suc u - 1 ≡ u = omega arith in
+    rw (all, rest)
 
 record Parts (ws : List ℕ) : Type 0 where
   long : T (isLength (length ws))

@@ -20,17 +20,17 @@ use Rattle.scan.proofs.Tests.{or-none}
 use Rattle.scan.proofs.Places.{three-at}
 use Rattle.scan.proofs.Figures.{FiguresThen, figures, classes-length}
 
--- the classes are what they are after those before i, of which `last` is the last number
+-- the classes after the head are what they are after those before i, of which `last` is the last number
 pub record Walked (now : ℕ) (ws : List ℕ) (i last dollars halves : ℕ) : Type 0 where
   pub within : i ≤ length ws
   pub dollarCapped : dollars ≤ capOf 1
   pub halfCapped : halves ≤ capOf 2
-  pub same : Classes now 0 0 0 ws ↔ Classes now last dollars halves (drop i ws)
+  pub same : Classes now 0 0 0 (drop 1 ws) ↔ Classes now last dollars halves (drop i ws)
 
 -- the same after the figures at i
 pub record Counted (now : ℕ) (ws : List ℕ) (i last dollars halves : ℕ) : Type 0 where
   pub same :
-      Classes now 0 0 0 ws
+      Classes now 0 0 0 (drop 1 ws)
       ↔ ClassesWhere now last dollars halves (λ xs. SeriesThen now 0 (isFrom 0) xs (drop (i + 3) ws))
 
 -- the three words at i are those of a class's figures
@@ -38,10 +38,10 @@ abbrev areFiguresAt : List ℕ → ℕ → ℕ → Bool
 areFiguresAt ws i last =
     isClassAbove last (getD ws i 0) && (isCloseWord (getD ws (i + 1) 0) && isVolumeWord (getD ws (i + 2) 0))
 
-pub walked-start : (now : ℕ) (ws : List ℕ) → Walked now ws 0 0 0 0
-walked-start now ws =
+pub walked-start : (now : ℕ) (ws : List ℕ) → 1 ≤ length ws → Walked now ws 1 0 0 0
+walked-start now ws head =
     record {
-      within = omega arith;
+      within = head;
       dollarCapped = omega arith;
       halfCapped = omega arith;
       same = Iff·rfl;
@@ -49,7 +49,7 @@ walked-start now ws =
 
 module _ {now : ℕ} {ws : List ℕ} {i last dollars halves : ℕ} (v : Walked now ws i last dollars halves) where
   -- no class stands in fewer than three words
-  pub walked-short : i < length ws → length ws - i < 3 → Classes now 0 0 0 ws → ⊥
+  pub walked-short : i < length ws → length ws - i < 3 → Classes now 0 0 0 (drop 1 ws) → ⊥
   walked-short l short r =
       omega (
         arith,
@@ -58,7 +58,7 @@ module _ {now : ℕ} {ws : List ℕ} {i last dollars halves : ℕ} (v : Walked n
       )
 
   -- no class is left
-  pub walked-end : length ws ≤ i → Classes now 0 0 0 ws
+  pub walked-end : length ws ≤ i → Classes now 0 0 0 (drop 1 ws)
   walked-end l =
       v .same .1
       (record {
@@ -73,14 +73,14 @@ module _ {now : ℕ} {ws : List ℕ} {i last dollars halves : ℕ} (v : Walked n
 
   module _ (room : 3 ≤ length ws - i) where
     step :
-        Classes now 0 0 0 ws
+        Classes now 0 0 0 (drop 1 ws)
         ↔ FiguresThen now last dollars halves (getD ws i 0) (getD ws (i + 1) 0) (getD ws (i + 2) 0) (drop (i + 3) ws)
     step =
         Iff·trans (v .same)
         (rw (three-at ws i (omega arith))
         (figures now last dollars halves (getD ws i 0) (getD ws (i + 1) 0) (getD ws (i + 2) 0) (drop (i + 3) ws)))
 
-    pub walked-wrong : not (areFiguresAt ws i last) ≡ true → Classes now 0 0 0 ws → ⊥
+    pub walked-wrong : not (areFiguresAt ws i last) ≡ true → Classes now 0 0 0 (drop 1 ws) → ⊥
     walked-wrong t r =
         let f = step .0 r in
         let class : T (isClassAbove last (getD ws i 0)) = f .class in
@@ -119,7 +119,7 @@ replaced f c =
     }
 
 module _ {now : ℕ} {ws : List ℕ} {i last dollars halves : ℕ} (v : Counted now ws i last dollars halves) where
-  pub counted-exceeded : (ltb (capOf 1) dollars || ltb (capOf 2) halves) ≡ true → Classes now 0 0 0 ws → ⊥
+  pub counted-exceeded : (ltb (capOf 1) dollars || ltb (capOf 2) halves) ≡ true → Classes now 0 0 0 (drop 1 ws) → ⊥
   counted-exceeded t r = go (ltb (capOf 1) dollars) refl t
     where
       go : (over : Bool) → ltb (capOf 1) dollars ≡ over → (over || ltb (capOf 2) halves) ≡ true → ⊥
@@ -128,7 +128,7 @@ module _ {now : ℕ} {ws : List ℕ} {i last dollars halves : ℕ} (v : Counted 
 
   pub counted-breaks :
       ((xs : List OpenClass) → T (every (isClass now) xs) → SeriesThen now 0 (isFrom 0) xs (drop (i + 3) ws) → ⊥)
-      → Classes now 0 0 0 ws → ⊥
+      → Classes now 0 0 0 (drop 1 ws) → ⊥
   counted-breaks breaks r = let c = v .same .0 r in breaks (c .classes) (c .legal) (c .holds)
 
   pub counted-more :

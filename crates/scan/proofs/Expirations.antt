@@ -1,39 +1,52 @@
 -- What the loop over a class's expirations keeps, and a law for each way through it: by the word at its place. Assumes nothing.
-use Prim.Native.Nat.{ℕ, suc, _+_, _≤_, _<_}
+use Prim.Native.Nat.{ℕ, suc, _+_, _-_, _≤_, _<_, min, max}
 use mathlib.Core.Path.{_≡_}
 use mathlib.Core.Logic.{_↔_, Iff·rfl, Iff·trans}
-use mathlib.Core.Bool.{false}
+use mathlib.Core.Bool.{true, false, not}
 use mathlib.Core.List.{List}
 use native.Mathlib.Omega.{arith}
-use native.Mathlib.Numerals.{add-one}
 use lib.ListN.{length, drop, getD, drop-of-length-le}
-use lib.Seq.{drop-drop}
+use lib.Seq.{drop-cons, drop-drop, getD-drop}
 use lib.Dec.{T, leb→le}
+use borrow.Author.Tests.{not-true, not-false}
+use Rattle.word.specs.Limits.{between}
 use Rattle.word.specs.Field.{field}
-use Rattle.word.specs.Codec.{kindOf}
+use Rattle.word.specs.declared.codec.Word.the-variants.{Expiration}
+use Rattle.word.specs.Codec.{packed, kindOf}
 use Rattle.rule.specs.Lists.{every}
 use Rattle.book.specs.Facts.{OpenClass}
 use Rattle.book.specs.Books.{isClass}
-use Rattle.book.proofs.Tests.{ands}
-use Rattle.scan.specs.Tests.{isExpirationFrom, strikesLength}
-use Rattle.scan.specs.Stretches.{isFrom, SeriesThen, SeriesEnd}
+use Rattle.book.proofs.Tests.{ands, true-T}
+use Rattle.scan.specs.Tests.{nextLength}
+use Rattle.scan.specs.Stretches.{isFrom, SeriesThen, SeriesEnd, Stretched}
+use Rattle.scan.specs.declared.Stretch.the-variants.{Breaks}
+use Rattle.scan.proofs.Words.{isExpirationFrom, isBetween, between-from}
+use Rattle.scan.proofs.NextStrikes.{lastNext, areStrikes, HasStrikes}
 use Rattle.scan.proofs.Series.{expiration-more, expiration-none, expiration-end}
-use Rattle.scan.proofs.Places.{word-at}
 
--- the series from `from` on are what they are after those before i, whose last expiration is p
-pub record Expirations (now : ℕ) (ws : List ℕ) (from p i : ℕ) : Type 0 where
+-- the series from `from` on are what they are after those before i, and `least` is the first expiration word that may follow them
+pub record Expirations (now : ℕ) (ws : List ℕ) (from least i : ℕ) : Type 0 where
+  -- the month after the last expiration's, 0 for none
+  pub next : ℕ
+  pub first : least ≡ packed (Expiration (max next now))
   pub onward : from ≤ i
   pub within : i ≤ length ws
-  pub small : p ≤ 1024
   pub same :
       (xs : List OpenClass) → T (every (isClass now) xs)
-      → SeriesThen now 0 (isFrom 0) xs (drop from ws) ↔ SeriesThen now p (isFrom p) xs (drop i ws)
+      → SeriesThen now 0 (isFrom 0) xs (drop from ws) ↔ SeriesThen now next (isFrom next) xs (drop i ws)
 
-pub expirations-start : (now : ℕ) (ws : List ℕ) (from : ℕ) → from ≤ length ws → Expirations now ws from 0 from
+pub expirations-start :
+    (now : ℕ) (ws : List ℕ) (from : ℕ) → from ≤ length ws → Expirations now ws from (packed (Expiration now)) from
 expirations-start now ws from l =
-    record { onward = omega arith; within = l; small = omega arith; same = λ xs legal. Iff·rfl }
+    record {
+      next = 0;
+      first = omega arith;
+      onward = omega arith;
+      within = l;
+      same = λ xs legal. Iff·rfl;
+    }
 
-module _ {now : ℕ} {ws : List ℕ} {from p i : ℕ} (v : Expirations now ws from p i) where
+module _ {now : ℕ} {ws : List ℕ} {from least i : ℕ} (v : Expirations now ws from least i) where
   pub expirations-done : length ws ≤ i → SeriesEnd now ws from i
   expirations-done l =
       record {
@@ -42,6 +55,18 @@ module _ {now : ℕ} {ws : List ℕ} {from p i : ℕ} (v : Expirations now ws fr
         rest = λ xs legal. Iff·trans (v .same xs legal) (rw (drop-of-length-le ws l) (expiration-end now xs legal));
       }
 
+  -- the word at i is compared with those of the first and the last month that may follow
+  module _ (latest : ℕ) (last : latest ≡ packed (Expiration (min (now + 39) 1023))) where
+    pub expirations-passed :
+        not (between least latest (getD ws i 0)) ≡ false → T (isBetween now (v .next) (getD ws i 0))
+    expirations-passed t =
+        let test = between least latest (getD ws i 0) in
+        rw (v .first, last) at (true-T test (not-false test t))
+
+    pub expirations-failed :
+        not (between least latest (getD ws i 0)) ≡ true → isBetween now (v .next) (getD ws i 0) ≡ false
+    expirations-failed t = rw (v .first, last) at (not-true (between least latest (getD ws i 0)) t)
+
   module _ (inside : i < length ws) where
     pub expirations-stop : (kindOf (getD ws i 0) ≡ 5 → ⊥) → SeriesEnd now ws from i
     expirations-stop other =
@@ -49,48 +74,64 @@ module _ {now : ℕ} {ws : List ℕ} {from p i : ℕ} (v : Expirations now ws fr
           onward = v .onward;
           within = v .within;
           rest = λ xs legal.
-              Iff·trans (v .same xs legal) (rw (word-at ws i inside) (expiration-none now xs legal other));
+              Iff·trans (v .same xs legal) (rw (drop-cons ws i 0 inside) (expiration-none now xs legal other));
         }
 
     module _ (kind : kindOf (getD ws i 0) ≡ 5) where
-      m : ℕ
-      m = field (getD ws i 0) 0 28
-
-      k : ℕ
-      k = strikesLength 0 (drop (i + 1) ws)
-
       step :
           (xs : List OpenClass) → T (every (isClass now) xs)
           → SeriesThen now 0 (isFrom 0) xs (drop from ws)
-          ↔ (T (isExpirationFrom now p (getD ws i 0))
-          × (1 ≤ k)
-          × SeriesThen now (suc m) (isFrom (suc m)) xs (drop (i + 1 + k) ws))
-      unfolding m k
+          ↔ (T (isBetween now (v .next) (getD ws i 0))
+          × HasStrikes (getD ws i 0) (drop (suc i) ws)
+          × SeriesThen now (suc (field (getD ws i 0) 0 28)) (isFrom (suc (field (getD ws i 0) 0 28))) xs
+          (drop (suc i + nextLength (getD ws i 0) (drop (suc i) ws)) ws))
       step xs legal =
           Iff·trans (v .same xs legal)
-          (rw (word-at ws i inside, ← drop-drop k (i + 1) ws) (expiration-more now xs legal kind))
+          (rw (
+            between-from now (v .next) (getD ws i 0) kind,
+            drop-cons ws i 0 inside,
+            ← drop-drop (nextLength (getD ws i 0) (drop (suc i) ws)) (suc i) ws,
+          )
+          (expiration-more now xs legal kind))
 
-      pub expirations-wrong :
-          isExpirationFrom now p (getD ws i 0) ≡ false
-          → (xs : List OpenClass) → T (every (isClass now) xs) → SeriesThen now 0 (isFrom 0) xs (drop from ws) → ⊥
+      pub expirations-wrong : isBetween now (v .next) (getD ws i 0) ≡ false → Stretched now ws from Breaks
       expirations-wrong t xs legal r = rw t at (step xs legal .0 r .0)
 
-      pub expirations-empty :
-          (j : ℕ) → j ≡ i + 1 + strikesLength 0 (drop (i + 1) ws) → j ≤ i + 1
-          → (xs : List OpenClass) → T (every (isClass now) xs) → SeriesThen now 0 (isFrom 0) xs (drop from ws) → ⊥
-      unfolding k
-      expirations-empty j e none xs legal r = omega (arith, step xs legal .0 r .1)
+      -- the next strikes after it end at j
+      module _ (j : ℕ) (end : j ≡ suc i + nextLength (getD ws i 0) (drop (suc i) ws)) where
+        pub expirations-empty : j ≤ i + 1 → Stretched now ws from Breaks
+        expirations-empty none xs legal r = omega (arith, step xs legal .0 r .1 .0)
 
-      pub expirations-more :
-          (j : ℕ) → T (isExpirationFrom now p (getD ws i 0)) → j ≡ i + 1 + strikesLength 0 (drop (i + 1) ws)
-          → i + 1 < j → j ≤ length ws → Expirations now ws from (field (getD ws i 0) 0 28 + 1) j
-      unfolding m k
-      expirations-more j t e some within =
-          let small : m ≤ 1023 = leb→le m 1023 (search ands) in
-          let l : 1 ≤ k = omega arith in
-          record {
-            onward = omega arith;
-            within = within;
-            small = omega arith;
-            same = λ xs legal. rw (add-one m, e) (λ r. step xs legal .0 r .2, λ r. step xs legal .1 (t, l, r));
-          }
+        -- the first and the last of them, by their places in the run
+        strikes-at :
+            areStrikes (getD (drop (suc i) ws) 0 0) (lastNext (getD ws i 0) (drop (suc i) ws))
+            ≡ areStrikes (getD ws (i + 1) 0) (getD ws (j - 1) 0)
+        strikes-at =
+            let n = nextLength (getD ws i 0) (drop (suc i) ws) in
+            let one : suc i + 0 ≡ i + 1 = omega arith in
+            let before : i + n ≡ j - 1 = omega arith in
+            rw (← drop-cons ws i 0 inside, getD-drop (suc i) ws 0 0, one, getD-drop i ws n 0, before)
+
+        pub expirations-outside :
+            not (areStrikes (getD ws (i + 1) 0) (getD ws (j - 1) 0)) ≡ true → Stretched now ws from Breaks
+        expirations-outside t xs legal r =
+            rw (strikes-at, not-true (areStrikes (getD ws (i + 1) 0) (getD ws (j - 1) 0)) t) at (step xs legal .0 r .1 .1)
+
+        pub expirations-more :
+            T (isBetween now (v .next) (getD ws i 0)) → i + 1 < j
+            → not (areStrikes (getD ws (i + 1) 0) (getD ws (j - 1) 0)) ≡ false → j ≤ length ws
+            → Expirations now ws from (getD ws i 0 + 1) j
+        expirations-more t some strikes within =
+            let w = getD ws i 0 in
+            let m = field w 0 28 in
+            let listed : T (isExpirationFrom now (v .next) w) = rw (between-from now (v .next) w kind) at t in
+            let low : now ≤ m = leb→le now m (search ands) in
+            let passed = areStrikes (getD ws (i + 1) 0) (getD ws (j - 1) 0) in
+            let has : HasStrikes w (drop (suc i) ws) = (omega arith, rw strikes-at (true-T passed (not-false passed strikes))) in
+            record {
+              next = suc m;
+              first = omega arith;
+              onward = omega (arith, v .onward);
+              within = within;
+              same = λ xs legal. rw end (λ r. step xs legal .0 r .2, λ r. step xs legal .1 (t, has, r));
+            }

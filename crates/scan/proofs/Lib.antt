@@ -1,6 +1,7 @@
 -- The laws that the functions' proofs cite.
 pub mod Tests
 pub mod Words
+pub mod NextStrikes
 pub mod Series
 pub mod Places
 pub mod Expirations
@@ -9,3 +10,6 @@ pub mod Classes
 pub mod Zeros
 pub mod Books
 pub mod FreshBooks
+pub mod OtherBits
+pub mod LowestBits
+pub mod Others

@@ -1,11 +1,11 @@
 -- The words of a class's series, one word at a time: by cases on the first series and on whether its expiration stands already. Assumes nothing.
 use Prim.Native.Nat.{ℕ, suc, _≤_, _<_}
 use mathlib.Core.Path.{_≡_, refl, sym, ap}
-use mathlib.Core.Logic.{_↔_, Iff·trans}
+use mathlib.Core.Logic.{_↔_}
 use mathlib.Core.Bool.{Bool, true, false, cond, _&&_, _||_}
 use mathlib.Core.List.{List, [], _∷_, map}
 use native.Mathlib.Omega.{arith}
-use lib.ListN.{drop}
+use lib.ListN.{drop, getD}
 use lib.Dec.{T, eqb, leb, ltb, leb→le, ltb→lt, lt→ltb, le→leb, eqb→eq}
 use borrow.Author.Tests.{eqb-true, eqb-false, eq-eqb, ne-eqb}
 use Rattle.word.specs.declared.codec.Word.{Word}
@@ -20,10 +20,11 @@ use Rattle.word.proofs.Words.{kind-packed}
 use Rattle.book.proofs.Alternatives.{or-left, or-right}
 use Rattle.book.proofs.LegalWords.{fits, strike-legal, month-legal, figures-legal}
 use Rattle.book.proofs.Tests.{and-intro, ands, T-true, true-T, equal-test}
-use Rattle.scan.specs.Tests.{isStrikeAbove, isExpirationFrom, strikesLength}
+use Rattle.scan.specs.Tests.{isNextStrike, nextLength}
 use Rattle.scan.specs.Stretches.{leads, isFrom, SeriesThen}
 use Rattle.scan.proofs.Tests.{or-else}
-use Rattle.scan.proofs.Words.{strikeIn, strike-packed, strike-test, expiration-packed, expiration-field}
+use Rattle.scan.proofs.Words.{isStrikeAbove, strikeIn, strike-packed, strike-test, isExpirationFrom, expiration-packed, expiration-field}
+use Rattle.scan.proofs.NextStrikes.{IsStrike, lastNext, areStrikes, HasStrikes, next-strike, next-rises, next-above, above-next, above-none, next-rising, strike-order}
 
 -- a list rises where its first element comes before the next one and the rest rises
 pub rises-first :
@@ -177,34 +178,28 @@ module _ (now : ℕ) (xs : List OpenClass) (classesLegal : T (every (isClass now
   -- ---- strikes
 
   module _ (m : ℕ) (listed : T (isListed now m)) where
-    -- a strike word that is above the last one
-    strike-more :
-        (h w : ℕ) (ws : List ℕ) → T (isStrikeAbove h w)
-        → Words (suc m) (isAfter m h) (w ∷ ws) ↔ Words (suc m) (isAfter m (field w 0 15)) ws
-    strike-more h w ws t = (λ r. from (first r), to)
-      where
-        word : (packed (strikeWord (strikeIn m w)) ≡ w) × T (isLegal (strikeWord (strikeIn m w)))
-        word = strike-packed h m w t
+    -- a first word of a strike's kind is a strike above the last one
+    strike-from :
+        (h w : ℕ) (ws : List ℕ) → kindOf w ≡ 6 → First (suc m) (isAfter m h) w ws
+        → T (isStrikeAbove h w) × Words (suc m) (isAfter m (field w 0 15)) ws
+    strike-from h w ws kind (class k e) = absurd (omega arith)
+    strike-from h w ws kind (strike s e ew legal leading r) =
+        let month : m ≡ s .month = omega arith in
+        let f = strike-test h w s (strike-legal now s legal) ew (after-same m h s leading month) in
+        (f .0, rw (f .1, month) r)
+    strike-from h w ws kind (expiration s vs other ew es legal leading r) =
+        absurd (omega (arith, kind, kind-packed (Expiration (s .month)) w (fits (Expiration (s .month)) (month-legal now s legal)) ew))
 
-        kind : kindOf w ≡ 6
-        kind = kind-packed (strikeWord (strikeIn m w)) w (fits (strikeWord (strikeIn m w)) (word .1)) (word .0)
-
-        from : First (suc m) (isAfter m h) w ws → Words (suc m) (isAfter m (field w 0 15)) ws
-        from (class k e) = absurd (omega (arith, kind))
-        from (strike s e ew legal leading r) =
-            let month : m ≡ s .month = omega arith in
-            let f = strike-test h w s (strike-legal now s legal) ew (after-same m h s leading month) in
-            rw (f .1, month) r
-        from (expiration s vs other ew es legal leading r) =
-            absurd (omega (arith, kind, kind-packed (Expiration (s .month)) w (fits (Expiration (s .month)) (month-legal now s legal)) ew))
-
-        to : Words (suc m) (isAfter m (field w 0 15)) ws → Words (suc m) (isAfter m h) (w ∷ ws)
-        to r =
-            let s = strikeIn m w in
-            let l : T (isLegal (strikeWord s)) = word .1 in
-            let legal : T (isSeries now s) = search (ands, and-intro) depth 12 in
-            let above : h < field w 0 15 = ltb→lt h (field w 0 15) (search ands) in
-            rw (word .0) at (add-strike {test = isAfter m h} s legal (above-after h s above) r)
+    strike-to :
+        (h w : ℕ) (ws : List ℕ) → T (isStrikeAbove h w) → Words (suc m) (isAfter m (field w 0 15)) ws
+        → Words (suc m) (isAfter m h) (w ∷ ws)
+    strike-to h w ws t r =
+        let s = strikeIn m w in
+        let word = strike-packed h m w t in
+        let l : T (isLegal (strikeWord s)) = word .1 in
+        let legal : T (isSeries now s) = search (ands, and-intro) depth 12 in
+        let above : h < field w 0 15 = ltb→lt h (field w 0 15) (search ands) in
+        rw (word .0) at (add-strike {test = isAfter m h} s legal (above-after h s above) r)
 
     -- where no strike above the last one stands, only another expiration or a class may follow
     strike-none :
@@ -235,99 +230,116 @@ module _ (now : ℕ) (xs : List OpenClass) (classesLegal : T (every (isClass now
               leading = leading (r .series) (r .leading);
             }
 
-    -- the strikes at the front
+    -- the next strikes after a strike
     strikes :
-        (h : ℕ) (ws : List ℕ)
-        → Words (suc m) (isAfter m h) ws ↔ Words (suc m) (isFrom (suc m)) (drop (strikesLength h ws) ws)
-    strikes h [] = (λ r. no-series (series-end r), λ r. no-series (series-end r))
-    strikes h (w ∷ ws) = go (isStrikeAbove h w) refl (strikes (field w 0 15) ws)
+        (before : ℕ) (ws : List ℕ) → IsStrike before → field before 0 15 ≤ 19999
+        → Words (suc m) (isAfter m (field before 0 15)) ws
+        ↔ ((field (lastNext before ws) 0 15 ≤ 19999) × Words (suc m) (isFrom (suc m)) (drop (nextLength before ws) ws))
+    strikes before [] prior low = (λ r. (low, no-series (series-end r)), λ r. no-series (series-end (r .1)))
+    strikes before (w ∷ ws) prior low = go (isNextStrike before w) refl (strikes w ws)
       where
-        k : ℕ
-        k = strikesLength (field w 0 15) ws
+        h : ℕ
+        h = field before 0 15
+
+        n : ℕ
+        n = nextLength w ws
 
         go :
-            (above : Bool) → isStrikeAbove h w ≡ above
-            → Words (suc m) (isAfter m (field w 0 15)) ws ↔ Words (suc m) (isFrom (suc m)) (drop k ws)
+            (next : Bool) → isNextStrike before w ≡ next
+            → (IsStrike w → field w 0 15 ≤ 19999
+            → Words (suc m) (isAfter m (field w 0 15)) ws
+            ↔ ((field (lastNext w ws) 0 15 ≤ 19999) × Words (suc m) (isFrom (suc m)) (drop n ws)))
             → Words (suc m) (isAfter m h) (w ∷ ws)
-            ↔ Words (suc m) (isFrom (suc m)) (drop (cond {A = ℕ} above (suc k) 0) (w ∷ ws))
-        go true t rest = Iff·trans (strike-more h w ws (true-T (isStrikeAbove h w) t)) rest
-        go false t rest = strike-none h w ws t
+            ↔ ((field (getD (before ∷ w ∷ ws) (cond {A = ℕ} next (suc n) 0) 0) 0 15 ≤ 19999)
+            × Words (suc m) (isFrom (suc m)) (drop (cond {A = ℕ} next (suc n) 0) (w ∷ ws)))
+        go true e rest =
+            let t = true-T (isNextStrike before w) e in
+            let top = next-strike before w t in
+            let kind : kindOf w ≡ 6 = omega arith in (
+              λ r.
+                  let next = strike-from h w ws kind (first r) in
+                  let above : T (isStrikeAbove h w) = next .0 in
+                  rest top (leb→le (field w 0 15) 19999 (search ands)) .0 (next .1),
+              λ r.
+                  let few : field w 0 15 ≤ 19999 = omega (arith, next-rising w ws top, r .0) in
+                  strike-to h w ws (next-above before w t h (next-rises before w t prior) few) (rest top few .1 r),
+            )
+        go false e rest =
+            let none = strike-none h w ws (above-none before h w (omega (arith, strike-order before prior)) e) in
+            (λ r. (low, none .0 r), λ r. none .1 (r .1))
 
   -- ---- expirations
-
-  length-strike : (h w : ℕ) (ws : List ℕ) → T (isStrikeAbove h w) → 1 ≤ strikesLength h (w ∷ ws)
-  length-strike h w ws t = rw (T-true (isStrikeAbove h w) t) (omega arith)
-
-  strike-first : (h w : ℕ) (ws : List ℕ) → 1 ≤ strikesLength h (w ∷ ws) → T (isStrikeAbove h w)
-  strike-first h w ws = go (isStrikeAbove h w)
-    where
-      go : (above : Bool) → 1 ≤ cond {A = ℕ} above (suc (strikesLength (field w 0 15) ws)) 0 → T above
-      go true l = tt
-      go false l = absurd (omega arith)
 
   -- an expiration word has a month from p on, and strikes
   expiration-from :
       {p w : ℕ} {ws : List ℕ} → kindOf w ≡ 5 → First p (isFrom p) w ws
       → T (isExpirationFrom now p w)
-      × (1 ≤ strikesLength 0 ws)
-      × Words (suc (field w 0 28)) (isAfter (field w 0 28) 0) ws
+      × HasStrikes w ws
+      × Words (suc (field w 0 28)) (isFrom (suc (field w 0 28))) (drop (nextLength w ws) ws)
   expiration-from kind (class k e) = absurd (omega arith)
   expiration-from {p} {w} kind (strike s e ew legal leading r) =
       absurd (omega (arith, kind-packed (strikeWord s) w (fits (strikeWord s) (strike-legal now s legal)) ew))
   expiration-from {p} {w} kind (expiration s vs other ew es legal leading r) =
+      let v = packed (strikeWord s) in
       let month : field w 0 28 ≡ s .month = expiration-field w (s .month) (month-legal now s legal) ew in
       let listed : T (isListed now (s .month)) = search ands depth 12 in
-      let above : 0 < s .strike = leb→le 1 (s .strike) (search ands) in
-      let t = strike-test 0 (packed (strikeWord s)) s (strike-legal now s legal) refl above .0 in
-      rw (month, ← es) (
+      let test = strike-test 0 v s (strike-legal now s legal) refl (leb→le 1 (s .strike) (search ands)) in
+      let above : T (isStrikeAbove 0 v) = test .0 in
+      let next = above-next w 0 v (omega arith) above in
+      let few : field v 0 15 ≤ 19999 = leb→le (field v 0 15) 19999 (search ands) in
+      let rest = strikes (s .month) listed v vs (next-strike w v next) few .0 (rw (test .1) r) in
+      let low : T (ltb 0 (field v 0 15)) = search ands in
+      let high = le→leb (field (lastNext v vs) 0 15) 19999 (rest .0) in
+      rw (month, ← es, T-true (isNextStrike w v) next) (
         and-intro (leb p (s .month)) (isListed now (s .month)) leading listed,
-        length-strike 0 (packed (strikeWord s)) vs t,
-        add-strike s legal (above-after 0 s above) r,
+        (omega arith, and-intro (ltb 0 (field v 0 15)) (leb (field (lastNext v vs) 0 15) 19999) low high),
+        rest .1,
       )
 
   expiration-to :
-      {p w : ℕ} (ws : List ℕ) → kindOf w ≡ 5 → T (isExpirationFrom now p w) → 1 ≤ strikesLength 0 ws
-      → Words (suc (field w 0 28)) (isAfter (field w 0 28) 0) ws → Words p (isFrom p) (w ∷ ws)
+      {p w : ℕ} (ws : List ℕ) → kindOf w ≡ 5 → T (isExpirationFrom now p w) → HasStrikes w ws
+      → Words (suc (field w 0 28)) (isFrom (suc (field w 0 28))) (drop (nextLength w ws) ws) → Words p (isFrom p) (w ∷ ws)
   expiration-to [] kind t l r = absurd (omega arith)
-  expiration-to {p} {w} (v ∷ vs) kind t l r = go (first r)
+  expiration-to {p} {w} (v ∷ vs) kind t l r = go (isNextStrike w v) refl l r
     where
       m : ℕ
       m = field w 0 28
 
-      word : (packed (strikeWord (strikeIn m v)) ≡ v) × T (isLegal (strikeWord (strikeIn m v)))
-      word = strike-packed 0 m v (strike-first 0 v vs l)
+      n : ℕ
+      n = nextLength v vs
 
-      next : kindOf v ≡ 6
-      next = kind-packed (strikeWord (strikeIn m v)) v (fits (strikeWord (strikeIn m v)) (word .1)) (word .0)
-
-      go : First (suc m) (isAfter m 0) v vs → Words p (isFrom p) (w ∷ v ∷ vs)
-      go (class k e) = absurd (omega (arith, next))
-      go (strike s e ev legal leading r) =
-          let month : s .month ≡ m = omega arith in
+      go :
+          (next : Bool) → isNextStrike w v ≡ next
+          → (1 ≤ cond {A = ℕ} next (suc n) 0)
+          × T (areStrikes v (getD (w ∷ v ∷ vs) (cond {A = ℕ} next (suc n) 0) 0))
+          → Words (suc m) (isFrom (suc m)) (drop (cond {A = ℕ} next (suc n) 0) (v ∷ vs))
+          → Words p (isFrom p) (w ∷ v ∷ vs)
+      go true e l r =
+          let next = true-T (isNextStrike w v) e in
+          let top = next-strike w v next in
+          let both : T (areStrikes v (lastNext v vs)) = l .1 in
+          let high : field (lastNext v vs) 0 15 ≤ 19999 = leb→le (field (lastNext v vs) 0 15) 19999 (search ands) in
+          let few : field v 0 15 ≤ 19999 = omega (arith, next-rising v vs top) in
+          let above = next-above w v next 0 (ltb→lt 0 (field v 0 15) (search ands)) few in
+          let s = strikeIn m v in
+          let word = strike-packed 0 m v above in
           let low : p ≤ m = leb→le p m (search ands) in
-          let from : T (isFrom p s) = le→leb p (s .month) (omega arith) in
-          let ew : packed (Expiration (s .month)) ≡ w = rw month (expiration-packed w kind) in
-          rw (ew, ev) at (add-expiration {test = isFrom p} p s (λ q. omega arith) legal from r)
-      go (expiration s us other ew es legal leading r) =
-          absurd (omega (arith, next, kind-packed (Expiration (s .month)) v (fits (Expiration (s .month)) (month-legal now s legal)) ew))
+          let wordLegal : T (isLegal (strikeWord s)) = word .1 in
+          let legal : T (isSeries now s) = search (ands, and-intro) depth 12 in
+          rw (expiration-packed w kind, word .0)
+          at (add-expiration {test = isFrom p} p s (λ q. omega arith) legal (search ands)
+          (strikes m (search ands) v vs top few .1 (high, r)))
+      go false e l r = absurd (omega arith)
 
   -- an expiration word, and its strikes
   pub expiration-more :
       {p w : ℕ} {ws : List ℕ} → kindOf w ≡ 5
       → SeriesThen now p (isFrom p) xs (w ∷ ws)
       ↔ (T (isExpirationFrom now p w)
-      × (1 ≤ strikesLength 0 ws)
-      × SeriesThen now (suc (field w 0 28)) (isFrom (suc (field w 0 28))) xs (drop (strikesLength 0 ws) ws))
-  expiration-more {p} {w} {ws} kind = (
-    λ r. let e = expiration-from kind (first r) in (e .0, e .1, strikes m (listed (e .0)) 0 ws .0 (e .2)),
-    λ e. expiration-to ws kind (e .0) (e .1) (strikes m (listed (e .0)) 0 ws .1 (e .2)),
-  )
-    where
-      m : ℕ
-      m = field w 0 28
-
-      listed : T (isExpirationFrom now p w) → T (isListed now m)
-      listed t = search ands
+      × HasStrikes w ws
+      × SeriesThen now (suc (field w 0 28)) (isFrom (suc (field w 0 28))) xs (drop (nextLength w ws) ws))
+  expiration-more {p} {w} {ws} kind =
+      (λ r. expiration-from kind (first r), λ e. expiration-to ws kind (e .0) (e .1) (e .2))
 
   -- where no expiration word stands, only a class may follow
   class-next :

@@ -1,21 +1,22 @@
--- A raw word passes a loop's test exactly when it is a packed word of that kind in its limits: by its fields. Assumes nothing.
-use Prim.Native.Nat.{ℕ, _+_, _*_, _/_, _^_, _<_}
+-- A raw word passes a test exactly when it is a packed word of that kind in its limits: by its fields. Assumes nothing.
+use Prim.Native.Nat.{ℕ, _+_, _*_, _/_, _^_, _<_, min, max}
 use mathlib.Core.Path.{_≡_}
-use mathlib.Core.Bool.{_&&_}
+use mathlib.Core.Bool.{Bool, _&&_}
 use native.Mathlib.Omega.{arith}
 use lib.Dec.{T, eqb, leb, ltb, leb→le, ltb→lt, lt→ltb, le→leb, eqb→eq}
 use lib.Pow.{shr-shr}
 use Rattle.word.specs.declared.class.ClassRecord.{ClassRecord}
 use Rattle.word.specs.declared.codec.Word.the-variants.{Head, Class, Close, Volume, Expiration}
-use Rattle.word.specs.Limits.{isMonth, isVolume, isDesignation, isClose, isGround, isMark}
+use Rattle.word.specs.Limits.{between, isMonth, isVolume, isDesignation, isClose, isGround, isMark}
 use Rattle.word.specs.Field.{field}
 use Rattle.word.specs.Codec.{isLegal, packed, Fits, kindOf}
 use Rattle.word.proofs.Words.{class-fields, strike-fields}
 use Rattle.book.specs.Facts.{Series}
 use Rattle.book.specs.Layout.{strikeWord}
+use Rattle.book.specs.Books.{isListed}
 use Rattle.book.proofs.LegalWords.{fits}
-use Rattle.book.proofs.Tests.{and-intro, ands, equal-test}
-use Rattle.scan.specs.Tests.{isStrikeAbove, isClassAbove, isCloseWord, isVolumeWord}
+use Rattle.book.proofs.Tests.{and-intro, ands, equal-test, same-bool}
+use Rattle.scan.specs.Tests.{isClassAbove, isCloseWord, isVolumeWord}
 
 -- ---- the head
 
@@ -28,6 +29,12 @@ pub head-top : (w now used : ℕ) → Fits (Head now used) → packed (Head now 
 head-top w now used small e = equal-test (w / 2 ^ 26) (1 * 2 ^ 2) (omega arith)
 
 -- ---- strikes
+
+-- a strike word whose strike is above the one before it
+abbrev pub isStrikeAbove : ℕ → ℕ → Bool
+isStrikeAbove above w =
+    eqb (w / 2 ^ 20) (6 * 2 ^ 8)
+    && (isGround (field w 15 3) && (ltb above (field w 0 15) && leb (field w 0 15) 19999))
 
 -- the strike that a strike word says, in the expiration of the month m
 abbrev pub strikeIn : ℕ → ℕ → Series
@@ -147,3 +154,43 @@ expiration-packed w kind = number-packed 5 w kind
 
 pub expiration-field : (w m : ℕ) → T (isMonth m) → packed (Expiration m) ≡ w → field w 0 28 ≡ m
 expiration-field w m legal e = number-field 5 m w (omega (arith, leb→le m 1023 legal)) e .1
+
+-- of an expiration word: its month is at least p, and may stand in a book of the month `now`
+abbrev pub isExpirationFrom : ℕ → ℕ → ℕ → Bool
+isExpirationFrom now p w = leb p (field w 0 28) && isListed now (field w 0 28)
+
+-- the word is between those of the first and the last month that may follow the expiration p
+abbrev pub isBetween : ℕ → ℕ → ℕ → Bool
+isBetween now p w = between (packed (Expiration (max p now))) (packed (Expiration (min (now + 39) 1023))) w
+
+module _ (now p w : ℕ) where
+  pub between-kind : T (isBetween now p w) → kindOf w ≡ 5
+  between-kind t =
+      let low = leb→le (packed (Expiration (max p now))) w (search ands) in
+      let high = leb→le w (packed (Expiration (min (now + 39) 1023))) (search ands) in
+      omega arith
+
+  pub between-from : kindOf w ≡ 5 → isBetween now p w ≡ isExpirationFrom now p w
+  between-from kind = same-bool (isBetween now p w) (isExpirationFrom now p w) from to
+    where
+      from : T (isBetween now p w) → T (isExpirationFrom now p w)
+      from t =
+          let m = field w 0 28 in
+          let low = leb→le (packed (Expiration (max p now))) w (search ands) in
+          let high = leb→le w (packed (Expiration (min (now + 39) 1023))) (search ands) in
+          let a : T (leb p m) = le→leb p m (omega arith) in
+          let b : T (leb now m) = le→leb now m (omega arith) in
+          let c : T (leb m (now + 39)) = le→leb m (now + 39) (omega arith) in
+          let d : T (leb m 1023) = le→leb m 1023 (omega arith) in
+          search and-intro
+
+      to : T (isExpirationFrom now p w) → T (isBetween now p w)
+      to t =
+          let m = field w 0 28 in
+          let a = leb→le p m (search ands) in
+          let b = leb→le now m (search ands) in
+          let c = leb→le m (now + 39) (search ands) in
+          let d = leb→le m 1023 (search ands) in
+          let low = le→leb (packed (Expiration (max p now))) w (omega arith) in
+          let high = le→leb w (packed (Expiration (min (now + 39) 1023))) (omega arith) in
+          search and-intro

@@ -11,6 +11,7 @@ use Rattle.rule.specs.Lists.{every}
 use Rattle.book.specs.Facts.{Series, OpenClass, number, isBelow, precedes, capOf, owned}
 use Rattle.book.specs.Layout.{seriesWords, classesWords}
 use Rattle.book.specs.Books.{rises, isSeries, isClass}
+use Rattle.scan.specs.Ahead.{Tells}
 use Rattle.scan.specs.declared.Stretch.{Stretch}
 use Rattle.scan.specs.declared.Stretch.the-variants.{EndsAt, Breaks}
 
@@ -54,8 +55,8 @@ pub record SeriesEnd (now : ℕ) (ws : List ℕ) (from to : ℕ) : Type 0 where
       (xs : List OpenClass) → T (every (isClass now) xs)
       → SeriesThen now 0 (isFrom 0) xs (drop from ws) ↔ (map packed (classesWords xs []) ≡ drop to ws)
 
--- what the answer says: where the series that start at `from` end, or that no series with classes after them start there
+-- what the answer says: what is ahead of where the series that start at `from` end, or that no series with classes after them start there
 abbrev pub Stretched : ℕ → List ℕ → ℕ → Stretch → Type 0
-Stretched now ws from (EndsAt to) = SeriesEnd now ws from to
+Stretched now ws from (EndsAt ahead) = SeriesEnd now ws from (ahead .at) × Tells ws ahead
 Stretched now ws from Breaks =
     (xs : List OpenClass) → T (every (isClass now) xs) → SeriesThen now 0 (isFrom 0) xs (drop from ws) → ⊥

@@ -1,35 +1,37 @@
 // Whether a run of words is a book, in nested loops over raw words; and a fresh book made of any run.
 ghost use mathlib.Core.Path.{_≡_};
 ghost use mathlib.Core.Logic.{_↔_};
-ghost use Prim.Native.Nat.{_+_, _<_, _≤_};
+ghost use mathlib.Core.Bool.{_&&_};
+ghost use Prim.Native.Nat.{_+_, _<_, _≤_, min};
 ghost use lib.ListN.{drop, length};
-ghost use lib.Dec.{T};
+ghost use lib.Dec.{T, leb, ltb};
+ghost use Rattle.word.specs.Field.{field};
 ghost use Rattle.rule.specs.Lists.{every};
 ghost use Rattle.book.specs.Books.{isBook};
 ghost use Rattle.book.specs.Made.{Begun};
-ghost use Rattle.scan.specs.Tests.{isZero, isStrikeAbove, isClassAbove, isCloseWord, isVolumeWord, isExpirationFrom, strikesLength};
+ghost use Rattle.scan.specs.Tests.{isZero, isClassAbove, isCloseWord, isVolumeWord};
+ghost use Rattle.scan.specs.Ahead.{Tells};
 ghost use Rattle.scan.specs.Stretches.{Classes, Stretched};
+use crate::ahead::Ahead;
+use crate::ahead::look_ahead;
+use crate::ahead::next_other;
+use crate::ahead::skip_to;
 use word::answer::Answer;
 use word::answer::Refusal;
 use word::caps::DollarCount;
 use word::caps::HalfCount;
+use word::codec::expiration_word;
 use word::codec::head_word;
 use word::codec::kind;
 use word::field::field_of;
 use word::zeros::zero_all;
 
-// Where the expirations of a class end, or that they are no expirations of a book.
-pub enum Stretch {
-    EndsAt(usize),
-    Breaks,
-}
+mod ahead;
 
-// A strike word whose strike is above the one before it.
-fn is_strike_above(w: u32, above: u32) -> bool
-    ensures { λ r. ⌜ r ≡ isStrikeAbove above w ⌝ }
-{
-    let h = field_of(w, 0, 15);
-    (field_of(w, 20, 12) == 1536) & ((field_of(w, 15, 3) <= 3) & ((above < h) & (h <= 19999)))
+// What is ahead of where the expirations of a class end, or that they are no expirations of a book.
+pub enum Stretch {
+    EndsAt(Ahead),
+    Breaks,
 }
 
 // A class word whose number is above the one before it.
@@ -52,65 +54,60 @@ fn is_volume_word(w: u32) -> bool
     (kind(w) == 4) & (field_of(w, 0, 28) <= 9999999)
 }
 
-// An expiration word whose month is at least `from`, and may stand in a book of the month `current`.
-fn is_expiration_from(w: u32, current: u32, from: u32) -> bool
+// The last month that may stand in a book of the month `current`.
+fn latest_month(current: u32) -> u32
     requires { ⌜ current < 1024 ⌝ }
-    ensures { λ r. ⌜ r ≡ isExpirationFrom current from w ⌝ }
+    ensures { λ r. ⌜ r ≡ min (current + 39) 1023 ⌝ }
 {
-    let m = field_of(w, 0, 28);
-    (from <= m) & ((current <= m) & ((m <= current + 39) & (m <= 1023)))
+    if current < 984 { current + 39 } else { 1023 }
 }
 
-// Where the rising strikes that start at `from` end.
-fn strikes_end(s: &[u32], from: usize) -> usize
-    requires { ⌜ from ≤ length (now s) ⌝ }
-    ensures { λ r. ⌜ (r ≡ from + strikesLength 0 (drop from (now (s .entry)))) × (r ≤ length (now (s .entry))) ⌝ }
+// Whether the strikes from `first` to `last`, each of which follows the one before it, are those of a book: none is 0 and none is above 19,999.
+fn are_strikes(first: u32, last: u32) -> bool
+    ensures { λ r. ⌜ r ≡ (ltb 0 (field first 0 15) && leb (field last 0 15) 19999) ⌝ }
 {
-    let mut i = from;
-    let mut last = 0;
-    while i < s.len() {
-        let w = s[i];
-        if !is_strike_above(w, last) {
-            return i;
-        }
-        last = field_of(w, 0, 15);
-        i += 1;
-    }
-    i
+    (0 < field_of(first, 0, 15)) & (field_of(last, 0, 15) <= 19999)
 }
 
-// Where the expirations that start at `from` end, each with its strikes.
-fn expirations_end(current: u32, s: &[u32], from: usize) -> Stretch
-    requires { ⌜ (current < 1024) × (from ≤ length (now s)) ⌝ }
-    ensures { λ r. ⌜ Stretched current (now (s .entry)) from r ⌝ }
+// Where the expirations that start at `from.at` end, each with its strikes. An expiration word is compared as a whole with those of the first and the last month that may follow.
+fn expirations_end(current: u32, s: &[u32], from: Ahead) -> Stretch
+    requires { ⌜ (current < 1024) × Tells (now s) from ⌝ }
+    ensures { λ r. ⌜ Stretched current (now (s .entry)) (from .at) r ⌝ }
 {
-    let mut i = from;
-    let mut least = 0;
+    let latest = expiration_word(latest_month(current));
+    let mut least = expiration_word(current);
+    let mut ahead = from;
+    let mut i = ahead.at;
     while i < s.len() {
         let w = s[i];
-        if kind(w) != 5 {
-            return Stretch::EndsAt(i);
+        if !((least <= w) & (w <= latest)) {
+            if kind(w) == 5 {
+                return Stretch::Breaks;
+            }
+            return Stretch::EndsAt(ahead);
         }
-        if !is_expiration_from(w, current, least) {
-            return Stretch::Breaks;
-        }
-        let next = strikes_end(s, i + 1);
+        ahead = next_other(s, ahead);
+        let next = ahead.at;
         if next == i + 1 {
             return Stretch::Breaks;
         }
-        least = field_of(w, 0, 28) + 1;
+        if !are_strikes(s[i + 1], s[next - 1]) {
+            return Stretch::Breaks;
+        }
+        least = w + 1;
         i = next;
     }
-    Stretch::EndsAt(i)
+    Stretch::EndsAt(ahead)
 }
 
-// Whether the words are those of classes, within the caps.
+// Whether the words after the first are those of classes, within the caps.
 fn are_classes(current: u32, s: &[u32]) -> bool
-    requires { ⌜ current < 1024 ⌝ }
-    ensures { λ r. ⌜ T r ↔ Classes current 0 0 0 (now (s .entry)) ⌝ }
+    requires { ⌜ (current < 1024) × (1 ≤ length (now s)) ⌝ }
+    ensures { λ r. ⌜ T r ↔ Classes current 0 0 0 (drop 1 (now (s .entry))) ⌝ }
 {
     let n = s.len();
-    let mut i = 0;
+    let mut ahead = look_ahead(s, 1);
+    let mut i = 1;
     let mut last = 0;
     let mut dollars = DollarCount(0);
     let mut halves = HalfCount(0);
@@ -128,11 +125,12 @@ fn are_classes(current: u32, s: &[u32]) -> bool
         if dollars.is_exceeded() | halves.is_exceeded() {
             return false;
         }
-        let stretch = expirations_end(current, s, i + 3);
+        let stretch = expirations_end(current, s, skip_to(s, ahead, i + 3));
         let Stretch::EndsAt(next) = stretch else {
             return false;
         };
-        i = next;
+        ahead = next;
+        i = ahead.at;
     }
     true
 }
@@ -163,7 +161,7 @@ pub fn is_book(run: &[u32]) -> bool
     if !((field_of(head, 26, 6) == 4) & ((1 <= used) & (used <= n))) {
         return false;
     }
-    if !are_classes(field_of(head, 0, 10), &run[1..used]) {
+    if !are_classes(field_of(head, 0, 10), &run[0..used]) {
         return false;
     }
     are_zero(&run[used..])

@@ -1,25 +1,28 @@
 -- `are_classes` tests the classes: each way through the loop is one law of the loop.
 use Prim.Native.Nat.{_+_, _-_}
+use mathlib.Core.Path.{_≡_, refl}
 use native.Mathlib.Omega.{arith}
 use lib.ListN.{length}
 use borrow.Author.Needs.{needs}
+use Rattle.scan.specs.Ahead.{Tells}
 use Rattle.scan.specs.Stretches.{SeriesEnd}
 use Rattle.scan.proofs.Classes.{Walked, Counted, walked-start, walked-short, walked-wrong, walked-counted, walked-end, counted-exceeded, counted-breaks, counted-more}
 use Rattle.scan.proofs.are_classes.Statement.{statement}
 use Rattle.scan.proofs.are_classes.Tie as tie
 
 abbrev Inv-loop : tie.InvT-loop
-Inv-loop current s n i₀ last₀ dollars₀ halves₀ i last dollars halves = Walked current s i last (dollars .0) (halves .0)
+Inv-loop current s n ahead₀ i₀ last₀ dollars₀ halves₀ ahead i last dollars halves =
+    Walked current s i last (dollars .0) (halves .0) × (Tells s ahead × (ahead .at ≡ i))
 
 abbrev μ-loop : tie.MeasureT-loop
-μ-loop current s n i₀ last₀ dollars₀ halves₀ i last dollars halves = length s - i
+μ-loop current s n ahead₀ i₀ last₀ dollars₀ halves₀ ahead i last dollars halves = length s - i
 
 -- the class at i is counted
 counted :
     (c : tie.After-counted2 Inv-loop μ-loop)
     → let test = c .before .before .before .before .before in
     let loop = test .before .before .before .before .before .before .before .before .before in
-    let args = loop .before .before .args in
+    let args = loop .before .before .before .args in
     Counted (args .current) (args .s .now) (loop .loop .i) (c .before .before .before .before .field-of .result)
     (c .before .before .counted .result .0) (c .counted2 .result .0)
 counted c =
@@ -35,21 +38,29 @@ counted c =
       c .before .before .before .field-of2 .ensures,
       c .before .before .before .before .field-of .ensures,
     )
-    (walked-counted (room .before .before .before .loop .inv) (room .if1 .left)
+    (walked-counted (room .before .before .before .loop .inv .0) (room .if1 .left)
     (simp (class .is-class-above .ensures, close .is-close-word .ensures, volume .is-volume-word .ensures)
     at (test .if2 .left)))
 
 -- its series end where the next class starts
 ended :
     (c : tie.After-stretch Inv-loop μ-loop)
-    → let test = c .before .before .before .before .before .before .before .before .before .before .before in
+    → let test = c .before .before .before .before .before .before .before .before .before .before .before .before in
     let loop = test .before .before .before .before .before .before .before .before .before in
-    let args = loop .before .before .args in
-    SeriesEnd (args .current) (args .s .now) (loop .loop .i + 3) (c .stretch .given .0 .0)
-ended c = rw (c .stretch .given .1) at (c .before .before .expirations-end .ensures)
+    let args = loop .before .before .before .args in
+    let ahead = c .stretch .given .0 .0 in
+    SeriesEnd (args .current) (args .s .now) (loop .loop .i + 3) (ahead .at) × Tells (args .s .now) ahead
+ended c =
+    let end = c .before .before in
+    rw (c .stretch .given .1, end .before .skip-to .ensures .1) at (end .expirations-end .ensures)
+
+look-ahead-requires : tie.Need-look-ahead-requires Inv-loop μ-loop
+look-ahead-requires c κs = search needs
 
 loop-holds : tie.Need-loop-holds Inv-loop μ-loop
-loop-holds c = let a = c .before .args in walked-start (a .current) (a .s .now)
+loop-holds c =
+    let start = c .before .before in
+    (walked-start (start .args .current) (start .args .s .now) (start .pre .1), c .look-ahead .ensures)
 
 mul-w : tie.Need-mul-w Inv-loop μ-loop
 mul-w c = search needs
@@ -63,7 +74,7 @@ sub-if1 c = search needs
 returns : tie.Need-returns Inv-loop μ-loop
 returns c =
     let at = c .before .before in
-    (λ t. absurd t, walked-short (at .before .loop .inv) (at .loop-test .taken) (c .if1 .taken))
+    (λ t. absurd t, walked-short (at .before .loop .inv .0) (at .loop-test .taken) (c .if1 .taken))
 
 is-class-above-requires : tie.Need-is-class-above-requires Inv-loop μ-loop
 is-class-above-requires c κs = search needs
@@ -99,7 +110,7 @@ returns-2 c =
     let class = close .before .before in
     let room = class .before in (
       λ t. absurd t,
-      walked-wrong (room .before .before .before .loop .inv) (room .if1 .left)
+      walked-wrong (room .before .before .before .loop .inv .0) (room .if1 .left)
           (simp (class .is-class-above .ensures, close .is-close-word .ensures, volume .is-volume-word .ensures)
           at (c .if2 .taken)),
     )
@@ -134,11 +145,20 @@ returns-3 c =
           (simp (dollar .is-exceeded .ensures, half .is-exceeded2 .ensures) at (c .if3 .taken)),
     )
 
-add-expirations-end : tie.Need-add-expirations-end Inv-loop μ-loop
-add-expirations-end c = search needs
+add-skip-to : tie.Need-add-skip-to Inv-loop μ-loop
+add-skip-to c = search needs
+
+skip-to-requires : tie.Need-skip-to-requires Inv-loop μ-loop
+skip-to-requires c κs =
+    let room = c .before .before .before .before .before .before .before .before .before .before .before .before .before .before in
+    let at = room .before .before .before in
+    (at .loop .inv .1 .0, (omega (arith, at .loop .inv .1 .1), omega (arith, room .if1 .left)))
 
 expirations-end-requires : tie.Need-expirations-end-requires Inv-loop μ-loop
-expirations-end-requires c κs = search needs
+expirations-end-requires c κs =
+    let test = c .before .before .before .before .before .before .before .before .before in
+    let at = test .before .before .before .before .before .before .before .before .before in
+    (at .before .before .before .pre .0, c .skip-to .ensures .0)
 
 enum-known-stretch : tie.Need-enum-known-stretch Inv-loop μ-loop
 enum-known-stretch c = search needs
@@ -150,8 +170,8 @@ returns-4 : tie.Need-returns-4 Inv-loop μ-loop
 returns-4 c =
     let end = c .before .before in (
       λ t. absurd t,
-      counted-breaks (counted (end .before .before .before .before))
-          (rw (c .enum-told .given .1) at (end .expirations-end .ensures)),
+      counted-breaks (counted (end .before .before .before .before .before))
+          (rw (c .enum-told .given .1, end .before .skip-to .ensures .1) at (end .expirations-end .ensures)),
     )
 
 loop-less : tie.Need-loop-less Inv-loop μ-loop
@@ -159,14 +179,17 @@ loop-less c = omega (arith, ended (c .before))
 
 loop-again : tie.Need-loop-again Inv-loop μ-loop
 loop-again c =
-    let kept = c .before .before .before .before in
+    let kept = c .before .before .before .before .before in
     let half = kept .before in
     let dollar = half .before in
-    counted-more (counted (dollar .before)) (c .before .stretch .given .0 .0)
-    (simp (dollar .is-exceeded .ensures, half .is-exceeded2 .ensures) at (kept .if3 .left)) (ended (c .before))
+    let end = ended (c .before) in (
+      counted-more (counted (dollar .before)) (c .before .stretch .given .0 .0 .at)
+          (simp (dollar .is-exceeded .ensures, half .is-exceeded2 .ensures) at (kept .if3 .left)) (end .0),
+      (end .1, refl),
+    )
 
 returns-5 : tie.Need-returns-5 Inv-loop μ-loop
-returns-5 c = (λ t. walked-end (c .before .loop .inv) (c .loop-test .left), λ r. tt)
+returns-5 c = (λ t. walked-end (c .before .loop .inv .0) (c .loop-test .left), λ r. tt)
 
 pub are-classes-spec : {M : Type 1} → statement M
 are-classes-spec =
@@ -174,6 +197,7 @@ are-classes-spec =
     (tie.spec
     Inv-loop
     μ-loop
+    look-ahead-requires
     loop-holds
     mul-w
     shared-slice-read-w
@@ -197,7 +221,8 @@ are-classes-spec =
     is-exceeded-requires
     is-exceeded-requires-2
     returns-3
-    add-expirations-end
+    add-skip-to
+    skip-to-requires
     expirations-end-requires
     enum-known-stretch
     enum-told

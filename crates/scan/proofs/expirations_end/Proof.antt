@@ -1,31 +1,75 @@
 -- `expirations_end` finds the end of a class's series: each way through the loop is one law of the loop.
-use Prim.Native.Nat.{_-_}
-use mathlib.Core.Path.{_≡_, sym, _∙_}
+use Prim.Native.Nat.{suc, _+_, _-_, min}
+use mathlib.Core.Path.{_≡_, refl, sym, _∙_}
 use native.Mathlib.Omega.{arith}
-use lib.ListN.{length, getD}
+use lib.ListN.{length, drop, getD}
+use lib.Dec.{T}
 use borrow.Author.Needs.{needs}
-use borrow.Author.Tests.{not-true, not-false}
-use Rattle.word.specs.Codec.{kindOf}
-use Rattle.book.proofs.Tests.{true-T}
-use Rattle.scan.proofs.Expirations.{Expirations, expirations-start, expirations-done, expirations-stop, expirations-wrong, expirations-empty, expirations-more}
+use Rattle.word.specs.declared.codec.Word.the-variants.{Expiration}
+use Rattle.word.specs.Codec.{packed, kindOf}
+use Rattle.scan.specs.Tests.{nextLength}
+use Rattle.scan.specs.Ahead.{Tells}
+use Rattle.scan.proofs.Words.{isBetween, between-kind}
+use Rattle.scan.proofs.Expirations.{Expirations, expirations-start, expirations-done, expirations-stop, expirations-passed, expirations-failed, expirations-wrong, expirations-empty, expirations-outside, expirations-more}
 use Rattle.scan.proofs.expirations_end.Statement.{statement}
 use Rattle.scan.proofs.expirations_end.Tie as tie
 
 abbrev Inv-loop : tie.InvT-loop
-Inv-loop current s from i₀ least₀ i least = Expirations current s from least i
+Inv-loop current s latest least₀ ahead₀ i₀ least ahead i =
+    Expirations current s (ahead₀ .at) least i × (Tells s ahead × (ahead .at ≡ i))
 
 abbrev μ-loop : tie.MeasureT-loop
-μ-loop current s from i₀ least₀ i least = length s - i
+μ-loop current s latest least₀ ahead₀ i₀ least ahead i = length s - i
 
--- the word at i is an expiration word
+-- the last word that the loop compares with is that of the last month
+latest :
+    (c : tie.After-expiration-word2 Inv-loop μ-loop)
+    → c .before .expiration-word .result
+    ≡ packed (Expiration (min (c .before .before .before .before .args .current + 39) 1023))
+latest c = rw (c .before .expiration-word .ensures, c .before .before .latest-month .ensures)
+
+-- the word at i passed the comparison
+passed :
+    (c : tie.Else1 Inv-loop μ-loop)
+    → let at = c .before .before .before in
+    let a = at .before .before .before .before .before .args in
+    T (isBetween (a .current) (at .loop .inv .0 .next) (getD (a .s .now) (at .loop .i) 0))
+passed c =
+    let at = c .before .before .before in
+    expirations-passed (at .loop .inv .0) (at .before .before .expiration-word .result) (latest (at .before)) (c .if1 .left)
+
+-- so it is an expiration word
 kind-five :
     (c : tie.Else1 Inv-loop μ-loop)
-    → let loop = c .before .before .before .before in
-    kindOf (getD (loop .before .before .args .s .now) (loop .loop .i) 0) ≡ 5
-kind-five c = sym (c .before .kind .ensures) ∙ c .if1 .left
+    → let at = c .before .before .before in
+    kindOf (getD (at .before .before .before .before .before .args .s .now) (at .loop .i) 0) ≡ 5
+kind-five c =
+    let at = c .before .before .before in
+    let a = at .before .before .before .before .before .args in
+    between-kind (a .current) (at .loop .inv .0 .next) (getD (a .s .now) (at .loop .i) 0) (passed c)
+
+-- and its strikes end at the next other
+ends :
+    (c : tie.After-next-other Inv-loop μ-loop)
+    → let at = c .before .before .before .before in
+    let s = at .before .before .before .before .before .args .s .now in
+    c .next-other .result .at ≡ suc (at .loop .i) + nextLength (getD s (at .loop .i) 0) (drop (suc (at .loop .i)) s)
+ends c = rw (← c .before .before .before .before .loop .inv .1 .1) (c .next-other .ensures .1)
+
+latest-month-requires : tie.Need-latest-month-requires Inv-loop μ-loop
+latest-month-requires c κs = search needs
+
+expiration-word-requires : tie.Need-expiration-word-requires Inv-loop μ-loop
+expiration-word-requires c κs = search needs
+
+expiration-word-requires-2 : tie.Need-expiration-word-requires-2 Inv-loop μ-loop
+expiration-word-requires-2 c κs = search needs
 
 loop-holds : tie.Need-loop-holds Inv-loop μ-loop
-loop-holds c = let a = c .before .args in expirations-start (a .current) (a .s .now) (a .from) (c .before .pre .1)
+loop-holds c =
+    let a = c .before .before .before .before .args in
+    let told = c .before .before .before .before .pre .1 in
+    (rw (c .expiration-word2 .ensures) (expirations-start (a .current) (a .s .now) (a .from .at) (told .within)), (told, refl))
 
 mul-w : tie.Need-mul-w Inv-loop μ-loop
 mul-w c = search needs
@@ -38,59 +82,87 @@ kind-requires c κs = search needs
 
 returns : tie.Need-returns Inv-loop μ-loop
 returns c =
-    let at = c .before .before .before in
-    expirations-stop (at .before .loop .inv) (at .loop-test .taken) (λ k. c .if1 .taken (c .before .kind .ensures ∙ k))
-
-is-expiration-from-requires : tie.Need-is-expiration-from-requires Inv-loop μ-loop
-is-expiration-from-requires c κs = search needs
+    let out = c .before .before in
+    let at = out .before .before .before in
+    expirations-wrong (at .loop .inv .0) (out .before .before .loop-test .taken) (sym (c .before .kind .ensures) ∙ c .if2 .taken)
+    (expirations-failed (at .loop .inv .0) (at .before .before .expiration-word .result) (latest (at .before)) (out .if1 .taken))
 
 returns-2 : tie.Need-returns-2 Inv-loop μ-loop
 returns-2 c =
-    let test = c .before .is-expiration-from in
-    let kind = c .before .before in
-    let at = kind .before .before .before in
-    expirations-wrong (at .before .loop .inv) (at .loop-test .taken) (kind-five kind)
-    (sym (test .ensures) ∙ not-true (test .result) (c .if2 .taken))
+    let out = c .before .before in
+    let at = out .before .before .before in (
+      rw (at .loop .inv .1 .1)
+          (expirations-stop (at .loop .inv .0) (out .before .before .loop-test .taken)
+          (λ k. c .if2 .left (c .before .kind .ensures ∙ k))),
+      at .loop .inv .1 .0,
+    )
 
-add-strikes-end : tie.Need-add-strikes-end Inv-loop μ-loop
-add-strikes-end c = search needs
-
-strikes-end-requires : tie.Need-strikes-end-requires Inv-loop μ-loop
-strikes-end-requires c κs = search needs
+next-other-requires : tie.Need-next-other-requires Inv-loop μ-loop
+next-other-requires c κs =
+    let at = c .before .before .before in
+    (at .loop .inv .1 .0, rw (at .loop .inv .1 .1) (c .before .before .loop-test .taken, kind-five c))
 
 add-if3 : tie.Need-add-if3 Inv-loop μ-loop
 add-if3 c = search needs
 
 returns-3 : tie.Need-returns-3 Inv-loop μ-loop
 returns-3 c =
-    let end = c .before .strikes-end in
-    let kind = c .before .before .before .before in
-    let at = kind .before .before .before in
-    expirations-empty (at .before .loop .inv) (at .loop-test .taken) (kind-five kind) (end .result) (end .ensures .0)
-    (omega arith)
+    let found = c .before in
+    let test = found .before in
+    let at = test .before .before .before in
+    expirations-empty (at .loop .inv .0) (test .before .before .loop-test .taken) (kind-five test)
+    (found .next-other .result .at) (ends found) (omega arith)
 
-field-of-requires : tie.Need-field-of-requires Inv-loop μ-loop
-field-of-requires c κs = search needs
+add-are-strikes : tie.Need-add-are-strikes Inv-loop μ-loop
+add-are-strikes c = search needs
+
+mul-are-strikes : tie.Need-mul-are-strikes Inv-loop μ-loop
+mul-are-strikes c = search needs
+
+shared-slice-read-are-strikes : tie.Need-shared-slice-read-are-strikes Inv-loop μ-loop
+shared-slice-read-are-strikes c = search needs
+
+sub-are-strikes : tie.Need-sub-are-strikes Inv-loop μ-loop
+sub-are-strikes c = search needs
+
+mul-are-strikes-2 : tie.Need-mul-are-strikes-2 Inv-loop μ-loop
+mul-are-strikes-2 c = search needs
+
+shared-slice-read-are-strikes-2 : tie.Need-shared-slice-read-are-strikes-2 Inv-loop μ-loop
+shared-slice-read-are-strikes-2 c = search needs
+
+are-strikes-requires : tie.Need-are-strikes-requires Inv-loop μ-loop
+are-strikes-requires c κs = search needs
+
+returns-4 : tie.Need-returns-4 Inv-loop μ-loop
+returns-4 c =
+    let found = c .before .before .before .before .before in
+    let test = found .before in
+    let at = test .before .before .before in
+    expirations-outside (at .loop .inv .0) (test .before .before .loop-test .taken) (kind-five test)
+    (found .next-other .result .at) (ends found) (rw (c .before .are-strikes .ensures) at (c .if4 .taken))
 
 add-least : tie.Need-add-least Inv-loop μ-loop
-add-least c = search needs
+add-least c = omega (arith, kind-five (c .before .before .before .before .before .before))
 
 loop-less : tie.Need-loop-less Inv-loop μ-loop
 loop-less c = search needs
 
 loop-again : tie.Need-loop-again Inv-loop μ-loop
 loop-again c =
-    let end = c .before .before .strikes-end in
-    let test = c .before .before .before .before .is-expiration-from in
-    let kind = c .before .before .before .before .before in
-    let at = kind .before .before .before in
-    rw (c .field-of .ensures)
-    (expirations-more (at .before .loop .inv) (at .loop-test .taken) (kind-five kind) (end .result)
-    (true-T _ (sym (test .ensures) ∙ not-false (test .result) (c .before .before .before .if2 .left)))
-    (end .ensures .0) (omega arith) (end .ensures .1))
+    let found = c .before .before .before .before .before in
+    let test = found .before in
+    let at = test .before .before .before in (
+      expirations-more (at .loop .inv .0) (test .before .before .loop-test .taken) (kind-five test)
+          (found .next-other .result .at) (ends found) (passed test) (omega (arith, ends found))
+          (rw (c .before .are-strikes .ensures) at (c .if4 .left)) (found .next-other .ensures .0 .within),
+      (found .next-other .ensures .0, refl),
+    )
 
-returns-4 : tie.Need-returns-4 Inv-loop μ-loop
-returns-4 c = expirations-done (c .before .loop .inv) (c .loop-test .left)
+returns-5 : tie.Need-returns-5 Inv-loop μ-loop
+returns-5 c =
+    let at = c .before in
+    (rw (at .loop .inv .1 .1) (expirations-done (at .loop .inv .0) (c .loop-test .left)), at .loop .inv .1 .0)
 
 pub expirations-end-spec : {M : Type 1} → statement M
 expirations-end-spec =
@@ -98,19 +170,27 @@ expirations-end-spec =
     (tie.spec
     Inv-loop
     μ-loop
+    latest-month-requires
+    expiration-word-requires
+    expiration-word-requires-2
     loop-holds
     mul-w
     shared-slice-read-w
     kind-requires
     returns
-    is-expiration-from-requires
     returns-2
-    add-strikes-end
-    strikes-end-requires
+    next-other-requires
     add-if3
     returns-3
-    field-of-requires
+    add-are-strikes
+    mul-are-strikes
+    shared-slice-read-are-strikes
+    sub-are-strikes
+    mul-are-strikes-2
+    shared-slice-read-are-strikes-2
+    are-strikes-requires
+    returns-4
     add-least
     loop-less
     loop-again
-    returns-4)
+    returns-5)

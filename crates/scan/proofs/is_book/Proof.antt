@@ -4,7 +4,7 @@ use mathlib.Core.Path.{_≡_, _∙_}
 use mathlib.Core.Logic.{_↔_}
 use mathlib.Core.Bool.{false, not}
 use native.Mathlib.Omega.{arith}
-use lib.ListN.{length, getD}
+use lib.ListN.{length, getD, length-take}
 use lib.Dec.{T}
 use borrow.Author.Needs.{needs}
 use borrow.Author.Tests.{not-true, not-false}
@@ -12,7 +12,7 @@ use Rattle.word.specs.Field.{field}
 use Rattle.book.proofs.Tests.{true-T}
 use Rattle.scan.specs.Tests.{isHeadWord}
 use Rattle.scan.specs.Stretches.{Classes}
-use Rattle.scan.proofs.Books.{monthIn, front, some-words, head-within, wrong-length, wrong-head, wrong-classes, zeros-left}
+use Rattle.scan.proofs.Books.{monthIn, front, used-front, some-words, head-within, wrong-length, wrong-head, wrong-classes, zeros-left}
 use Rattle.scan.proofs.is_book.Statement.{statement}
 use Rattle.scan.proofs.is_book.Tie as tie
 
@@ -51,7 +51,9 @@ classes :
     T (c .are-classes .result) ↔ Classes (monthIn ws) 0 0 0 (front ws)
 classes c =
     let month = c .before .before in
-    rw (← month .field-of3 .ensures, ← month .before .before .before .field-of .ensures) (c .are-classes .ensures)
+    let used = month .before .before .before .field-of in
+    let ws = month .before .before .before .before .before .before .before .args .run .now in
+    rw (← month .field-of3 .ensures, ← used .ensures, ← used-front (used .result) ws) (c .are-classes .ensures)
 
 shared-slice-read-head : tie.Need-shared-slice-read-head
 shared-slice-read-head c =
@@ -86,7 +88,9 @@ part-are-classes-end : tie.Need-part-are-classes-end
 part-are-classes-end c = let fits = within (c .before) in search needs
 
 are-classes-requires : tie.Need-are-classes-requires
-are-classes-requires c κs = search needs
+are-classes-requires c κs =
+    let fits = within (c .before .before) in
+    (omega arith, simp length-take (omega arith))
 
 returns-3 : tie.Need-returns-3
 returns-3 c =

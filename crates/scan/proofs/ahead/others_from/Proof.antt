@@ -1,0 +1,65 @@
+-- `others_from` tells the others: of the last 64 words the bits before `base` are shifted out.
+use Prim.Native.Nat.{_+_, _<_, _≤_}
+use mathlib.Core.Path.{sym, _∙_}
+use mathlib.Core.Logic.{⊎-elim}
+use native.Mathlib.Omega.{arith}
+use native.Mathlib.Nat.{sub-self, div-one}
+use lib.ListN.{length}
+use Rattle.scan.proofs.OtherBits.{bitsAt, bits-whole, bits-last}
+use borrow.Author.Needs.{needs}
+use Rattle.scan.proofs.ahead.others_from.Statement.{statement}
+use Rattle.scan.proofs.ahead.others_from.Tie as tie
+
+-- 64 words from the start are there, and `base` is among them
+start-fits :
+    (c : tie.Joined2)
+    → let a = c .before .before .before .args in
+    (1 ≤ c .if2 .start) × ((c .if2 .start + 64 ≤ length (a .s .now)) × ((c .if2 .start ≤ a .base) × (a .base < c .if2 .start + 64)))
+start-fits c = ⊎-elim (λ w. omega (arith, w .1)) (λ w. omega (arith, w .1)) (c .if2 .came)
+
+others-of-rest-requires : tie.Need-others-of-rest-requires
+others-of-rest-requires c κs = search needs
+
+returns : tie.Need-returns
+returns c =
+    let a = c .before .before .before .args in
+    c .others-of-rest .ensures ∙ sym (bits-whole (a .s .now) (a .base) 64 (omega arith))
+
+sub-if2 : tie.Need-sub-if2
+sub-if2 c = search needs
+
+sub-start : tie.Need-sub-start
+sub-start c = search needs
+
+others-of-64-requires : tie.Need-others-of-64-requires
+others-of-64-requires c κs = omega (arith, start-fits c)
+
+sub-result : tie.Need-sub-result
+sub-result c = omega (arith, start-fits (c .before .before))
+
+shr-result : tie.Need-shr-result
+shr-result c = omega (arith, start-fits (c .before .before))
+
+returns-2 : tie.Need-returns-2
+returns-2 c =
+    let joined = c .before .before in
+    let a = joined .before .before .before .args in
+    rw (c .before .others-of-64 .ensures)
+    (⊎-elim
+    (λ w. bits-last (a .s .now) (joined .if2 .start) (a .base) (omega (arith, start-fits joined))
+    (omega (arith, start-fits joined)) (omega (arith, w .1)))
+    (λ w. rw (w .1, sub-self (a .base)) (div-one (bitsAt (a .s .now) (a .base) 64)))
+    (joined .if2 .came))
+
+pub others-from-spec : {M : Type 1} → statement M
+others-from-spec =
+    tie.close
+    (tie.spec
+    others-of-rest-requires
+    returns
+    sub-if2
+    sub-start
+    others-of-64-requires
+    sub-result
+    shr-result
+    returns-2)

@@ -1,0 +1,125 @@
+-- `others_of_rest` tells the others: where there are more than 32 words, those of the first 32 are the low bits, those of the rest the high ones.
+use Prim.Native.Nat.{_+_, _-_}
+use mathlib.Core.Path.{_≡_, _∙_}
+use native.Mathlib.Omega.{arith}
+use lib.ListN.{length}
+use Rattle.scan.proofs.OtherBits.{bitsAt, bits-part, bits-joined, bits-whole}
+use borrow.Author.Needs.{needs}
+use Rattle.scan.proofs.ahead.others_of_rest.Statement.{statement}
+use Rattle.scan.proofs.ahead.others_of_rest.Tie as tie
+
+sub-before : tie.Need-sub-before
+sub-before c = search needs
+
+sub-if1 : tie.Need-sub-if1
+sub-if1 c = search needs
+
+mul-others-few : tie.Need-mul-others-few
+mul-others-few c = search needs
+
+sub-others-few : tie.Need-sub-others-few
+sub-others-few c = search needs
+
+part-others-few-start : tie.Need-part-others-few-start
+part-others-few-start c = search needs
+
+part-others-few-end : tie.Need-part-others-few-end
+part-others-few-end c = search needs
+
+others-few-requires : tie.Need-others-few-requires
+others-few-requires c κs = search needs
+
+cast-result : tie.Need-cast-result
+cast-result c = search needs
+
+returns : tie.Need-returns
+returns c =
+    let a = c .before .before .before .before .args in
+    let s = a .s .now in
+    c .others-few .ensures
+    ∙ bits-part s (a .base - 1) (length s) (a .base) (length s - a .base) (omega arith) (omega arith) (omega arith)
+    ∙ bits-whole s (a .base) (length s - a .base) (omega arith)
+
+add-last : tie.Need-add-last
+add-last c = search needs
+
+add-middle : tie.Need-add-middle
+add-middle c = search needs
+
+mul-others-of-32 : tie.Need-mul-others-of-32
+mul-others-of-32 c = search needs
+
+sub-others-of-32 : tie.Need-sub-others-of-32
+sub-others-of-32 c = search needs
+
+part-others-of-32-start : tie.Need-part-others-of-32-start
+part-others-of-32-start c = search needs
+
+part-others-of-32-end : tie.Need-part-others-of-32-end
+part-others-of-32-end c = search needs
+
+others-of-32-requires : tie.Need-others-of-32-requires
+others-of-32-requires c κs = search needs
+
+cast-result-2 : tie.Need-cast-result-2
+cast-result-2 c = search needs
+
+mul-others-few-2 : tie.Need-mul-others-few-2
+mul-others-few-2 c = search needs
+
+sub-others-few-2 : tie.Need-sub-others-few-2
+sub-others-few-2 c = search needs
+
+part-others-few-start-2 : tie.Need-part-others-few-start-2
+part-others-few-start-2 c = search needs
+
+part-others-few-end-2 : tie.Need-part-others-few-end-2
+part-others-few-end-2 c = search needs
+
+others-few-requires-2 : tie.Need-others-few-requires-2
+others-few-requires-2 c κs = search needs
+
+cast-result-3 : tie.Need-cast-result-3
+cast-result-3 c = search needs
+
+returns-2 : tie.Need-returns-2
+returns-2 c =
+    let a = c .before .before .before .before .before .before .args in
+    let s = a .s .now in
+    let rest = length s - (a .base + 32) in
+    let low : c .before .before .others-of-32 .result ≡ bitsAt s (a .base) 32 =
+    c .before .before .others-of-32 .ensures
+    ∙ bits-part s (a .base - 1) (a .base + 32) (a .base) 32 (omega arith) (omega arith) (omega arith) in
+    let high : c .others-few2 .result ≡ bitsAt s (a .base + 32) rest =
+    c .others-few2 .ensures
+    ∙ bits-part s (a .base + 31) (length s) (a .base + 32) rest (omega arith) (omega arith) (omega arith) in
+    rw (low, high) (bits-joined s (a .base) rest (omega arith)) ∙ bits-whole s (a .base) (32 + rest) (omega arith)
+
+pub others-of-rest-spec : {M : Type 1} → statement M
+others-of-rest-spec =
+    tie.close
+    (tie.spec
+    sub-before
+    sub-if1
+    mul-others-few
+    sub-others-few
+    part-others-few-start
+    part-others-few-end
+    others-few-requires
+    cast-result
+    returns
+    add-last
+    add-middle
+    mul-others-of-32
+    sub-others-of-32
+    part-others-of-32-start
+    part-others-of-32-end
+    others-of-32-requires
+    cast-result-2
+    mul-others-few-2
+    sub-others-few-2
+    part-others-few-start-2
+    part-others-few-end-2
+    others-few-requires-2
+    cast-result-3
+    returns-2)

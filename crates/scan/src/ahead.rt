@@ -1,0 +1,171 @@
+// Which words are no next strikes, told 64 words at a time: so that a stretch of strikes is passed at once, however long it is.
+ghost use mathlib.Core.Path.{_≡_};
+ghost use Prim.Native.Nat.{_+_, _-_, _<_, _≤_, suc};
+ghost use lib.Dec.{T};
+ghost use lib.ListN.{drop, getD, length, take};
+ghost use Rattle.word.specs.Codec.{kindOf};
+ghost use Rattle.scan.specs.Tests.{isNextStrike, nextLength, orderOf};
+ghost use Rattle.scan.specs.Ahead.{otherBits, Tells};
+use word::field::field_of;
+
+// The others, words that are no next strikes, from `at` on: `bits` has one bit for each of the 64 words from `base` on, lowest first, which is 1 for an other.
+pub struct Ahead {
+    pub base: usize,
+    pub bits: u64,
+    pub at: usize,
+}
+
+// What rises from an expiration to its strikes and from strike to strike: the kind, without its highest bit, and then the strike.
+fn order_of(w: u32) -> u32
+    ensures { λ r. ⌜ r ≡ orderOf w ⌝ }
+{
+    field_of(w, 28, 3) * 268435456 + field_of(w, 0, 15)
+}
+
+// Whether w is a strike word that may follow the word before it. That a first strike is not 0 and a last one not above 19,999 is asked elsewhere, once for a stretch.
+fn is_next_strike(before: u32, w: u32) -> bool
+    ensures { λ r. ⌜ r ≡ isNextStrike before w ⌝ }
+{
+    (field_of(w, 20, 12) == 1536) & ((field_of(w, 15, 3) <= 3) & (order_of(before) < order_of(w)))
+}
+
+// The others among the words after the first, a bit for each.
+fn others_few(s: &[u32]) -> u32
+    requires { ⌜ (1 ≤ length (now s)) × (length (now s) ≤ 33) ⌝ }
+    ensures { λ r. ⌜ r ≡ otherBits (getD (now (s .entry)) 0 0) (drop 1 (now (s .entry))) ⌝ }
+{
+    let mut bits = 0;
+    let mut i = 0;
+    while i + 1 < s.len() {
+        let bit = if is_next_strike(s[i], s[i + 1]) {
+            0
+        } else {
+            1 << i
+        };
+        bits = bits | bit;
+        i += 1;
+    }
+    bits
+}
+
+// The same of 32 words: the constant lets it compile to tests of many words at a time.
+fn others_of_32(s: &[u32]) -> u32
+    requires { ⌜ length (now s) ≡ 33 ⌝ }
+    ensures { λ r. ⌜ r ≡ otherBits (getD (now (s .entry)) 0 0) (drop 1 (now (s .entry))) ⌝ }
+{
+    let mut bits = 0;
+    let mut i = 0;
+    while i < 32 {
+        let bit = if is_next_strike(s[i], s[i + 1]) {
+            0
+        } else {
+            1 << i
+        };
+        bits = bits | bit;
+        i += 1;
+    }
+    bits
+}
+
+// The others among the 64 words from `base` on.
+fn others_of_64(s: &[u32], base: usize) -> u64
+    requires { ⌜ (1 ≤ base) × (base + 64 ≤ length (now s)) ⌝ }
+    ensures { λ r. ⌜ r ≡ otherBits (getD (now (s .entry)) (base - 1) 0) (take 64 (drop base (now (s .entry)))) ⌝ }
+{
+    let before = base - 1;
+    let last = base + 31;
+    let middle = base + 32;
+    let end = base + 64;
+    others_of_32(&s[before..middle]) as u64 | (others_of_32(&s[last..end]) as u64) << 32
+}
+
+// The others from `base` on among few words.
+fn others_of_rest(s: &[u32], base: usize) -> u64
+    requires { ⌜ (1 ≤ base) × ((base < length (now s)) × (length (now s) ≤ 64)) ⌝ }
+    ensures { λ r. ⌜ r ≡ otherBits (getD (now (s .entry)) (base - 1) 0) (drop base (now (s .entry))) ⌝ }
+{
+    let n = s.len();
+    let before = base - 1;
+    if n - base < 32 {
+        return others_few(&s[before..n]) as u64;
+    }
+    let last = base + 31;
+    let middle = base + 32;
+    others_of_32(&s[before..middle]) as u64 | (others_few(&s[last..n]) as u64) << 32
+}
+
+// The others among at most 64 words from `base` on. Where fewer are left, they are the last of 64.
+fn others_from(s: &[u32], base: usize) -> u64
+    requires { ⌜ (1 ≤ base) × (base < length (now s)) ⌝ }
+    ensures { λ r. ⌜ r ≡ otherBits (getD (now (s .entry)) (base - 1) 0) (take 64 (drop base (now (s .entry)))) ⌝ }
+{
+    let n = s.len();
+    if n <= 64 {
+        return others_of_rest(s, base);
+    }
+    let start = if n - base < 64 { n - 64 } else { base };
+    others_of_64(s, start) >> (base - start)
+}
+
+// What is ahead of `at`.
+pub fn look_ahead(s: &[u32], at: usize) -> Ahead
+    requires { ⌜ (1 ≤ at) × (at ≤ length (now s)) ⌝ }
+    ensures { λ r. ⌜ Tells (now (s .entry)) r × (r .at ≡ at) ⌝ }
+{
+    if at == s.len() {
+        return Ahead {
+            base: at,
+            bits: 0,
+            at,
+        };
+    }
+    Ahead {
+        base: at,
+        bits: others_from(s, at),
+        at,
+    }
+}
+
+// What is ahead of a later word.
+pub fn skip_to(s: &[u32], ahead: Ahead, at: usize) -> Ahead
+    requires { ⌜ Tells (now s) ahead × ((ahead .at ≤ at) × (at ≤ length (now s))) ⌝ }
+    ensures { λ r. ⌜ Tells (now (s .entry)) r × (r .at ≡ at) ⌝ }
+{
+    let base = ahead.base;
+    if base + 64 <= at {
+        return look_ahead(s, at);
+    }
+    let passed = at - base;
+    Ahead {
+        base,
+        bits: (ahead.bits >> passed) << passed,
+        at,
+    }
+}
+
+// What is ahead of the next other after the word `ahead.at`, which is one.
+pub fn next_other(s: &[u32], ahead: Ahead) -> Ahead
+    requires { ⌜ Tells (now s) ahead × ((ahead .at < length (now s)) × (kindOf (getD (now s) (ahead .at) 0) ≡ 5)) ⌝ }
+    ensures { λ r. ⌜ Tells (now (s .entry)) r
+        × (r .at ≡ suc (ahead .at) + nextLength (getD (now (s .entry)) (ahead .at) 0) (drop (suc (ahead .at)) (now (s .entry)))) ⌝ }
+{
+    let n = s.len();
+    let mut base = ahead.base;
+    let mut bits = ahead.bits & (ahead.bits - 1);
+    while bits == 0 {
+        base += 64;
+        if n <= base {
+            return Ahead {
+                base: n,
+                bits: 0,
+                at: n,
+            };
+        }
+        bits = others_from(s, base);
+    }
+    Ahead {
+        base,
+        bits,
+        at: base + u64::trailing_zeros(bits) as usize,
+    }
+}
