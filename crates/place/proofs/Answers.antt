@@ -5,11 +5,12 @@ use mathlib.Core.Bool.{Bool, true, false, cond, not}
 use mathlib.Core.List.{List}
 use native.Mathlib.Omega.{arith}
 use lib.ListN.{length, take, drop, length-drop}
-use lib.Seq.{take-all}
+use lib.Seq.{take-all, length-take-le}
 use lib.Dec.{T, ltb}
 use borrow.Author.Tests.{not-true, not-false, ltb-true}
 use Rattle.word.specs.declared.class.ClassRecord.{ClassRecord}
 use Rattle.word.proofs.Tests.{and-both}
+use Rattle.rule.specs.Lists.{every}
 use Rattle.book.specs.Facts.{Facts, isOpen}
 use Rattle.book.specs.Layout.{used, factsOf}
 use Rattle.book.specs.Books.{isBook}
@@ -24,10 +25,11 @@ use Rattle.place.specs.declared.lookup.Part.{Part}
 use Rattle.place.specs.declared.lookup.StrikeSearch.{StrikeSearch}
 use Rattle.place.specs.declared.lookup.StrikeLookup.the-variants.{NotOpen as NoStrike, Open as OpenStrike}
 use Rattle.place.specs.declared.search.Found.{Found}
-use Rattle.place.specs.Search.{firstAt, isFrom, holdsAt, figuresAt, Finds, strikesAfter, strikesIn}
+use Rattle.place.specs.Search.{firstAt, isOfKind, isFrom, holdsAt, figuresAt, Finds, strikesAfter, strikesIn}
 use Rattle.place.specs.Lookups.{lookupOf, expirationOf, expirationLookupOf, strikeSearchOf, strikeLookupOf}
 use Rattle.place.proofs.Heads.{book-good, book-room}
-use Rattle.place.proofs.Found.{class-sought, class-found, class-room, figures-found, class-ended, strikes-sought, strike-sought, strike-found}
+use Rattle.place.proofs.Words.{first-of-kind}
+use Rattle.place.proofs.Found.{class-sought, class-found, class-room, figures-found, class-ended, strikes-sought, strikes-kind, strike-sought, strike-found}
 
 -- ---- what an answer says
 
@@ -144,13 +146,13 @@ module _ (ws : List ℕ) (m : ℕ) (r : Found) (s : Finds 5 10 m ws r) where
         omega (arith, ltb-true (r .at) (length ws) (t .0))
 
     pub answer-strikes :
-        (k : ℕ) → k ≡ firstAt (isFrom 5 10 0) (take (length ws - (r .at + 1)) (drop (r .at + 1) ws))
+        (k : ℕ) → k ≡ firstAt (isOfKind 5) (take (length ws - (r .at + 1)) (drop (r .at + 1) ws))
         → record { from = r .at + 1; to = r .at + 1 + k } ≡ strikesIn m ws
     answer-strikes k q =
         let after = drop (r .at + 1) ws in
         let whole : take (length ws - (r .at + 1)) after ≡ after =
         take-all (length ws - (r .at + 1)) after (simp length-drop (omega arith)) in
-        (λ j. record { from = r .at + 1; to = r .at + 1 + (q ∙ ap (firstAt (isFrom 5 10 0)) whole) j })
+        (λ j. record { from = r .at + 1; to = r .at + 1 + (q ∙ ap (firstAt (isOfKind 5)) whole ∙ first-of-kind 5 10 after) j })
         ∙ ap (λ (x : Bool). strikesAfter x (r .at) ws) (sym (not-false (r .holds) n))
         ∙ strikes-are
 
@@ -206,24 +208,46 @@ no-strike ws c m h l = rw (expiration-not-open c (factsOf ws) m l)
 module _
     (ws : List ℕ) (b : T (isBook ws)) (c m : ℕ) (r : Expiration)
     (l : expirationLookupOf c m (factsOf ws) ≡ OpenExpiration r) where
-  pub strikes-room : (r .from ≤ r .to) × (r .to ≤ length ws)
-  strikes-room =
-      let x = expiration-open c (factsOf ws) m r l in
-      let from : r .from ≡ strikesPlace c m (factsOf ws) = ap (λ (y : Expiration). y .from) (x .1) in
-      let to : r .to ≡ strikesEnd c m (factsOf ws) = ap (λ (y : Expiration). y .to) (x .1) in
-      (omega arith, omega (arith, strikes-within (length ws) (factsOf ws) c m (book-good ws b) (x .0), book-room ws b))
+  opened : T (isOpen c (factsOf ws .classes))
+  opened = expiration-open c (factsOf ws) m r l .0
 
-  pub answer-strike :
-      (h : ℕ) (k : Found) → Finds 6 15 h (take (r .to - r .from) (drop (r .from) ws)) k
-      → OpenStrike (record { figures = r .figures; from = r .from; to = r .to; at = r .from + k .at; standing = k .holds })
-      ≡ strikeLookupOf c m h (factsOf ws)
-  unfolding strikeLookupOf
-  answer-strike h k s =
-      let x = expiration-open c (factsOf ws) m r l in
-      let figures = ap (λ (y : Expiration). y .figures) (x .1) in
-      let from : r .from ≡ strikesPlace c m (factsOf ws) = ap (λ (y : Expiration). y .from) (x .1) in
-      let to : r .to ≡ strikesEnd c m (factsOf ws) = ap (λ (y : Expiration). y .to) (x .1) in
-      let at = strike-sought ws b c (x .0) m h (r .from) (r .to) from to (k .at) (s .first) in
-      let standing = s .holds ∙ strike-found ws b c (x .0) m h (r .from) (r .to) from to (k .at) (s .first) in
-      rw (T-true (isOpen c (factsOf ws .classes)) (x .0))
-      (λ j. OpenStrike (record { figures = figures j; from = from j; to = to j; at = at j; standing = standing j }))
+  from-place : r .from ≡ strikesPlace c m (factsOf ws)
+  from-place = ap (λ (y : Expiration). y .from) (expiration-open c (factsOf ws) m r l .1)
+
+  to-end : r .to ≡ strikesEnd c m (factsOf ws)
+  to-end = ap (λ (y : Expiration). y .to) (expiration-open c (factsOf ws) m r l .1)
+
+  pub strikes-room : (r .from ≤ r .to) × (r .to ≤ length ws)
+  strikes-room = (
+    omega (arith, from-place, to-end),
+    omega (arith, to-end, strikes-within (length ws) (factsOf ws) c m (book-good ws b) opened, book-room ws b),
+  )
+
+  module _
+      (h : ℕ) (k : Found)
+      (found :
+      (kind : ℕ) → T (every (isOfKind kind) (take (r .to - r .from) (drop (r .from) ws)))
+      → Finds kind 15 h (take (r .to - r .from) (drop (r .from) ws)) k) where
+    strike-finds : Finds 6 15 h (take (r .to - r .from) (drop (r .from) ws)) k
+    strike-finds = found 6 (strikes-kind ws b c opened m h (r .from) (r .to) from-place to-end)
+
+    pub strike-within : r .from + k .at ≤ length ws
+    strike-within =
+        omega (
+          arith,
+          strike-finds .within,
+          strikes-room,
+          length-take-le (r .to - r .from) (drop (r .from) ws) (simp length-drop (omega (arith, strikes-room))),
+        )
+
+    pub answer-strike :
+        OpenStrike (record { figures = r .figures; from = r .from; to = r .to; at = r .from + k .at; standing = k .holds })
+        ≡ strikeLookupOf c m h (factsOf ws)
+    unfolding strikeLookupOf
+    answer-strike =
+        let s = strike-finds in
+        let figures = ap (λ (y : Expiration). y .figures) (expiration-open c (factsOf ws) m r l .1) in
+        let at = strike-sought ws b c opened m h (r .from) (r .to) from-place to-end (k .at) (s .first) in
+        let standing = s .holds ∙ strike-found ws b c opened m h (r .from) (r .to) from-place to-end (k .at) (s .first) in
+        rw (T-true (isOpen c (factsOf ws .classes)) opened)
+        (λ j. OpenStrike (record { figures = figures j; from = from-place j; to = to-end j; at = at j; standing = standing j }))

@@ -2,15 +2,21 @@
 use Prim.Native.Nat.{ℕ, zero, suc, _+_, _-_, _≤_, _<_, zero-le}
 use mathlib.Core.Path.{_≡_, refl, sym, ap, _∙_}
 use mathlib.Core.Bool.{Bool, true, false, cond}
-use mathlib.Core.List.{List, [], _∷_, _++_}
+use mathlib.Core.List.{List, [], _∷_, _++_, map}
 use native.Mathlib.Omega.{arith}
 use native.Mathlib.Numerals.{add-one}
-use lib.ListN.{length, take, drop, getD, take-append-drop, drop-of-length-le, length-drop}
+use lib.Count.{trailingZeros}
+use lib.ListN.{length, take, drop, getD, take-append-drop, drop-of-length-le, length-drop, length-map}
 use lib.Seq.{drop-cons, drop-drop, length-take-le, take-all, getD-take, getD-drop}
+use lib.Dec.{T}
+use Rattle.word.specs.Digits.{binary, firstOne}
+use Rattle.word.proofs.Digits.{trailing-zeros, no-one, some-one}
+use Rattle.rule.specs.Lists.{every}
+use Rattle.book.proofs.Tests.{ands}
 use Rattle.place.specs.Search.{firstAt}
 
 module _ {A : Type 0} (p : A → Bool) where
-  pub first-most : (xs : List A) → firstAt p xs ≤ length xs
+  first-most : (xs : List A) → firstAt p xs ≤ length xs
   first-most [] = zero-le
   first-most (x ∷ xs) = go (p x) (first-most xs)
     where
@@ -40,11 +46,34 @@ module _ {A : Type 0} (p : A → Bool) where
       go true h r = absurd (omega arith)
       go false h r = omega (arith, r (omega arith))
 
-  -- none passes
-  pub first-none : (d : A) (xs : List A) → ((i : ℕ) → i < length xs → p (getD xs i d) ≡ false) → firstAt p xs ≡ length xs
-  first-none d [] none = refl
-  first-none d (x ∷ xs) none =
-      rw (none 0 (omega arith)) (ap suc (first-none d xs (λ i l. none (suc i) (omega arith))))
+  -- no more stand before the first that passes a weaker test
+  first-weaker : (q : A → Bool) → ((x : A) → p x ≡ false → q x ≡ false) → (xs : List A) → firstAt p xs ≤ firstAt q xs
+  first-weaker q weaker [] = zero-le
+  first-weaker q weaker (x ∷ xs) = go (p x) refl (first-weaker q weaker xs)
+    where
+      go :
+          (b : Bool) → p x ≡ b → firstAt p xs ≤ firstAt q xs
+          → cond {A = ℕ} b 0 (suc (firstAt p xs)) ≤ cond {A = ℕ} (q x) 0 (suc (firstAt q xs))
+      go true e l = zero-le
+      go false e l = rw (weaker x e) (omega arith)
+
+  first-digit : (xs : List A) → firstOne (map p xs) ≡ firstAt p xs
+  first-digit [] = refl
+  first-digit (x ∷ xs) = ap (λ (k : ℕ). cond {A = ℕ} (p x) 0 (suc k)) (first-digit xs)
+
+  -- the number whose digits say which of n pass
+  module _ (xs : List A) (n bits : ℕ) (long : length xs ≡ n) (e : bits ≡ binary (map p xs)) where
+    digits-long : length (map p xs) ≡ n
+    digits-long = length-map xs p ∙ long
+
+    digits-none : bits ≡ 0 → firstAt p xs ≡ n
+    digits-none z = sym (first-digit xs) ∙ no-one (map p xs) (sym e ∙ z) ∙ digits-long
+
+    digits-some : (bits ≡ 0 → ⊥) → (trailingZeros n bits ≡ firstAt p xs) × (firstAt p xs < n)
+    digits-some z = (
+      (λ i. trailingZeros (sym digits-long i) (e i)) ∙ trailing-zeros (map p xs) ∙ first-digit xs,
+      omega (arith, some-one (map p xs) (λ y. z (e ∙ y)), digits-long, first-digit xs),
+    )
 
   first-passes : (d : A) (xs : List A) → firstAt p xs < length xs → p (getD xs (firstAt p xs) d) ≡ true
   first-passes d [] l = absurd (omega arith)
@@ -69,6 +98,11 @@ module _ {A : Type 0} (p : A → Bool) where
           → suc i + firstAt p (drop i xs) ≡ cond {A = ℕ} b 0 (suc (firstAt p xs))
       go true h r = absurd (omega arith)
       go false h r = omega (arith, r (omega arith))
+
+pub every-at : {A : Type 0} (p : A → Bool) (d : A) (xs : List A) (i : ℕ) → i < length xs → T (every p xs) → T (p (getD xs i d))
+every-at p d [] i l t = absurd (omega arith)
+every-at p d (x ∷ xs) zero l t = search ands
+every-at p d (x ∷ xs) (suc i) l t = every-at p d xs i (omega arith) (search ands)
 
 -- ---- the words from i to e, as a part is lent
 
@@ -122,8 +156,16 @@ module _ {A : Type 0} (p : A → Bool) (xs : List A) where
         let f = rw (take-all (length xs - i) (drop i xs) (simp length-drop (omega arith))) at q in
         (omega (arith, s .onward), omega (arith, s .onward, first-most p xs))
 
+    -- .. to the next one that passes a weaker test
+    pub seek-weaker :
+        (q : A → Bool) → ((x : A) → q x ≡ false → p x ≡ false) → (j : ℕ) → j ≡ firstAt q (take (length xs - i) (drop i xs))
+        → Seeking p xs (i + j)
+    seek-weaker q weaker j e =
+        let f = rw (take-all (length xs - i) (drop i xs) (simp length-drop (omega arith))) at e in
+        seek-before (i + j) (omega (arith, s .onward, first-weaker q p weaker (drop i xs)))
+
     module _ (e j : ℕ) (low : i ≤ e) (high : e ≤ length xs) (q : j ≡ firstAt p (take (e - i) (drop i xs))) where
-      pub seek-inside : i + j < e → i + j ≡ firstAt p xs
+      seek-inside : i + j < e → i + j ≡ firstAt p xs
       seek-inside l =
           let part = take (e - i) (drop i xs) in
           let after = drop (e - i) (drop i xs) in
@@ -131,7 +173,7 @@ module _ {A : Type 0} (p : A → Bool) (xs : List A) where
           let g = rw (take-append-drop (e - i) (drop i xs)) at f in
           omega (arith, s .onward)
 
-      pub seek-past : e ≤ i + j → Seeking p xs e
+      seek-past : e ≤ i + j → Seeking p xs e
       seek-past l =
           let part = take (e - i) (drop i xs) in
           let after = drop (e - i) (drop i xs) in
@@ -141,3 +183,18 @@ module _ {A : Type 0} (p : A → Bool) (xs : List A) where
           let end : i + (e - i) ≡ e = omega arith in
           let d : after ≡ drop e xs = drop-drop (e - i) i xs ∙ ap (λ (k : ℕ). drop k xs) end in
           record { within = high; onward = omega (arith, s .onward, part-length xs i e high low, ap (firstAt p) d) }
+
+    -- n words by the number whose digits say which of them pass
+    module _ (n bits : ℕ) (high : i + n ≤ length xs) (q : bits ≡ binary (map p (take (i + n - i) (drop i xs)))) where
+      block-long : length (take (i + n - i) (drop i xs)) ≡ n
+      block-long = omega (arith, part-length xs i (i + n) high (omega arith))
+
+      pub seek-digit : (bits ≡ 0 → ⊥) → (i + trailingZeros n bits ≡ firstAt p xs) × (i + trailingZeros n bits < i + n)
+      seek-digit z =
+          let d = digits-some p (take (i + n - i) (drop i xs)) n bits block-long q z in
+          (seek-inside (i + n) (trailingZeros n bits) (omega arith) high (d .0) (omega arith), omega arith)
+
+      pub seek-no-digit : bits ≡ 0 → Seeking p xs (i + n)
+      seek-no-digit z =
+          let d = digits-none p (take (i + n - i) (drop i xs)) n bits block-long q z in
+          seek-past (i + n) n (omega arith) high (sym d) (omega arith)

@@ -1,26 +1,26 @@
 -- What the searches find in a book, as places of its facts: the words that they are lent are those of the classes, of a class's series and of an expiration's strikes. Assumes nothing.
 use Prim.Native.Nat.{ℕ, _+_, _-_, _≤_}
 use mathlib.Core.Path.{_≡_, refl, sym, ap, _∙_, subst}
-use mathlib.Core.Bool.{Bool, true, false, cond, not}
+use mathlib.Core.Bool.{Bool, true, false, cond, not, _&&_}
 use mathlib.Core.List.{List, [], _∷_, _++_, map, map-append, append-nil, append-assoc}
 use native.Mathlib.Omega.{arith}
-use lib.ListN.{length, take, drop, getD, replicate, length-append, length-map}
-use lib.Seq.{drop-at}
-use lib.Dec.{T, leb→le}
+use lib.ListN.{length, take, drop, getD, replicate, length-append, length-drop, length-map}
+use lib.Seq.{drop-at, length-take-le}
+use lib.Dec.{T, eqb, leb→le}
 use borrow.Author.Tests.{ltb-false}
 use Rattle.word.specs.declared.class.ClassRecord.{ClassRecord}
 use Rattle.word.specs.declared.codec.Word.{Word}
 use Rattle.word.specs.declared.codec.Word.the-variants.{Head, Class, Close, Volume, Expiration}
 use Rattle.word.specs.Field.{field}
 use Rattle.word.specs.Codec.{isLegal, packed}
-use Rattle.word.proofs.Words.{class-fields}
+use Rattle.word.proofs.Words.{legal-fits, kindIn, kind-packed, class-fields}
 use Rattle.rule.specs.Lists.{every, some, only}
 use Rattle.book.specs.Facts.{Series, Facts, number, isOpen, inMonth}
 use Rattle.book.specs.Layout.{strikeWord, seriesWords, figuresWords, classesWords, used, factsOf}
 use Rattle.book.specs.Books.{areFigures, isSeries, isBook}
 use Rattle.book.specs.Calls.{class, isStanding}
 use Rattle.book.specs.Places.{classPlace, strikesPlace, strikesEnd, strikePlace}
-use Rattle.book.proofs.Tests.{and-intro, ands, true-T}
+use Rattle.book.proofs.Tests.{and-intro, ands, T-true, true-T}
 use Rattle.book.proofs.Lists.{every-map}
 use Rattle.book.proofs.Forms.{areSeries}
 use Rattle.book.proofs.Layouts.{words-legal}
@@ -30,10 +30,11 @@ use Rattle.book.proofs.Splits.{every-split, some-length}
 use Rattle.book.proofs.ClassWords.{class-good, series-good, class-words, numbers-rise}
 use Rattle.book.proofs.Runs.{bookWords, run-part, run-word, strikes-good, strikes-part}
 use Rattle.place.specs.declared.lookup.Part.{Part}
-use Rattle.place.specs.Search.{firstAt, isFrom, holdsAt, Rises, figuresAt, strikesAfter, strikesIn}
-use Rattle.place.proofs.Heads.{book-good, book-form, book-is}
+use Rattle.place.specs.Search.{firstAt, isOfKind, isFrom, holdsAt, Rises, figuresAt, strikesAfter, strikesIn}
+use Rattle.place.proofs.Heads.{book-good, book-form, book-is, book-room, book-long}
 use Rattle.place.proofs.Words.{isKeyed}
-use Rattle.place.proofs.Laid.{first-after, stops-anywhere, sought, found, rising, months-laid, strikes-laid, no-class, classes-laid, classes-high}
+use Rattle.place.proofs.Laid.{first-after, stops-anywhere, sought, found, months-laid, strikes-laid, no-class, classes-laid}
+use Rattle.place.proofs.Rising.{ordered-rises, ordered-packed, classes-ordered}
 
 -- the three words of legal figures say them
 figures-said :
@@ -132,11 +133,21 @@ module _ (ws : List ℕ) (b : T (isBook ws)) where
       (ap (λ (l : List Word). Head (facts .now) (used facts) ∷ l) (sym (append-nil (classesWords (facts .classes) []))))
       refl (omega arith)
 
+  pub body-short : (end : ℕ) → end ≡ used facts → length (take (end - 1) (drop 1 ws)) ≤ 65535
+  body-short end e =
+      omega (
+        arith,
+        length-take-le (end - 1) (drop 1 ws) (simp length-drop (omega (arith, book-room ws b))),
+        book-room ws b,
+        book-long ws b,
+      )
+
   pub class-rises : (c end : ℕ) → end ≡ used facts → Rises 2 14 c (take (end - 1) (drop 1 ws))
   class-rises c end d =
       subst (Rises 2 14 c) (sym (body end d))
-      (rising number 2 (λ xs. classesWords xs []) classes-laid c (facts .classes)
-      (distinct-parts number c (facts .classes) (numbers-rise (length ws) facts (book-good ws b))) legal (classes-high c))
+      (ordered-rises 2 14 c (map packed (classesWords (facts .classes) []))
+      (ordered-packed 2 (classesWords (facts .classes) []) legal
+      (classes-ordered (facts .classes) (numbers-rise (length ws) facts (book-good ws b)))))
 
   module _ (c end i : ℕ) (d : end ≡ used facts) (e : i ≡ firstAt (isFrom 2 14 c) (take (end - 1) (drop 1 ws))) where
     class-index : i ≡ length (classesWords (only (isUnder number c) (facts .classes)) [])
@@ -251,6 +262,16 @@ module _ (ws : List ℕ) (b : T (isBook ws)) where
       strikes-here =
           (λ j. take (stop j - start j) (drop (start j) (sym (book-is ws b) j)))
           ∙ strikes-part (length ws) facts c m (book-good ws b) o
+
+      pub strikes-kind : T (every (isOfKind 6) (take (to - from) (drop from ws)))
+      strikes-kind =
+          subst (λ (l : List ℕ). T (every (isOfKind 6) l)) (sym strikes-here)
+          (every-map (λ w. isLegal w && eqb (kindIn w) 6) (isOfKind 6) packed
+          (λ w t. rw (kind-packed w (packed w) (legal-fits w (T-true (isLegal w) (search ands))) refl) (search ands))
+          (map strikeWord here)
+          (every-map (isSeries (facts .now)) (λ w. isLegal w && eqb (kindIn w) 6) strikeWord
+          (λ s t. let legal : T (isLegal (strikeWord s)) = search (ands, and-intro) in and-intro (isLegal (strikeWord s)) true legal tt)
+          here (strikes-good (length ws) facts c m (book-good ws b) o)))
 
       module _ (i : ℕ) (e : i ≡ firstAt (isFrom 6 15 h) (take (to - from) (drop from ws))) where
         strike-index : i ≡ length (map strikeWord (low (class facts c .series) m h))

@@ -1,17 +1,16 @@
 -- What a search finds in the words of a list that rises by a key, of classes, of series and of strikes: it passes the words of the keys below, and stops at the first word after them. Assumes nothing.
-use Prim.Native.Nat.{ℕ, zero, suc, _+_, _-_, _<_}
+use Prim.Native.Nat.{ℕ, suc, _<_}
 use mathlib.Core.Path.{_≡_, refl, sym, ap, _∙_}
-use mathlib.Core.Bool.{Bool, true, false, not, _&&_, _||_}
+use mathlib.Core.Bool.{Bool, true, false, not, _&&_}
 use mathlib.Core.List.{List, [], _∷_, _++_, map, map-append, append-nil}
 use native.Mathlib.Omega.{arith}
-use lib.ListN.{length, getD, length-append, length-map, List·getD-map}
-use lib.Seq.{getD-at, getD-append-add}
+use lib.ListN.{length, getD, length-append, length-map}
+use lib.Seq.{getD-at}
 use lib.Dec.{T, eqb, leb, ltb, eqb·zero-suc, leb·zero, ltb→lt}
-use borrow.Author.Tests.{ltb-true, ltb-false, not-true, eq-eqb, lt-ltb, le-ltb, lt-leb}
+use borrow.Author.Tests.{not-true, eq-eqb, lt-ltb, le-ltb, lt-leb}
 use Rattle.word.specs.declared.codec.Word.{Word}
-use Rattle.word.specs.declared.codec.Word.the-variants.{Class, Close, Volume, Expiration, Invalid}
+use Rattle.word.specs.declared.codec.Word.the-variants.{Class, Close, Volume, Expiration}
 use Rattle.word.specs.Codec.{isLegal, packed}
-use Rattle.word.proofs.Tests.{and-both}
 use Rattle.word.proofs.Words.{kindIn}
 use Rattle.rule.specs.Lists.{every, some, only}
 use Rattle.book.specs.Facts.{Series, OpenClass, number}
@@ -22,7 +21,7 @@ use Rattle.book.proofs.Parts.{every-kept, isUnder, isEqual, isOver, not-under}
 use Rattle.book.proofs.Splits.{every-split, leads, some-leads}
 use Rattle.book.proofs.Expirations.{monthOf, strikeOf, series-apart}
 use Rattle.book.proofs.ClassWords.{classes-apart}
-use Rattle.place.specs.Search.{firstAt, isFrom, holdsAt, Rises}
+use Rattle.place.specs.Search.{firstAt, isFrom, holdsAt}
 use Rattle.place.proofs.Firsts.{first-beyond}
 use Rattle.place.proofs.Words.{keyIn, widthOf, isKeyed, key-said, from-packed}
 
@@ -39,15 +38,6 @@ first-packed kind key (w ∷ ws) legal =
 none-first : {A : Type 0} (p : A → Bool) (xs : List A) → T (every (λ x. not (p x)) xs) → firstAt p xs ≡ length xs
 none-first p [] t = refl
 none-first p (x ∷ xs) t = rw (not-true (p x) (T-true (not (p x)) (search ands))) (ap suc (none-first p xs (search ands)))
-
-every-at : {A : Type 0} (p : A → Bool) (d : A) (xs : List A) (i : ℕ) → i < length xs → T (every p xs) → T (p (getD xs i d))
-every-at p d [] i l t = absurd (omega arith)
-every-at p d (x ∷ xs) zero l t = search ands
-every-at p d (x ∷ xs) (suc i) l t = every-at p d xs i (omega arith) (search ands)
-
--- a word of the kind holds at least the key
-abbrev isHigh : ℕ → ℕ → Word → Bool
-isHigh kind key w = not (eqb (kindIn w) kind) || leb key (keyIn w)
 
 -- words that the search passes, then words at whose first it stops
 pub first-after :
@@ -132,33 +122,6 @@ module _ {A : Type 0} (key : A → ℕ) (kind : ℕ) (lay : List A → List Word
         ∙ holds-there k under others (every-split isLegal under (lay others) (rw two-parts at legal) .1)
         ∙ sym (some-leads key k xs)
 
-    -- a word of the kind that does not stop the search stands before that place, where none after it holds less than the key
-    pub rising :
-        ((ys : List A) → T (every (λ y. leb k (key y)) ys) → T (every (isHigh kind k) (lay ys)))
-        → Rises kind (widthOf kind) k (map packed (lay xs))
-    rising high i l e d = go (ltb i (length under)) refl
-      where
-        go : (b : Bool) → ltb i (length under) ≡ b → i < firstAt (isFrom kind (widthOf kind) k) (map packed (lay xs))
-        go true t = omega (arith, sought, ltb-true i (length under) t)
-        go false t =
-            let n = i - length under in
-            let w = getD (lay others) n Invalid in
-            let at : i ≡ length under + n = omega (arith, ltb-false i (length under) t) in
-            let word : getD (map packed (lay xs)) i 0 ≡ packed w =
-            ap (λ (ws : List Word). getD (map packed ws) i 0) two-parts
-            ∙ List·getD-map packed (under ++ lay others) i Invalid
-            ∙ ap (λ (j : ℕ). packed (getD (under ++ lay others) j Invalid)) at
-            ∙ ap packed (getD-append-add under (lay others) n Invalid) in
-            let within : n < length (lay others) =
-            omega (arith, length-map (lay xs) packed, ap length two-parts, length-append under (lay others)) in
-            let is-legal =
-            every-at isLegal Invalid (lay others) n within (every-split isLegal under (lay others) (rw two-parts at legal) .1) in
-            let said : (j : ℕ) → isFrom kind (widthOf kind) j (packed w) ≡ isKeyed kind j w =
-            λ j. from-packed kind j w (T-true (isLegal w) is-legal) in
-            let of-kind = and-both (eqb (kindIn w) kind) _ (sym (said 0) ∙ ap (isFrom kind (widthOf kind) 0) (sym word) ∙ e) .0 in
-            let low = rw of-kind at (sym (said k) ∙ ap (isFrom kind (widthOf kind) k) (sym word) ∙ d) in
-            absurd (rw (of-kind, low) at (every-at (isHigh kind k) Invalid (lay others) n within (high others from-there)))
-
 -- ---- series
 
 every-series :
@@ -224,7 +187,7 @@ module _ (q : Word → Bool) (other : (w : Word) → eqb (kindIn w) 2 ≡ false 
           let c = anything ss in
           search and-intro
 
-  every-class :
+  pub every-class :
       (xs : List OpenClass) → T (every (λ x. q (Class (number x) (x .figures .dollar) (x .figures .half))) xs)
       → T (every q (classesWords xs []))
   every-class [] t = tt
@@ -248,6 +211,3 @@ classes-laid = record {
       every-class (λ w. not (isKeyed 2 k w)) (λ w e. rw e tt) xs
       (every-imply (λ x. ltb (number x) k) (λ x. not (leb k (number x))) (λ x u. not-from (number x) k u) xs t);
 }
-
-pub classes-high : (k : ℕ) (xs : List OpenClass) → T (every (λ x. leb k (number x)) xs) → T (every (isHigh 2 k) (classesWords xs []))
-classes-high k xs t = every-class (isHigh 2 k) (λ w e. rw e tt) xs t

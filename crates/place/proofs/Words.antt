@@ -1,20 +1,26 @@
 -- The tests of a search on packed words: by the kind of a word and its lowest field. Assumes nothing.
-use Prim.Native.Nat.{ℕ, _≤_, _<_}
+use Prim.Native.Nat.{ℕ}
 use mathlib.Core.Path.{_≡_, refl, sym, ap, _∙_}
 use mathlib.Core.Bool.{Bool, true, false, cond, _&&_}
+use mathlib.Core.List.{List}
 use native.Mathlib.Omega.{arith}
-use lib.Dec.{eqb, leb}
-use borrow.Author.Tests.{eqb-true, ne-eqb}
+use lib.Dec.{eqb, leb, leb·zero}
+use borrow.Author.Tests.{eqb-true}
 use Rattle.word.specs.declared.codec.Word.{Word}
 use Rattle.word.specs.declared.codec.Word.the-variants.{Head, Class, Close, Volume, Expiration, Strike, Invalid}
 use Rattle.word.specs.Field.{field}
-use Rattle.word.specs.Codec.{isLegal, packed, Fits, kindOf}
+use Rattle.word.specs.Codec.{isLegal, packed, Fits}
 use Rattle.word.proofs.Words.{legal-fits, kindIn, kind-packed}
-use Rattle.place.specs.Search.{isFrom}
+use Rattle.place.specs.Search.{firstAt, isOfKind, isFrom}
 
--- a word at least a number of a higher kind is not of the kind
-pub higher-kind : (kind width key bits w : ℕ) → kind < kindOf bits → bits ≤ w → isFrom kind width key w ≡ false
-higher-kind kind width key bits w h l = rw (ne-eqb (kindOf w) kind (λ e. omega arith))
+-- a word of the kind holds at least 0
+pub first-of-kind :
+    (kind width : ℕ) (ws : List ℕ) → firstAt (isOfKind kind) ws ≡ firstAt (isFrom kind width 0) ws
+first-of-kind kind width ws = λ i. firstAt (λ w. go w (isOfKind kind w) i) ws
+  where
+    go : (w : ℕ) (b : Bool) → b ≡ (b && leb 0 (field w 0 width))
+    go w true = sym (leb·zero (field w 0 width))
+    go w false = refl
 
 -- the lowest field
 abbrev pub keyIn : Word → ℕ

@@ -17,9 +17,13 @@ module _ {A : Type 0} (test : A → Bool) where
   firstAt [] = 0
   firstAt (x ∷ xs) = cond {A = ℕ} (test x) 0 (suc (firstAt xs))
 
+-- a word of the kind
+abbrev pub isOfKind : ℕ → ℕ → Bool
+isOfKind kind w = eqb (kindOf w) kind
+
 -- a word of the kind whose lowest field, of `width` bits, holds at least `key`
 abbrev pub isFrom : ℕ → ℕ → ℕ → ℕ → Bool
-isFrom kind width key w = eqb (kindOf w) kind && leb key (field w 0 width)
+isFrom kind width key w = isOfKind kind w && leb key (field w 0 width)
 
 -- a word stands at this index, and its lowest field, of `width` bits, holds `key`
 abbrev pub holdsAt : ℕ → ℕ → List ℕ → ℕ → Bool
@@ -31,11 +35,14 @@ pub record Finds (kind width key : ℕ) (ws : List ℕ) (r : Found) : Type 0 whe
   pub holds : r .holds ≡ holdsAt width key ws (r .at)
   pub within : r .at ≤ length ws
 
--- a word of the kind that does not hold at least the key stands before the first that does
-abbrev pub Rises : ℕ → ℕ → ℕ → List ℕ → Type 0
-Rises kind width key ws =
-    (i : ℕ) → i < length ws → isFrom kind width 0 (getD ws i 0) ≡ true → isFrom kind width key (getD ws i 0) ≡ false
-    → i < firstAt (isFrom kind width key) ws
+-- words of the kind that hold less than the key stand before the first that holds at least the key, and one that holds the key is that first
+pub record Rises (kind width key : ℕ) (ws : List ℕ) : Type 0 where
+  pub below :
+      (i : ℕ) → i < length ws → isOfKind kind (getD ws i 0) ≡ true → field (getD ws i 0) 0 width < key
+      → i < firstAt (isFrom kind width key) ws
+  pub equal :
+      (i : ℕ) → i < length ws → isOfKind kind (getD ws i 0) ≡ true → field (getD ws i 0) 0 width ≡ key
+      → i ≡ firstAt (isFrom kind width key) ws
 
 -- what the three words of a class say, which begin at this index
 abbrev pub figuresAt : ℕ → List ℕ → ClassRecord

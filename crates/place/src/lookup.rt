@@ -73,7 +73,7 @@ pub fn next_class(run: &[u32], from: usize) -> usize
     ensures { λ r. ⌜ (r ≡ from + firstAt (isFrom 2 14 0) (take (used (factsOf (now (run .entry))) - from) (drop from (now (run .entry))))) × (r ≤ used (factsOf (now (run .entry)))) ⌝ }
 {
     let used = head::used(run);
-    from + first(&run[from..used], 2, 14, 0)
+    from + first(&run[from..used], 2)
 }
 
 // Where the strikes of the month m stand in the words of a class's series.
@@ -88,7 +88,7 @@ fn strikes_in(words: &[u32], m: u32) -> Part
     let from = at + 1;
     Part {
         from,
-        to: from + first(&words[from..words.len()], 5, 10, 0),
+        to: from + first(&words[from..words.len()], 5),
     }
 }
 
@@ -134,7 +134,7 @@ pub fn look_up_strike(run: &[u32], c: u32, m: u32, h: u32) -> StrikeLookup
             let figures = e.figures;
             let from = e.from;
             let to = e.to;
-            let found = find_plainly(&run[from..to], 6, 15, h);
+            let found = find_plainly(&run[from..to], 15, h);
             StrikeLookup::Open(StrikeSearch {
                 figures,
                 from,

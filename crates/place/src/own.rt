@@ -1,14 +1,26 @@
-// How many classes are ours in the $1 and in the $0.50 program.
+// How many classes are ours in the $1 and in the $0.50 program. Every word is looked at, without an early exit, so that it runs many words at a time.
 ghost use mathlib.Core.Path.{_≡_};
+ghost use Prim.Native.Nat.{ℕ, _<_};
+ghost use mathlib.Core.Bool.{cond};
 ghost use lib.Dec.{T};
+ghost use Rattle.word.specs.Field.{field};
 ghost use Rattle.book.specs.Facts.{owned};
 ghost use Rattle.book.specs.Layout.{factsOf};
 ghost use Rattle.book.specs.Books.{isBook};
+ghost use Rattle.place.specs.Search.{isOfKind};
 use crate::head;
-use crate::lookup::next_class;
 use word::caps::DollarCount;
 use word::caps::HalfCount;
+use word::codec::kind;
 use word::field::field_of;
+
+// The designation of a class word from bit `low` on; 0 of any other word.
+fn designation_in(w: u32, low: u32) -> u32
+    requires { ⌜ low < 32 ⌝ }
+    ensures { λ r. ⌜ r ≡ cond {A = ℕ} (isOfKind 2 w) (field w low 2) 0 ⌝ }
+{
+    if kind(w) == 2 { field_of(w, low, 2) } else { 0 }
+}
 
 pub fn own_dollars(run: &[u32]) -> DollarCount
     requires { ⌜ T (isBook (now run)) ⌝ }
@@ -16,10 +28,10 @@ pub fn own_dollars(run: &[u32]) -> DollarCount
 {
     let used = head::used(run);
     let mut count = DollarCount(0);
-    let mut at = next_class(run, 1);
-    while at < used {
-        count = count.counted(field_of(run[at], 14, 2));
-        at = next_class(run, at + 1);
+    let mut i = 1;
+    while i < used {
+        count = count.counted(designation_in(run[i], 14));
+        i += 1;
     }
     count
 }
@@ -30,10 +42,10 @@ pub fn own_halves(run: &[u32]) -> HalfCount
 {
     let used = head::used(run);
     let mut count = HalfCount(0);
-    let mut at = next_class(run, 1);
-    while at < used {
-        count = count.counted(field_of(run[at], 16, 2));
-        at = next_class(run, at + 1);
+    let mut i = 1;
+    while i < used {
+        count = count.counted(designation_in(run[i], 16));
+        i += 1;
     }
     count
 }

@@ -1,8 +1,12 @@
-// The first word of a kind from a key on: sixteen words are passed at a time where none of them can be of the kind, and halves where the words of the kind rise.
+// The first word of a kind, 32 words at a time, and the first from a key on; by guesses where the words of the kind rise.
 ghost use mathlib.Core.Path.{_≡_};
 ghost use Prim.Native.Nat.{ℕ, _<_, _≤_};
-ghost use lib.ListN.{getD, length};
-ghost use Rattle.place.specs.Search.{firstAt, isFrom, holdsAt, Finds, Rises};
+ghost use mathlib.Core.List.{map};
+ghost use lib.Dec.{T};
+ghost use lib.ListN.{length};
+ghost use Rattle.word.specs.Digits.{binary};
+ghost use Rattle.rule.specs.Lists.{every};
+ghost use Rattle.place.specs.Search.{firstAt, isOfKind, Finds, Rises};
 use word::codec;
 use word::field::field_of;
 
@@ -12,36 +16,32 @@ pub struct Found {
     pub holds: bool,
 }
 
-// Whether a word is of the kind, and its lowest field, of `width` bits, holds at least `key`.
-fn is_from(w: u32, kind: u32, width: u32, key: u32) -> bool
-    requires { ⌜ width < 32 ⌝ }
-    ensures { λ r. ⌜ r ≡ isFrom kind width key w ⌝ }
+// Which of 32 words are of the kind: a bit for each, lowest first. The constant lets it compile to tests of many words at a time.
+fn kinds_of_32(block: &[u32], kind: u32) -> u32
+    requires { ⌜ length (now block) ≡ 32 ⌝ }
+    ensures { λ r. ⌜ r ≡ binary (map (isOfKind kind) (now (block .entry))) ⌝ }
 {
-    (codec::kind(w) == kind) & (key <= field_of(w, 0, width))
-}
-
-// The bits that sixteen words have in common: a number that is at most each of them.
-fn common_bits(block: &[u32]) -> u32
-    requires { ⌜ length (now block) ≡ 16 ⌝ }
-    ensures { λ r. ⌜ ((k : ℕ) → k < 16 → r ≤ getD (now (block .entry)) k 0) ⌝ }
-{
-    let mut bits = 4294967295;
+    let mut bits = 0;
     let mut i = 0;
-    while i < 16 {
-        bits = bits & block[i];
+    while i < 32 {
+        let bit = if codec::kind(block[i]) == kind {
+            1 << i
+        } else {
+            0
+        };
+        bits = bits | bit;
         i += 1;
     }
     bits
 }
 
-// The index of the first word of the kind that holds at least `key`, or the length: word by word.
-fn first_plainly(words: &[u32], kind: u32, width: u32, key: u32) -> usize
-    requires { ⌜ width < 32 ⌝ }
-    ensures { λ r. ⌜ (r ≡ firstAt (isFrom kind width key) (now (words .entry))) × (r ≤ length (now (words .entry))) ⌝ }
+// The index of the first word of the kind, or the length: word by word.
+fn first_plainly(words: &[u32], kind: u32) -> usize
+    ensures { λ r. ⌜ (r ≡ firstAt (isOfKind kind) (now (words .entry))) × (r ≤ length (now (words .entry))) ⌝ }
 {
     let mut i = 0;
     while i < words.len() {
-        if is_from(words[i], kind, width, key) {
+        if codec::kind(words[i]) == kind {
             return i;
         }
         i += 1;
@@ -49,86 +49,122 @@ fn first_plainly(words: &[u32], kind: u32, width: u32, key: u32) -> usize
     i
 }
 
-// The same of sixteen words: where the bits that they have in common make a higher kind, none of them is of this one.
-fn first_of_sixteen(block: &[u32], kind: u32, width: u32, key: u32) -> usize
-    requires { ⌜ (length (now block) ≡ 16) × (width < 32) ⌝ }
-    ensures { λ r. ⌜ r ≡ firstAt (isFrom kind width key) (now (block .entry)) ⌝ }
-{
-    if kind < codec::kind(common_bits(block)) {
-        return 16;
-    }
-    first_plainly(block, kind, width, key)
-}
-
-// The same of any words: sixteen at a time.
-pub fn first(words: &[u32], kind: u32, width: u32, key: u32) -> usize
-    requires { ⌜ width < 32 ⌝ }
-    ensures { λ r. ⌜ (r ≡ firstAt (isFrom kind width key) (now (words .entry))) × (r ≤ length (now (words .entry))) ⌝ }
+// The same, 32 words at a time.
+pub fn first(words: &[u32], kind: u32) -> usize
+    ensures { λ r. ⌜ (r ≡ firstAt (isOfKind kind) (now (words .entry))) × (r ≤ length (now (words .entry))) ⌝ }
 {
     let mut i = 0;
-    while 16 <= words.len() - i {
-        let j = first_of_sixteen(&words[i..i + 16], kind, width, key);
-        if j < 16 {
-            return i + j;
+    while 32 <= words.len() - i {
+        let bits = kinds_of_32(&words[i..i + 32], kind);
+        if bits != 0 {
+            return i + u32::trailing_zeros(bits) as usize;
         }
-        i += 16;
+        i += 32;
     }
-    i + first_plainly(&words[i..words.len()], kind, width, key)
+    i + first_plainly(&words[i..words.len()], kind)
 }
 
-// Whether a word stands at the index `at` and its lowest field, of `width` bits, holds `key`.
-fn holds_at(words: &[u32], at: usize, width: u32, key: u32) -> bool
-    requires { ⌜ width < 32 ⌝ }
-    ensures { λ r. ⌜ r ≡ holdsAt width key (now (words .entry)) at ⌝ }
-{
-    if at < words.len() {
-        return field_of(words[at], 0, width) == key;
-    }
-    false
-}
-
+// The first word of the kind that holds at least the key: from one word of the kind to the next.
 pub fn find(words: &[u32], kind: u32, width: u32, key: u32) -> Found
     requires { ⌜ width < 32 ⌝ }
     ensures { λ r. ⌜ Finds kind width key (now (words .entry)) r ⌝ }
 {
-    let at = first(words, kind, width, key);
+    let mut i = 0;
+    while i < words.len() {
+        let at = i + first(&words[i..words.len()], kind);
+        if at == words.len() {
+            return Found { at, holds: false };
+        }
+        let held = field_of(words[at], 0, width);
+        if key <= held {
+            return Found {
+                at,
+                holds: held == key,
+            };
+        }
+        i = at + 1;
+    }
     Found {
-        at,
-        holds: holds_at(words, at, width, key),
+        at: i,
+        holds: false,
     }
 }
 
-// The same, where the words of the kind rise: by halves. Where the next word of the kind from the middle on holds less than the key, it and all before it are passed.
+// Where a key is to be expected among `span` words, before which `below` is held, and behind which `above`: in the middle where they say nothing of it.
+fn expected(span: usize, key: u32, below: u32, above: u32) -> usize
+    requires { ⌜ (0 < span) × (span ≤ 65535) ⌝ }
+    ensures { λ r. ⌜ r < span ⌝ }
+{
+    if (below <= key) & (key < above) {
+        return span * (key - below) as usize / (above - below) as usize;
+    }
+    span / 2
+}
+
+// The same, where the words of the kind rise: the next word of the kind from a guess on decides on which side of the guess the search goes on. Every other guess is the middle.
 pub fn find_rising(words: &[u32], kind: u32, width: u32, key: u32) -> Found
-    requires { ⌜ (width < 32) × Rises kind width key (now words) ⌝ }
+    requires { ⌜ (width < 32) × ((length (now words) ≤ 65535) × Rises kind width key (now words)) ⌝ }
     ensures { λ r. ⌜ Finds kind width key (now (words .entry)) r ⌝ }
 {
     let mut low = 0;
     let mut high = words.len();
+    let mut below = 0;
+    let mut above = 0;
+    let mut halves = true;
     while 64 < high - low {
-        let middle = low + (high - low) / 2;
-        let next = middle + first(&words[middle..high], kind, width, 0);
-        if next < high && !is_from(words[next], kind, width, key) {
-            low = next + 1;
+        let span = high - low;
+        let guess = if halves {
+            span / 2
         } else {
+            expected(span, key, below, above)
+        };
+        let middle = low + guess;
+        halves = !halves;
+        let next = middle + first(&words[middle..high], kind);
+        if next == high {
             high = middle;
+        } else {
+            let held = field_of(words[next], 0, width);
+            if held == key {
+                return Found {
+                    at: next,
+                    holds: true,
+                };
+            }
+            if held < key {
+                low = next + 1;
+                below = held;
+            } else {
+                high = middle;
+                above = held;
+            }
         }
     }
-    let at = low + first(&words[low..words.len()], kind, width, key);
+    let found = find(&words[low..words.len()], kind, width, key);
     Found {
-        at,
-        holds: holds_at(words, at, width, key),
+        at: low + found.at,
+        holds: found.holds,
     }
 }
 
-// The same, word by word.
-pub fn find_plainly(words: &[u32], kind: u32, width: u32, key: u32) -> Found
+// The same, where all words are of the kind: word by word.
+pub fn find_plainly(words: &[u32], width: u32, key: u32) -> Found
     requires { ⌜ width < 32 ⌝ }
-    ensures { λ r. ⌜ Finds kind width key (now (words .entry)) r ⌝ }
+    ensures { λ r. ⌜ ((kind : ℕ) → T (every (isOfKind kind) (now (words .entry))) → Finds kind width key (now (words .entry)) r) ⌝ }
 {
-    let at = first_plainly(words, kind, width, key);
+    let mut i = 0;
+    while i < words.len() {
+        let held = field_of(words[i], 0, width);
+        if key <= held {
+            return Found {
+                at: i,
+                holds: held == key,
+            };
+        }
+        i += 1;
+    }
     Found {
-        at,
-        holds: holds_at(words, at, width, key),
+        at: i,
+        holds: false,
     }
 }

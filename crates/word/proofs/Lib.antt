@@ -1,6 +1,7 @@
 -- The laws that the functions' proofs and other crates cite.
 pub mod Tests
 pub mod Fields
+pub mod Digits
 pub mod Words
 pub mod Counts
 pub mod Refusals

@@ -1,5 +1,6 @@
 pub mod Limits
 pub mod Field
+pub mod Digits
 pub mod Codec
 pub mod Class
 pub mod Caps

@@ -5,7 +5,7 @@ use native.Mathlib.Omega.{arith}
 use borrow.Author.Needs.{needs}
 use Rattle.place.specs.declared.lookup.Lookup.the-variants.{Open}
 use Rattle.place.proofs.Answers.{answer-not-open, answer-within, answer-open}
-use Rattle.place.proofs.Found.{class-rises}
+use Rattle.place.proofs.Found.{body-short, class-rises}
 use Rattle.place.proofs.Heads.{book-room}
 use Rattle.place.proofs.lookup.look_up.Statement.{statement}
 use Rattle.place.proofs.lookup.look_up.Tie as tie
@@ -23,7 +23,10 @@ part-find-rising-end : tie.Need-part-find-rising-end
 part-find-rising-end c = omega (arith, book-room _ (c .before .before .pre))
 
 find-rising-requires : tie.Need-find-rising-requires
-find-rising-requires c κs = (omega arith, class-rises _ (c .before .before .before .pre) _ _ (c .before .used .ensures))
+find-rising-requires c κs =
+    let b = c .before .before .before .pre in
+    let e = c .before .used .ensures in
+    (omega arith, (body-short _ b _ e, class-rises _ b _ _ e))
 
 add-at : tie.Need-add-at
 add-at c = search needs

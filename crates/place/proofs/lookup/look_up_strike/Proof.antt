@@ -2,7 +2,7 @@
 use mathlib.Core.Path.{sym, _∙_}
 use native.Mathlib.Omega.{arith}
 use borrow.Author.Needs.{needs}
-use Rattle.place.proofs.Answers.{no-strike, strikes-room, answer-strike}
+use Rattle.place.proofs.Answers.{no-strike, strikes-room, strike-within, answer-strike}
 use Rattle.place.proofs.lookup.look_up_strike.Statement.{statement}
 use Rattle.place.proofs.lookup.look_up_strike.Tie as tie
 
@@ -43,7 +43,14 @@ find-plainly-requires : tie.Need-find-plainly-requires
 find-plainly-requires c κs = search needs
 
 add-t12 : tie.Need-add-t12
-add-t12 c = search needs
+add-t12 c =
+    let k = c .before .before .before .before .before in
+    let s = k .before .before .before .before in
+    omega (
+      arith,
+      strike-within _ (s .pre) _ _ _ (sym (k .before .before .look-up-expiration .ensures) ∙ k .e .given .1) (s .args .h) _
+          (c .before .find-plainly .ensures),
+    )
 
 returns : tie.Need-returns
 returns c = no-strike _ _ _ _ (sym (c .before .before .look-up-expiration .ensures) ∙ c .enum-told .given .1)

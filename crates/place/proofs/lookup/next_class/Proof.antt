@@ -2,6 +2,7 @@
 use native.Mathlib.Omega.{arith}
 use borrow.Author.Needs.{needs}
 use Rattle.place.proofs.Heads.{book-room}
+use Rattle.place.proofs.Words.{first-of-kind}
 use Rattle.place.proofs.lookup.next_class.Statement.{statement}
 use Rattle.place.proofs.lookup.next_class.Tie as tie
 
@@ -27,7 +28,7 @@ add-result : tie.Need-add-result
 add-result c = search needs
 
 returns : tie.Need-returns
-returns c = (rw (← c .before .before .used .ensures, c .first .ensures .0), omega arith)
+returns c = (rw (← c .before .before .used .ensures, c .first .ensures .0, first-of-kind 2 14), omega arith)
 
 pub next-class-spec : {M : Type 1} → statement M
 next-class-spec =

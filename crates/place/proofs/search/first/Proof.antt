@@ -1,18 +1,19 @@
--- `first` finds the first word by blocks: what is left of the words has it, until the block at the index has it or fewer than sixteen words are left.
-use Prim.Native.Nat.{_+_, _-_}
+-- `first` finds the first word by blocks: what is left of the words has it, until the block at the index has it or fewer than 32 words are left.
+use Prim.Native.Nat.{_-_}
 use native.Mathlib.Omega.{arith}
+use lib.Count.{trailing-le}
 use lib.ListN.{length}
 use borrow.Author.Needs.{needs}
-use Rattle.place.specs.Search.{isFrom}
-use Rattle.place.proofs.Firsts.{Seeking, seek-start, seek-inside, seek-past, seek-rest}
+use Rattle.place.specs.Search.{isOfKind}
+use Rattle.place.proofs.Firsts.{Seeking, seek-start, seek-rest, seek-digit, seek-no-digit}
 use Rattle.place.proofs.search.first.Statement.{statement}
 use Rattle.place.proofs.search.first.Tie as tie
 
 abbrev Inv-loop : tie.InvT-loop
-Inv-loop words kind width key i₀ i = Seeking (isFrom kind width key) words i
+Inv-loop words kind i₀ i = Seeking (isOfKind kind) words i
 
 abbrev μ-loop : tie.MeasureT-loop
-μ-loop words kind width key i₀ i = length words - i
+μ-loop words kind i₀ i = length words - i
 
 loop-holds : tie.Need-loop-holds Inv-loop μ-loop
 loop-holds c = seek-start _ _
@@ -20,33 +21,35 @@ loop-holds c = seek-start _ _
 sub-loop : tie.Need-sub-loop Inv-loop μ-loop
 sub-loop c = search needs
 
-add-first-of-sixteen : tie.Need-add-first-of-sixteen Inv-loop μ-loop
-add-first-of-sixteen c = search needs
+add-kinds-of-32 : tie.Need-add-kinds-of-32 Inv-loop μ-loop
+add-kinds-of-32 c = search needs
 
-mul-first-of-sixteen : tie.Need-mul-first-of-sixteen Inv-loop μ-loop
-mul-first-of-sixteen c = search needs
+mul-kinds-of-32 : tie.Need-mul-kinds-of-32 Inv-loop μ-loop
+mul-kinds-of-32 c = search needs
 
-sub-first-of-sixteen : tie.Need-sub-first-of-sixteen Inv-loop μ-loop
-sub-first-of-sixteen c = search needs
+sub-kinds-of-32 : tie.Need-sub-kinds-of-32 Inv-loop μ-loop
+sub-kinds-of-32 c = search needs
 
-part-first-of-sixteen-start : tie.Need-part-first-of-sixteen-start Inv-loop μ-loop
-part-first-of-sixteen-start c = search needs
+part-kinds-of-32-start : tie.Need-part-kinds-of-32-start Inv-loop μ-loop
+part-kinds-of-32-start c = search needs
 
-part-first-of-sixteen-end : tie.Need-part-first-of-sixteen-end Inv-loop μ-loop
-part-first-of-sixteen-end c = search needs
+part-kinds-of-32-end : tie.Need-part-kinds-of-32-end Inv-loop μ-loop
+part-kinds-of-32-end c = search needs
 
-first-of-sixteen-requires : tie.Need-first-of-sixteen-requires Inv-loop μ-loop
-first-of-sixteen-requires c κs = search needs
+kinds-of-32-requires : tie.Need-kinds-of-32-requires Inv-loop μ-loop
+kinds-of-32-requires c κs = search needs
+
+cast-result : tie.Need-cast-result Inv-loop μ-loop
+cast-result c = omega (arith, trailing-le 32 (c .before .kinds-of-32 .result))
 
 add-result : tie.Need-add-result Inv-loop μ-loop
-add-result c = search needs
+add-result c = omega (arith, trailing-le 32 (c .before .kinds-of-32 .result))
 
 returns : tie.Need-returns Inv-loop μ-loop
 returns c =
     let l = c .before .before .before .before .loop in
-    let e =
-    seek-inside _ _ (l .i) (l .inv) (l .i + 16) _ (omega arith) (omega arith) (c .before .first-of-sixteen .ensures) (omega arith) in
-    (e, omega arith)
+    let e = seek-digit _ _ (l .i) (l .inv) 32 _ (omega arith) (c .before .kinds-of-32 .ensures) (c .if1 .taken) in
+    (e .0, omega arith)
 
 add-i : tie.Need-add-i Inv-loop μ-loop
 add-i c = search needs
@@ -57,7 +60,7 @@ loop-less c = search needs
 loop-again : tie.Need-loop-again Inv-loop μ-loop
 loop-again c =
     let l = c .before .before .before .before .loop in
-    seek-past _ _ (l .i) (l .inv) (l .i + 16) _ (omega arith) (omega arith) (c .before .first-of-sixteen .ensures) (omega arith)
+    seek-no-digit _ _ (l .i) (l .inv) 32 _ (omega arith) (c .before .kinds-of-32 .ensures) (c .if1 .left)
 
 mul-first-plainly : tie.Need-mul-first-plainly Inv-loop μ-loop
 mul-first-plainly c = search needs
@@ -88,12 +91,13 @@ first-spec =
     μ-loop
     loop-holds
     sub-loop
-    add-first-of-sixteen
-    mul-first-of-sixteen
-    sub-first-of-sixteen
-    part-first-of-sixteen-start
-    part-first-of-sixteen-end
-    first-of-sixteen-requires
+    add-kinds-of-32
+    mul-kinds-of-32
+    sub-kinds-of-32
+    part-kinds-of-32-start
+    part-kinds-of-32-end
+    kinds-of-32-requires
+    cast-result
     add-result
     returns
     add-i
