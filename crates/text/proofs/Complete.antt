@@ -33,7 +33,7 @@ run-digits (a-digit {b} {ds} low high more) c v k ns rest =
     ap (λ (l : Line). runOf l (ds ++ rest)) (feed-digit b c v k ns low high) ∙ run-digits more c (10 * v + (b - 48)) k ns rest
 
 -- the phases in which a number may end
-data Pending : Phase → Type 0 where
+pub data Pending : Phase → Type 0 where
   at-zero : Pending Zero
   in-number : Pending Number
 
@@ -60,12 +60,12 @@ run-number (leading {b} {ds} low high more) c k ns rest =
 pub push-room : (p q : Phase) (c v k : ℕ) (ns : List ℕ) → k < 5 → pushOf (state p c v k ns) q ≡ state q c 0 (k + 1) (set ns k v)
 push-room p q c v k ns h = simp (lt-leb 5 k h)
 
-feed-space : {p : Phase} → Pending p → (c v k : ℕ) (ns : List ℕ) → k < 5 → feedOf (state p c v k ns) 32 ≡ state Space c 0 (k + 1) (set ns k v)
+pub feed-space : {p : Phase} → Pending p → (c v k : ℕ) (ns : List ℕ) → k < 5 → feedOf (state p c v k ns) 32 ≡ state Space c 0 (k + 1) (set ns k v)
 unfolding feedBy
 feed-space at-zero c v k ns h = push-room Zero Space c v k ns h
 feed-space in-number c v k ns h = push-room Number Space c v k ns h
 
-end-number : {p : Phase} → Pending p → (c v k : ℕ) (ns : List ℕ) → k < 5 → endOf (state p c v k ns) ≡ state Letter c 0 (k + 1) (set ns k v)
+pub end-number : {p : Phase} → Pending p → (c v k : ℕ) (ns : List ℕ) → k < 5 → endOf (state p c v k ns) ≡ state Letter c 0 (k + 1) (set ns k v)
 unfolding endBy
 end-number at-zero c v k ns h = push-room Zero Letter c v k ns h
 end-number in-number c v k ns h = push-room Number Letter c v k ns h

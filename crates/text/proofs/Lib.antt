@@ -1,6 +1,5 @@
 -- The laws of the lines and of what is printed, for the functions' proofs and other crates.
 mod Cases
-pub mod Runs
 pub mod Complete
 pub mod Sound
 mod Parts
@@ -8,6 +7,7 @@ pub mod Limited
 pub mod Lines
 mod Made
 mod Sheets
+mod WholeLines
 mod Replies
 pub mod Readers
 pub mod Pieces

@@ -94,7 +94,7 @@ too-many room c (a ∷ b ∷ d ∷ e ∷ f ∷ g ∷ more) h = refl
 pushed : (l : Line) → (pushOf l Letter .phase ≡ Letter) ⊎ (pushOf l Letter ≡ malformedLine)
 pushed l = ⊎-elim (λ (e : leb 5 (l .count) ≡ true). inr (rw e)) (λ (e : leb 5 (l .count) ≡ false). inl (rw e)) (bool-cases (leb 5 (l .count)))
 
-ended : (p : Phase) (l : Line) → l .phase ≡ p → (endBy p l .phase ≡ Letter) ⊎ (endBy p l ≡ malformedLine)
+pub ended : (p : Phase) (l : Line) → l .phase ≡ p → (endBy p l .phase ≡ Letter) ⊎ (endBy p l ≡ malformedLine)
 unfolding endBy
 ended Start l e = inr refl
 ended Letter l e = inl e

@@ -15,7 +15,7 @@ use Rattle.text.proofs.Cases.{eq-or-not}
 
 -- ---- numerals
 
-between-true : (low high n : ℕ) → low ≤ n → n ≤ high → between low high n ≡ true
+pub between-true : (low high n : ℕ) → low ≤ n → n ≤ high → between low high n ≡ true
 between-true low high n least most = simp (le-leb low n least, le-leb n high most)
 
 pub between-both : (low high n : ℕ) → between low high n ≡ true → (low ≤ n) × (n ≤ high)

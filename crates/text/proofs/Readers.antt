@@ -1,14 +1,15 @@
--- A piece read byte by byte: what the state holds after each byte is what the reader holds, by the byte, and from the contract of a line that ends. Assumes nothing.
-use Prim.Native.Nat.{ℕ, _+_, _-_, _≤_, _<_, zero-le}
+-- A piece read byte by byte, and line by line: what the state holds after each byte or line is what the reader holds, by the byte, and from the contract of a line that ends. Assumes nothing.
+use Prim.Native.Nat.{ℕ, suc, _+_, _-_, _≤_, _<_, zero-le}
 use mathlib.Core.Path.{_≡_, refl, sym, ap, subst, _∙_}
 use mathlib.Core.Logic.{⊎-elim}
+use mathlib.Core.Bool.{false, _||_}
 use mathlib.Core.List.{List, [], _∷_, _++_}
 use native.Mathlib.Numerals.{add-one}
 use native.Mathlib.Omega.{arith}
-use lib.Dec.{T}
-use lib.ListN.{length, take, getD, length-append}
-use lib.Seq.{take-suc, length-sets}
-use borrow.Author.Tests.{eq-eqb, ne-eqb}
+use lib.Dec.{T, eqb, ltb}
+use lib.ListN.{length, take, drop, getD, length-append, length-drop}
+use lib.Seq.{take-suc, take-add, drop-drop, length-sets}
+use borrow.Author.Tests.{ltb-false, eqb-false, eq-eqb, ne-eqb}
 use Rattle.book.specs.Layout.{factsOf}
 use Rattle.book.specs.Books.{isBook, isWellFormed}
 use Rattle.book.specs.Calls.{Call, step}
@@ -16,17 +17,20 @@ use Rattle.book.proofs.Layouts.{factsOf-layout, book-facts}
 use Rattle.book.proofs.Keep.{step-keeps}
 use Rattle.book.proofs.Followed.{layout-size}
 use Rattle.text.specs.declared.line.Line.{Line}
-use Rattle.text.specs.Reading.{emptyLine, feedOf, endOf}
+use Rattle.text.specs.declared.piece.Lines.{Lines}
+use Rattle.text.specs.Reading.{emptyLine, feedOf, endOf, runOf}
 use Rattle.text.specs.Grammar.{callHeld}
 use Rattle.text.specs.Printing.{replyTo}
-use Rattle.text.specs.Pieces.{Reader, callEnded, callMade, byteRead, bytesRead, lineRoom, Ended, Holds, begun, Pieced}
-use Rattle.text.proofs.Cases.{eq-or-not}
+use Rattle.text.specs.Sheets.{lineEnd}
+use Rattle.text.specs.WholeLines.{lineAfter, WholeAt}
+use Rattle.text.specs.Pieces.{Reader, callEnded, callMade, byteRead, bytesRead, lineRoom, Ended, Holds, begun, LinesRead, Pieced}
+use Rattle.text.proofs.Cases.{eq-or-not, neither-of}
 use Rattle.text.proofs.AnswerTexts.{stores-after}
 
 -- ---- the bytes in turn
 
 -- in two parts
-pub bytes-append : (n room : ℕ) (r : Reader) (a b : List ℕ) → bytesRead n room r (a ++ b) ≡ bytesRead n room (bytesRead n room r a) b
+bytes-append : (n room : ℕ) (r : Reader) (a b : List ℕ) → bytesRead n room r (a ++ b) ≡ bytesRead n room (bytesRead n room r a) b
 unfolding bytesRead
 bytes-append n room r [] b = refl
 bytes-append n room r (x ∷ a) b = bytes-append n room (byteRead n room r x) a b
@@ -83,6 +87,95 @@ module _ {n : ℕ} (room : ℕ) {out₀ : List ℕ} {r : Reader} {run second out
         fits = omega (arith, ended .fits, ap length (h .printed), length-sets out₀ 0 (r .text));
       })
 
+-- ---- a line more, which ends in s
+
+holds-line :
+    {n : ℕ} (room : ℕ) {out₀ : List ℕ} (s : List ℕ) {r : Reader} {run second out : List ℕ} {line : Line} {put : ℕ} → Holds n out₀ r run second out line put
+    → {run′ second′ out′ : List ℕ} {put′ : ℕ} → length second ≡ room → lineEnd s < length s
+    → Ended (callHeld (length second) (lineAfter line s)) run second out put put′ run′ second′ out′
+    → Holds n out₀ (bytesRead n room r (take (suc (lineEnd s)) s)) run′ second′ out′ emptyLine put′
+unfolding bytesRead lineEnd runOf
+holds-line room [] h size ends ended = absurd (omega arith)
+holds-line room (b ∷ s) h size ends ended =
+    ⊎-elim
+    (λ (is : b ≡ 10). rw (eq-eqb b 10 is) (holds-ended room h b size is (rw (eq-eqb b 10 is) at ended) refl))
+    (λ differs.
+    rw (ne-eqb b 10 differs)
+    (holds-line room s (holds-fed room h b differs refl) size (omega (arith, rw (ne-eqb b 10 differs) at ends)) (rw (ne-eqb b 10 differs) at ended)))
+    (eq-or-not b 10)
+
+-- ---- the lines from `from` on: those up to the place `read` have been read
+
+pub record Onward (w v piece : List ℕ) (from : ℕ) (out₀ : List ℕ) (at : ℕ) (run second out : List ℕ) (put read : ℕ) : Type 0 where
+  pub lines : LinesRead w v piece from out₀ at (record { read = read; put = put }) run second out
+  pub size : length run ≡ length w
+  pub room : length second ≡ length v
+  pub long : length out ≡ length out₀
+
+pub onward-start : (w v piece : List ℕ) (from : ℕ) (out : List ℕ) (at : ℕ) → T (isBook w) → from ≤ length piece → at ≤ length out
+    → Onward w v piece from out at w v out at from
+unfolding bytesRead
+onward-start w v piece from out at book within fits =
+    let none : from - from ≡ 0 = omega arith in
+    record {
+      lines = record {
+        book = book;
+        fits = fits;
+        onward = omega arith;
+        within = within;
+        holds = λ front before h. rw none h;
+      };
+      size = refl;
+      room = refl;
+      long = refl;
+    }
+
+-- one line more, which ends at a line end, where there is room for its answer
+module _
+    {w v piece : List ℕ}
+    {from : ℕ}
+    {out₀ : List ℕ}
+    {at : ℕ}
+    {run second out : List ℕ}
+    {put read : ℕ}
+    (g : Onward w v piece from out₀ at run second out put read)
+    (end : ℕ)
+    (test : (eqb end (length piece) || ltb (length out - put) (lineRoom (length second))) ≡ false)
+  where
+    pub onward-room : put + lineRoom (length second) ≤ length out
+    onward-room =
+        let some : lineRoom (length second) ≤ length out - put =
+        ltb-false (length out - put) (lineRoom (length second)) (neither-of (eqb end (length piece)) (ltb (length out - put) (lineRoom (length second))) test .1) in
+        omega (arith, some)
+
+    pub onward-more :
+        {line : Line} {run′ second′ out′ : List ℕ} {put′ : ℕ} → WholeAt piece read (record { line = line; end = end })
+        → Ended (callHeld (length second) line) run second out put put′ run′ second′ out′
+        → length run′ ≡ length run → length second′ ≡ length second → length out′ ≡ length out
+        → Onward w v piece from out₀ at run′ second′ out′ put′ (end + 1)
+    onward-more is ended size room long =
+        let s = drop read piece in
+        let inside : end < length piece =
+        omega (arith, eqb-false end (length piece) (neither-of (eqb end (length piece)) (ltb (length out - put) (lineRoom (length second))) test .0), is .within) in
+        let upto : end + 1 - from ≡ (read - from) + suc (lineEnd s) = omega (arith, is .end-is, g .lines .onward) in
+        let here : from + (read - from) ≡ read = omega (arith, g .lines .onward) in
+        let bytes : take (end + 1 - from) (drop from piece) ≡ take (read - from) (drop from piece) ++ take (suc (lineEnd s)) s =
+        rw (upto, take-add (read - from) (suc (lineEnd s)) (drop from piece), drop-drop (read - from) from piece, here) in
+        record {
+          lines = record {
+            book = ended .book;
+            fits = omega (arith, ended .fits, g .long);
+            onward = omega (arith, is .end-is, g .lines .onward);
+            within = omega arith;
+            holds = λ front before h.
+                rw (bytes, bytes-append (length w) (length v) before (take (read - from) (drop from piece)) (take (suc (lineEnd s)) s))
+                (holds-line (length v) s (g .lines .holds front before h) (g .room) (omega (arith, is .end-is, length-drop read piece)) (rw (is .line-is) at ended));
+          };
+          size = size ∙ g .size;
+          room = room ∙ g .room;
+          long = long ∙ g .long;
+        }
+
 -- ---- the loop: `read` bytes of the piece have been read
 
 pub record Feeding (w v piece out₀ : List ℕ) (line₀ : Line) (run second out : List ℕ) (line : Line) (put read : ℕ) : Type 0 where
@@ -129,6 +222,22 @@ module _ {w v piece out₀ : List ℕ} {line₀ : Line} {run second out : List �
       record {
         holds = rw (byte-more (length w) (length v) (begun w v line₀) piece read h) (holds-ended (length v) (g .holds) (getD piece read 0) (g .room) is ended empty);
         within = omega arith;
+        room = room ∙ g .room;
+        long = long ∙ g .long;
+      }
+
+  -- whole lines more
+  pub feeding-lines : {run′ second′ out′ : List ℕ} {r : Lines} → line ≡ emptyLine → LinesRead run second piece read out put r run′ second′ out′
+      → length second′ ≡ length second → length out′ ≡ length out → Feeding w v piece out₀ line₀ run′ second′ out′ line (r .put) (r .read)
+  feeding-lines {r = r} empty lines room long =
+      let more : read + (r .read - read) ≡ r .read = omega (arith, lines .onward) in
+      let bytes : take (r .read) piece ≡ take read piece ++ take (r .read - read) (drop read piece) =
+      ap (λ (k : ℕ). take k piece) (sym more) ∙ take-add read (r .read - read) piece in
+      record {
+        holds =
+            rw (bytes, bytes-append (length w) (length v) (begun w v line₀) (take read piece) (take (r .read - read) (drop read piece)), empty)
+            ((rw (g .holds .size, g .room) at (lines .holds)) out₀ (bytesRead (length w) (length v) (begun w v line₀) (take read piece)) (rw empty at (g .holds)));
+        within = lines .within;
         room = room ∙ g .room;
         long = long ∙ g .long;
       }

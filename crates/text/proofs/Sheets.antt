@@ -1,5 +1,5 @@
 -- A sheet read line by line: what the lines that are left make of the present words is what the whole sheet makes of the first ones; by what one call makes of any words. Assumes nothing.
-use Prim.Native.Nat.{ℕ, suc, _+_, _-_, _≤_, _<_, zero-le}
+use Prim.Native.Nat.{ℕ, suc, _+_, _≤_, _<_, zero-le}
 use mathlib.Core.Path.{_≡_, refl, sym, ap, _∙_}
 use mathlib.Core.Bool.{Bool, true, false}
 use mathlib.Core.Logic.{_⊎_, ⊎-elim}
@@ -79,14 +79,13 @@ line-first b (d ∷ s) =
 -- the lines from a place on: the bytes up to the line end, and the lines after it
 line-next :
     (sheet : List ℕ) (from end : ℕ) → from < length sheet → end ≡ from + lineEnd (drop from sheet)
-    → linesOf (drop from sheet) ≡ take (end - from) (drop from sheet) ∷ linesOf (drop (suc end) sheet)
+    → linesOf (drop from sheet) ≡ take (lineEnd (drop from sheet)) (drop from sheet) ∷ linesOf (drop (suc end) sheet)
 line-next sheet from end l e =
     let s = drop from sheet in
     let first : linesOf s ≡ take (lineEnd s) s ∷ linesOf (drop (suc (lineEnd s)) s) =
     rw (drop-cons sheet from 0 l) (line-first (getD sheet from 0) (drop (suc from) sheet)) in
-    let long : end - from ≡ lineEnd s = omega arith in
     let after : from + suc (lineEnd s) ≡ suc end = omega arith in
-    first ∙ rw (long, drop-drop (suc (lineEnd s)) from sheet, after)
+    first ∙ rw (drop-drop (suc (lineEnd s)) from sheet, after)
 
 -- the line end from a place on, by the byte there
 module _ (s : List ℕ) (i : ℕ) where
@@ -161,13 +160,13 @@ module _
     -- one line more, which ends at `end`
     pub read-more :
         {end after number value at′ at″ : ℕ} {r : Answer} {w′ v′ answers′ answers″ : List ℕ} → from < length sheet
-        → end ≡ from + lineEnd (drop from sheet) → Made (callIn (length v) (take (end - from) (drop from sheet))) w v r w′ v′
+        → end ≡ from + lineEnd (drop from sheet) → Made (callIn (length v) (take (lineEnd (drop from sheet)) (drop from sheet))) w v r w′ v′
         → length w′ ≡ length w → length v′ ≡ length v → length answers″ ≡ length answers → number ≡ answerNumber r
         → ((rest : List ℕ) → sets answers′ at′ rest ≡ sets answers at (number ∷ rest)) → value ≡ answerValue r
         → ((rest : List ℕ) → sets answers″ at″ rest ≡ sets answers′ at′ (value ∷ rest)) → After sheet end after
         → Reading w₀ v₀ sheet answers₀ tested w′ v′ answers″ (lines + 1) at″ after
     read-more {end} {after} {value = value} {w′ = w′} l e m size room places n first k then place =
-        let line = take (end - from) (drop from sheet) in
+        let line = take (lineEnd (drop from sheet)) (drop from sheet) in
         let split : linesOf (drop from sheet) ≡ line ∷ linesOf (drop after sheet) =
         line-next sheet from end l e ∙ ap (λ (u : List ℕ). line ∷ linesOf u) (sym (same-rest sheet end after place)) in
         let calls = ap (map (callIn (length v₀))) split in

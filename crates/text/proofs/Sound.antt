@@ -18,7 +18,7 @@ use Rattle.text.proofs.Complete.{state, push-room}
 abbrev Ends : Line → List ℕ → Type 0
 Ends l s = endOf (runOf l s) .phase ≡ Letter
 
-run-malformed : (s : List ℕ) → runOf malformedLine s ≡ malformedLine
+pub run-malformed : (s : List ℕ) → runOf malformedLine s ≡ malformedLine
 unfolding runOf feedBy
 run-malformed [] = refl
 run-malformed (b ∷ s) = run-malformed s
@@ -36,7 +36,7 @@ unfolding runOf
 on b s l l′ e h = subst (λ (m : Line). Ends m s) e h
 
 -- what may follow a phase with k numbers ended
-Follows : ℕ → Phase → List ℕ → Type 0
+unfoldable pub Follows : ℕ → Phase → List ℕ → Type 0
 Follows k Start s = (c : ℕ) × (ts : List (List ℕ)) × (65 ≤ c) × (c ≤ 90) × Numerals ts × (length ts ≤ 5) × (s ≡ lineText c ts)
 Follows k Letter s = (ts : List (List ℕ)) × Numerals ts × (k + length ts ≤ 5) × (s ≡ spaced ts)
 Follows k Space s = (t : List ℕ) × (ts : List (List ℕ)) × Numeral t × Numerals ts × (k + 1 + length ts ≤ 5) × (s ≡ t ++ spaced ts)
@@ -57,7 +57,7 @@ malformed-phase l e h =
 push-ends : (p : Phase) (c v k : ℕ) (ns : List ℕ) → pushOf (state p c v k ns) Letter .phase ≡ Letter → k < 5
 push-ends p c v k ns h = ⊎-elim (λ lt. lt) (λ full. absurd (malformed-phase _ (push-full p Letter c v k ns full) h)) (lt-or-le k 5)
 
-follows : (s : List ℕ) (p : Phase) (c v k : ℕ) (ns : List ℕ) → k ≤ 5 → Ends (state p c v k ns) s → Follows k p s
+pub follows : (s : List ℕ) (p : Phase) (c v k : ℕ) (ns : List ℕ) → k ≤ 5 → Ends (state p c v k ns) s → Follows k p s
 unfolding Follows runOf feedBy endBy spaced
 follows [] Start c v k ns few h = absurd (malformed-never [] h)
 follows [] Letter c v k ns few h = ([], no-numbers, omega arith, refl)

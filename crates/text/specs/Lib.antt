@@ -3,4 +3,5 @@ pub mod Reading
 pub mod Grammar
 pub mod Printing
 pub mod Sheets
+pub mod WholeLines
 pub mod Pieces

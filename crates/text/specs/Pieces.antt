@@ -1,10 +1,10 @@
 -- A sheet read byte by byte, as it comes in pieces: what a reader holds between two bytes, and what it has printed. proofs/Pieces.antt shows that it is what the sheet's lines ask for. Assumes nothing.
-use Prim.Native.Nat.{ℕ, _+_, _*_, _≤_, _<_}
+use Prim.Native.Nat.{ℕ, _+_, _*_, _-_, _≤_, _<_}
 use mathlib.Core.Path.{_≡_}
 use mathlib.Core.Bool.{Bool, true, false, cond}
 use mathlib.Core.List.{List, [], _∷_, _++_}
 use lib.Dec.{T, eqb}
-use lib.ListN.{length, take}
+use lib.ListN.{length, take, drop}
 use lib.Seq.{sets}
 use Rattle.book.specs.Facts.{Facts}
 use Rattle.book.specs.Layout.{layout, factsOf}
@@ -16,6 +16,7 @@ use Rattle.text.specs.declared.line.Phase.{Phase}
 use Rattle.text.specs.declared.line.Phase.the-variants.{Start, Letter, Space, Zero, Number, Malformed}
 use Rattle.text.specs.declared.line.Line.{Line}
 use Rattle.text.specs.declared.piece.Progress.{Progress}
+use Rattle.text.specs.declared.piece.Lines.{Lines}
 use Rattle.text.specs.Reading.{emptyLine, feedOf, endOf}
 use Rattle.text.specs.Grammar.{callHeld}
 use Rattle.text.specs.Printing.{replyTo}
@@ -114,6 +115,16 @@ pub record Holds (n : ℕ) (out : List ℕ) (r : Reader) (w′ v′ out′ : Lis
 -- a line that has begun over the words w of a book, with the second run v: nothing is printed yet
 abbrev pub begun : List ℕ → List ℕ → Line → Reader
 begun w v line = record { line = line; facts = factsOf w; second = v; text = [] }
+
+-- whole lines read from `from` on in a piece, over the words w of a book, with the second run v, where `at` bytes of `out` are printed: what held a reader before them holds it after them
+pub record LinesRead (w v piece : List ℕ) (from : ℕ) (out : List ℕ) (at : ℕ) (r : Lines) (w′ v′ out′ : List ℕ) : Type 0 where
+  pub book : T (isBook w′)
+  pub fits : r .put ≤ length out
+  pub onward : from ≤ r .read
+  pub within : r .read ≤ length piece
+  pub holds :
+      (front : List ℕ) (before : Reader) → Holds (length w) front before w v out emptyLine at
+      → Holds (length w) front (bytesRead (length w) (length v) before (take (r .read - from) (drop from piece))) w′ v′ out′ emptyLine (r .put)
 
 -- a piece read over the words w of a book, with the second run v and a line that has begun: as much of it as `out` has room for the answers to, and some of it
 pub record Pieced (w v piece out : List ℕ) (line : Line) (r : Progress) (w′ v′ out′ : List ℕ) : Type 0 where

@@ -1,4 +1,4 @@
-// The text of a sheet: its lines read byte by byte, and the bytes that are printed for an answer.
+// The text of a sheet: its lines, and the bytes that are printed for an answer.
 pub mod line;
 pub mod piece;
 pub mod print;

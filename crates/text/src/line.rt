@@ -1,7 +1,10 @@
-// One line of a sheet, read byte by byte by a state machine that goes by value. No line is too long for it.
+// One line of a sheet, read byte by byte by a state machine that goes by value, or number by number where the whole line is at hand. No line is too long for either.
 ghost use mathlib.Core.Path.{_≡_};
-ghost use Prim.Native.Nat.{_+_, _*_, _<_};
-ghost use Rattle.text.specs.Reading.{capped, emptyLine, malformedLine, pushOf, startOf, letterOf, spaceOf, zeroOf, numberOf, feedOf, endOf, lineOf};
+ghost use Prim.Native.Nat.{_+_, _*_, _<_, _≤_};
+ghost use lib.ListN.{drop, length, take};
+ghost use Rattle.text.specs.Sheets.{lineEnd};
+ghost use Rattle.text.specs.WholeLines.{digitsLength, grownBy, letterLine, NumeralAt, EndsAfter, WholeAt};
+ghost use Rattle.text.specs.Reading.{capped, emptyLine, malformedLine, pushOf, startOf, letterOf, spaceOf, zeroOf, numberOf, feedOf, endOf};
 
 // How far a line has been read. A line that has ended well is at Letter.
 pub enum Phase {
@@ -20,6 +23,18 @@ pub struct Line {
     pub value: u32,
     pub count: usize,
     pub numbers: [u32; 5],
+}
+
+// A number that was read: its value, and where it ends.
+struct Numeral {
+    value: u32,
+    end: usize,
+}
+
+// A line that has ended, and where: at its line end, or with the bytes.
+pub struct WholeLine {
+    pub line: Line,
+    pub end: usize,
 }
 
 // A number with one digit more, 99,999,999 where it is more than that.
@@ -210,15 +225,131 @@ pub fn end(line: Line) -> Line
     }
 }
 
-// A whole line, without its line end.
-pub fn read_line(bytes: &[u8]) -> Line
-    ensures { λ r. ⌜ r ≡ lineOf (now (bytes .entry)) ⌝ }
+// The digits from `from` on go on with a number.
+fn read_digits(sheet: &[u8], from: usize, first: u32) -> Numeral
+    requires { ⌜ from ≤ length (now sheet) ⌝ }
+    ensures { λ r. ⌜ (r .end ≡ from + digitsLength (drop from (now (sheet .entry))))
+        × ((r .end ≤ length (now (sheet .entry))) × (r .value ≡ grownBy first (take (digitsLength (drop from (now (sheet .entry)))) (drop from (now (sheet .entry)))))) ⌝ }
 {
-    let mut line = empty();
-    let mut i = 0;
-    while i < bytes.len() {
-        line = feed(line, bytes[i]);
+    let mut value = first;
+    let mut i = from;
+    while i < sheet.len() {
+        let byte = sheet[i];
+        if (byte < 48) | (57 < byte) {
+            return Numeral { value, end: i };
+        }
+        value = grow(value, (byte - 48) as u32);
         i += 1;
     }
-    end(line)
+    Numeral { value, end: i }
+}
+
+// The number without leading zeros that begins at `from`. Where none does, it ends there.
+fn read_number(sheet: &[u8], from: usize) -> Numeral
+    requires { ⌜ from ≤ length (now sheet) ⌝ }
+    ensures { λ r. ⌜ NumeralAt (now (sheet .entry)) from (r .value) (r .end) ⌝ }
+{
+    if sheet.len() <= from {
+        return Numeral {
+            value: 0,
+            end: from,
+        };
+    }
+    let first = sheet[from];
+    if first == 48 {
+        return Numeral {
+            value: 0,
+            end: from + 1,
+        };
+    }
+    if (first < 48) | (57 < first) {
+        return Numeral {
+            value: 0,
+            end: from,
+        };
+    }
+    read_digits(sheet, from + 1, (first - 48) as u32)
+}
+
+// The index of the first line end from `from` on, or the length.
+fn line_end(sheet: &[u8], from: usize) -> usize
+    requires { ⌜ from ≤ length (now sheet) ⌝ }
+    ensures { λ r. ⌜ (r ≡ from + lineEnd (drop from (now (sheet .entry)))) × (r ≤ length (now (sheet .entry))) ⌝ }
+{
+    let mut i = from;
+    while i < sheet.len() {
+        if sheet[i] == 10 {
+            return i;
+        }
+        i += 1;
+    }
+    i
+}
+
+// A malformed line, which is passed from `from` on.
+fn pass_line(sheet: &[u8], from: usize) -> WholeLine
+    requires { ⌜ from ≤ length (now sheet) ⌝ }
+    ensures { λ r. ⌜ EndsAfter malformedLine (now (sheet .entry)) from r ⌝ }
+{
+    WholeLine {
+        line: malformed(),
+        end: line_end(sheet, from),
+    }
+}
+
+// The numbers of a line from `from` on, each after a space, and its end.
+fn read_numbers(sheet: &[u8], from: usize, letter: u8) -> WholeLine
+    requires { ⌜ from ≤ length (now sheet) ⌝ }
+    ensures { λ r. ⌜ EndsAfter (letterLine letter) (now (sheet .entry)) from r ⌝ }
+{
+    let mut numbers = [0; 5];
+    let mut count = 0;
+    let mut i = from;
+    while i < sheet.len() {
+        let byte = sheet[i];
+        if byte == 10 {
+            return WholeLine {
+                line: Line {
+                    phase: Phase::Letter,
+                    letter,
+                    value: 0,
+                    count,
+                    numbers,
+                },
+                end: i,
+            };
+        }
+        if (byte != 32) | (count == 5) {
+            return pass_line(sheet, i);
+        }
+        let numeral = read_number(sheet, i + 1);
+        if numeral.end == i + 1 {
+            return pass_line(sheet, i);
+        }
+        numbers[count] = numeral.value;
+        count += 1;
+        i = numeral.end;
+    }
+    WholeLine {
+        line: Line {
+            phase: Phase::Letter,
+            letter,
+            value: 0,
+            count,
+            numbers,
+        },
+        end: i,
+    }
+}
+
+// The whole line that begins at `from`, number by number.
+pub fn read_line(sheet: &[u8], from: usize) -> WholeLine
+    requires { ⌜ from < length (now sheet) ⌝ }
+    ensures { λ r. ⌜ WholeAt (now (sheet .entry)) from r ⌝ }
+{
+    let letter = sheet[from];
+    if (letter < 65) | (90 < letter) {
+        return pass_line(sheet, from);
+    }
+    read_numbers(sheet, from + 1, letter)
 }

@@ -8,17 +8,24 @@ ghost use Rattle.book.specs.Books.{isBook};
 ghost use Rattle.text.specs.Reading.{endOf};
 ghost use Rattle.text.specs.Grammar.{callHeld};
 ghost use Rattle.text.specs.Printing.{isShownLetter};
-ghost use Rattle.text.specs.Pieces.{lineRoom, Ended, Pieced};
+ghost use Rattle.text.specs.Pieces.{lineRoom, Ended, LinesRead, Pieced};
 use crate::line::Line;
 use crate::line::empty;
 use crate::line::end;
 use crate::line::feed;
+use crate::line::read_line;
 use crate::print::put_answer;
 use crate::sheet::make_line;
 
 // How far a piece has been read, the line that has not ended, and how many bytes were printed.
 pub struct Progress {
     pub line: Line,
+    pub read: usize,
+    pub put: usize,
+}
+
+// How far the lines of a piece have been read, and how many bytes were printed.
+pub struct Lines {
     pub read: usize,
     pub put: usize,
 }
@@ -40,22 +47,59 @@ fn strikes_listed(letter: u8, number: u32, value: u32) -> usize
     0
 }
 
-// Makes the call of a line that ends here, and prints its answer from `at` on.
-pub fn end_line(run: &mut [u32], second: &mut [u32], line: Line, out: &mut [u8], at: usize) -> usize
+// Makes the call of a line that has ended, and prints its answer from `at` on.
+fn print_line(run: &mut [u32], second: &mut [u32], line: Line, out: &mut [u8], at: usize) -> usize
     requires { ⌜ T (isBook (now run)) × (at + lineRoom (length (now second)) ≤ length (now out)) ⌝ }
-    ensures { λ r. ⌜ Ended (callHeld (length (now (second .entry))) (endOf line)) (now (run .entry)) (now (second .entry)) (now (out .entry)) at
+    ensures { λ r. ⌜ Ended (callHeld (length (now (second .entry))) line) (now (run .entry)) (now (second .entry)) (now (out .entry)) at
         r (now (run .exit)) (now (second .exit)) (now (out .exit)) ⌝ }
 {
-    let ended = end(line);
-    let answer = make_line(run, second, ended);
-    let letter = ended.letter;
+    let answer = make_line(run, second, line);
+    let letter = line.letter;
     let number = answer.number();
     let value = answer.value();
     let count = strikes_listed(letter, number, value);
     put_answer(out, at, is_shown(letter), number, value, &second[0..count])
 }
 
+// Makes the call of a line that ends here, and prints its answer from `at` on.
+pub fn end_line(run: &mut [u32], second: &mut [u32], line: Line, out: &mut [u8], at: usize) -> usize
+    requires { ⌜ T (isBook (now run)) × (at + lineRoom (length (now second)) ≤ length (now out)) ⌝ }
+    ensures { λ r. ⌜ Ended (callHeld (length (now (second .entry))) (endOf line)) (now (run .entry)) (now (second .entry)) (now (out .entry)) at
+        r (now (run .exit)) (now (second .exit)) (now (out .exit)) ⌝ }
+{
+    print_line(run, second, end(line), out, at)
+}
+
+// Reads the lines that begin at `from` or later and end in the piece, as far as `out` has room for their answers.
+fn read_lines(
+    run: &mut [u32],
+    second: &mut [u32],
+    piece: &[u8],
+    from: usize,
+    out: &mut [u8],
+    at: usize,
+) -> Lines
+    requires { ⌜ T (isBook (now run)) × ((lineRoom (length (now second)) ≤ length (now out)) × ((from ≤ length (now piece)) × (at ≤ length (now out)))) ⌝ }
+    ensures { λ r. ⌜ LinesRead (now (run .entry)) (now (second .entry)) (now (piece .entry)) from (now (out .entry)) at
+        r (now (run .exit)) (now (second .exit)) (now (out .exit)) ⌝ }
+{
+    let mut put = at;
+    let mut read = from;
+    while read < piece.len() {
+        let whole = read_line(piece, read);
+        let end = whole.end;
+        if (end == piece.len()) | (out.len() - put < 11 * second.len() + 32) {
+            return Lines { read, put };
+        }
+        let line = whole.line;
+        put = print_line(run, second, line, out, put);
+        read = end + 1;
+    }
+    Lines { read, put }
+}
+
 // Reads a piece of a sheet, as far as `out` has room for one answer more, and prints the answers from the front of `out` on.
+// Lines that begin and end in the piece are read at once, after the one that begins before it.
 pub fn read_piece(
     run: &mut [u32],
     second: &mut [u32],
@@ -78,10 +122,13 @@ pub fn read_piece(
             }
             put = end_line(run, second, line, out, put);
             line = empty();
+            let lines = read_lines(run, second, piece, read + 1, out, put);
+            read = lines.read;
+            put = lines.put;
         } else {
             line = feed(line, byte);
+            read += 1;
         }
-        read += 1;
     }
     Progress { line, read, put }
 }

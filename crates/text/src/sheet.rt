@@ -1,14 +1,15 @@
 // A whole sheet, read to its end over any lent words.
 ghost use mathlib.Core.Path.{_≡_};
 ghost use mathlib.Core.List.{List, _∷_};
-ghost use Prim.Native.Nat.{ℕ, _+_, _≤_};
+ghost use Prim.Native.Nat.{ℕ};
 ghost use lib.Dec.{T};
-ghost use lib.ListN.{length, drop};
+ghost use lib.ListN.{length};
 ghost use lib.Seq.{sets};
 ghost use Rattle.book.specs.Books.{isBook};
 ghost use Rattle.book.specs.Made.{Made};
+ghost use Rattle.text.specs.Reading.{lineOf};
 ghost use Rattle.text.specs.Grammar.{callHeld, callIn};
-ghost use Rattle.text.specs.Sheets.{lineEnd, SheetRun};
+ghost use Rattle.text.specs.Sheets.{SheetRun};
 use crate::line::Line;
 use crate::line::read_line;
 use dispatch::make_call;
@@ -36,31 +37,16 @@ pub fn make_line(run: &mut [u32], second: &mut [u32], line: Line) -> Answer
     )
 }
 
-// Makes the call of a line's bytes, where `tested` says whether the run is a book.
-fn answer_line(run: &mut [u32], second: &mut [u32], tested: bool, bytes: &[u8]) -> Answer
+// Makes the call of a line that has ended, where `tested` says whether the run is a book.
+fn answer_line(run: &mut [u32], second: &mut [u32], tested: bool, line: Line) -> Answer
     requires { ⌜ tested ≡ isBook (now run) ⌝ }
-    ensures { λ r. ⌜ Made (callIn (length (now (second .entry))) (now (bytes .entry)))
-        (now (run .entry)) (now (second .entry)) r (now (run .exit)) (now (second .exit)) ⌝ }
+    ensures { λ r. ⌜ ((bytes : List ℕ) → line ≡ lineOf bytes
+        → Made (callIn (length (now (second .entry))) bytes) (now (run .entry)) (now (second .entry)) r (now (run .exit)) (now (second .exit))) ⌝ }
 {
     if !tested {
         return Answer::Refused(Refusal::NotABook);
     }
-    make_line(run, second, read_line(bytes))
-}
-
-// The index of the first line end from `from` on, or the length.
-fn line_end(sheet: &[u8], from: usize) -> usize
-    requires { ⌜ from ≤ length (now sheet) ⌝ }
-    ensures { λ r. ⌜ (r ≡ from + lineEnd (drop from (now (sheet .entry)))) × (r ≤ length (now (sheet .entry))) ⌝ }
-{
-    let mut i = from;
-    while i < sheet.len() {
-        if sheet[i] == 10 {
-            return i;
-        }
-        i += 1;
-    }
-    i
+    make_line(run, second, line)
 }
 
 // Writes a number where there is a place for it, and answers the place after it.
@@ -85,8 +71,10 @@ pub fn run_sheet(run: &mut [u32], second: &mut [u32], sheet: &[u8], answers: &mu
     let mut at = 0;
     let mut from = 0;
     while from < sheet.len() {
-        let end = line_end(sheet, from);
-        let answer = answer_line(run, second, tested, &sheet[from..end]);
+        let whole = read_line(sheet, from);
+        let end = whole.end;
+        let line = whole.line;
+        let answer = answer_line(run, second, tested, line);
         let number = answer.number();
         at = put(answers, at, number);
         at = put(answers, at, answer.value());

@@ -1,10 +1,9 @@
--- `read_piece` reads as far as there is room: `Feeding` holds at each byte, and where the loop is left it is what the contract says. Assumes nothing.
+-- `read_piece` reads as far as there is room: `Feeding` holds at each byte and after the lines that are read at once, and where the loop is left it is what the contract says. Assumes nothing.
 use Prim.Native.Nat.{_-_}
-use mathlib.Core.Logic.{⊎-elim}
 use native.Mathlib.Omega.{arith}
 use borrow.Author.Needs.{needs}
 use lib.ListN.{length}
-use Rattle.text.proofs.Readers.{Feeding, feeding-start, feeding-fed, feeding-ended, feeding-full, feeding-done}
+use Rattle.text.proofs.Readers.{Feeding, feeding-start, feeding-fed, feeding-ended, feeding-lines, feeding-full, feeding-done}
 use Rattle.text.proofs.piece.read_piece.Statement.{statement}
 use Rattle.text.proofs.piece.read_piece.Tie as tie
 
@@ -51,24 +50,46 @@ end-line-requires c κs =
 empty-requires : tie.Need-empty-requires Inv-loop μ-loop
 empty-requires c κs = search needs
 
+add-read-lines : tie.Need-add-read-lines Inv-loop μ-loop
+add-read-lines c = omega arith
+
+read-lines-requires : tie.Need-read-lines-requires Inv-loop μ-loop
+read-lines-requires c κs =
+    let ended = c .before .before .before .before .before .before .before .before .before .before in
+    (ended .end-line .ensures .book, (omega arith, (omega arith, omega (arith, ended .end-line .ensures .fits))))
+
+loop-less : tie.Need-loop-less Inv-loop μ-loop
+loop-less c =
+    let lines = c .before .before .before .before .before .before .read-lines .ensures in
+    omega (arith, lines .onward)
+
+loop-again : tie.Need-loop-again Inv-loop μ-loop
+loop-again c =
+    let read = c .before .before .before .before .before .before in
+    let emptied = read .before .before .before .before in
+    let ended = emptied .before .before .before .before .before .before .before in
+    let inside = ended .before .before .before .before .before .before .before in
+    feeding-lines
+    (feeding-ended (inside .before .loop .inv) (inside .loop-test .taken) (ended .before .before .before .before .before .if1 .taken) (ended .end-line .ensures) (emptied .empty .ensures)
+    (ended .end-line .kept .1 .0) (ended .end-line .kept .1 .1 .1 .0))
+    (emptied .empty .ensures)
+    (read .read-lines .ensures)
+    (read .read-lines .kept .1 .0)
+    (read .read-lines .kept .1 .1 .1 .1 .0)
+
 feed-requires : tie.Need-feed-requires Inv-loop μ-loop
 feed-requires c κs = search needs
 
 add-read : tie.Need-add-read Inv-loop μ-loop
 add-read c = omega arith
 
-loop-less : tie.Need-loop-less Inv-loop μ-loop
-loop-less c = omega arith
+loop-less-2 : tie.Need-loop-less-2 Inv-loop μ-loop
+loop-less-2 c = omega arith
 
-loop-again : tie.Need-loop-again Inv-loop μ-loop
-loop-again c =
-    let inside = c .before .before in
-    ⊎-elim
-    (λ w.
-    rw (w .13, w .14, w .15, w .16, w .17)
-    (feeding-ended (inside .before .loop .inv) (inside .loop-test .taken) (w .0 .taken) (w .5 .ensures) (w .12 .ensures) (w .5 .kept .1 .0) (w .5 .kept .1 .1 .1 .0)))
-    (λ w. rw (w .2, w .3, w .4, w .5, w .6) (feeding-fed (inside .before .loop .inv) (inside .loop-test .taken) (w .0 .left) (w .1 .ensures)))
-    (c .if1 .came)
+loop-again-2 : tie.Need-loop-again-2 Inv-loop μ-loop
+loop-again-2 c =
+    let inside = c .before .before .before in
+    feeding-fed (inside .before .loop .inv) (inside .loop-test .taken) (c .before .if1 .left) (c .feed .ensures)
 
 same-length-4 : tie.Need-same-length-4 Inv-loop μ-loop
 same-length-4 c = omega arith
@@ -99,10 +120,14 @@ read-piece-spec =
     returns
     end-line-requires
     empty-requires
-    feed-requires
-    add-read
+    add-read-lines
+    read-lines-requires
     loop-less
     loop-again
+    feed-requires
+    add-read
+    loop-less-2
+    loop-again-2
     same-length-4
     same-length-5
     same-length-6

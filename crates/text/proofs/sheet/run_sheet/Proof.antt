@@ -20,17 +20,8 @@ is-book-requires c κs = search needs
 loop-holds : tie.Need-loop-holds Inv-loop μ-loop
 loop-holds c = read-start _ _ _ _ (c .is-book .ensures)
 
-line-end-requires : tie.Need-line-end-requires Inv-loop μ-loop
-line-end-requires c κs = search needs
-
-sub-answer-line : tie.Need-sub-answer-line Inv-loop μ-loop
-sub-answer-line c = search needs
-
-part-answer-line-start : tie.Need-part-answer-line-start Inv-loop μ-loop
-part-answer-line-start c = search needs
-
-part-answer-line-end : tie.Need-part-answer-line-end Inv-loop μ-loop
-part-answer-line-end c = search needs
+read-line-requires : tie.Need-read-line-requires Inv-loop μ-loop
+read-line-requires c κs = search needs
 
 answer-line-requires : tie.Need-answer-line-requires Inv-loop μ-loop
 answer-line-requires c κs = search needs
@@ -48,25 +39,30 @@ put-requires-2 : tie.Need-put-requires-2 Inv-loop μ-loop
 put-requires-2 c κs = search needs
 
 add-from : tie.Need-add-from Inv-loop μ-loop
-add-from c = search needs
+add-from c = omega (arith, c .before .before .before .before .before .before .before .before .before .before .before .before .before .before .before .before .before .before .before .read-line .ensures .within, c .before .before .before .before .before .before .before .before .before .before .before .before .before .before .before .before .before .before .before .before .before .before .before .before .before .before .before .before .good .1 .1 .0)
 
 add-lines : tie.Need-add-lines Inv-loop μ-loop
-add-lines c = search needs
+add-lines c =
+    let at-loop = c .before .before .before .before .before .before .before .before .before .before .before .before .before .before .before .before .before .before .before .before .before in
+    omega (arith, at-loop .loop .inv .few, c .before .before .before .before .before .before .before .before .before .before .before .before .before .before .before .before .before .before .before .before .loop-test .taken, at-loop .before .before .before .before .before .before .before .good .1 .1 .0)
 
 loop-less : tie.Need-loop-less Inv-loop μ-loop
-loop-less c = ⊎-elim (λ w. omega (arith, w .1)) (λ w. omega (arith, w .1)) (c .if1 .came)
+loop-less c =
+    let whole = c .before .before .before .before .before .before .before .before .before .before .before .before .before .before .before .before .before .before .before .read-line .ensures in
+    ⊎-elim (λ w. omega (arith, w .1)) (λ w. omega (arith, w .1, whole .end-is)) (c .if1 .came)
 
 loop-again : tie.Need-loop-again Inv-loop μ-loop
 loop-again c =
-    let l = c .before .before .before .before .before .before .before .before .before .before .before .before .before .before .before .before .before .before .before .before in
-    let a = c .before .before .before .before .before .before .before .before .before .before .before .before .before .before .before in
+    let read = c .before .before .before .before .before .before .before .before .before .before .before .before .before .before .before .before .before .before .before in
+    let whole = read .read-line .ensures in
+    let answering = c .before .before .before .before .before .before .before .before .before .before .before .before .before .before .before in
     read-more
-    (l .before .loop .inv)
-    (l .loop-test .taken)
-    (c .before .before .before .before .before .before .before .before .before .before .before .before .before .before .before .before .before .before .before .line-end .ensures .0)
-    (a .answer-line .ensures)
-    (search needs)
-    (search needs)
+    (read .before .before .loop .inv)
+    (read .before .loop-test .taken)
+    (whole .end-is)
+    (answering .answer-line .ensures _ (whole .line-is))
+    (answering .answer-line .kept .0)
+    (answering .answer-line .kept .1 .0)
     (search needs)
     (c .before .before .before .before .before .before .before .before .before .before .number .ensures)
     (c .before .before .before .before .before .before .before .before .put .ensures)
@@ -94,10 +90,7 @@ run-sheet-spec =
     μ-loop
     is-book-requires
     loop-holds
-    line-end-requires
-    sub-answer-line
-    part-answer-line-start
-    part-answer-line-end
+    read-line-requires
     answer-line-requires
     number-requires
     put-requires

@@ -6,8 +6,8 @@ use lib.ListN.{length, drop}
 use borrow.Author.Needs.{needs}
 use Rattle.text.specs.Sheets.{lineEnd}
 use Rattle.text.proofs.Sheets.{end-here, end-later, end-none}
-use Rattle.text.proofs.sheet.line_end.Statement.{statement}
-use Rattle.text.proofs.sheet.line_end.Tie as tie
+use Rattle.text.proofs.line.line_end.Statement.{statement}
+use Rattle.text.proofs.line.line_end.Tie as tie
 
 abbrev Inv-loop : tie.InvT-loop
 Inv-loop sheet from i₀ i = (i ≤ length sheet) × (i + lineEnd (drop i sheet) ≡ from + lineEnd (drop from sheet))

@@ -1,0 +1,98 @@
+-- `read_lines` reads whole lines as far as there is room: `Onward` holds at each, and where the loop is left it is what the contract says. Assumes nothing.
+use Prim.Native.Nat.{_-_}
+use native.Mathlib.Omega.{arith}
+use lib.ListN.{length}
+use Rattle.text.proofs.Readers.{Onward, onward-start, onward-room, onward-more}
+use Rattle.text.proofs.piece.read_lines.Statement.{statement}
+use Rattle.text.proofs.piece.read_lines.Tie as tie
+
+abbrev Inv-loop : tie.InvT-loop
+Inv-loop run₀ second₀ piece from out₀ at put₀ read₀ run second out put read = Onward run₀ second₀ piece from out₀ at run second out put read
+
+abbrev μ-loop : tie.MeasureT-loop
+μ-loop run₀ second₀ piece from out₀ at put₀ read₀ run second out put read = length piece - read
+
+loop-holds : tie.Need-loop-holds Inv-loop μ-loop
+loop-holds c =
+    let start = c .before .before .before .before in
+    onward-start _ _ _ _ _ _ (start .pre .0) (start .pre .1 .1 .0) (start .pre .1 .1 .1)
+
+read-line-requires : tie.Need-read-line-requires Inv-loop μ-loop
+read-line-requires c κs = omega arith
+
+sub-if1 : tie.Need-sub-if1 Inv-loop μ-loop
+sub-if1 c = omega arith
+
+mul-if1 : tie.Need-mul-if1 Inv-loop μ-loop
+mul-if1 c = omega arith
+
+add-if1 : tie.Need-add-if1 Inv-loop μ-loop
+add-if1 c = omega arith
+
+same-length : tie.Need-same-length Inv-loop μ-loop
+same-length c = omega arith
+
+same-length-2 : tie.Need-same-length-2 Inv-loop μ-loop
+same-length-2 c = omega arith
+
+same-length-3 : tie.Need-same-length-3 Inv-loop μ-loop
+same-length-3 c = omega arith
+
+returns : tie.Need-returns Inv-loop μ-loop
+returns c = c .before .before .before .loop .inv .lines
+
+print-line-requires : tie.Need-print-line-requires Inv-loop μ-loop
+print-line-requires c κs =
+    let tested = c .before .before .before .before in
+    let going = tested .before .before .before .loop .inv in
+    (going .lines .book, onward-room going (tested .before .read-line .result .end) (tested .if1 .left))
+
+add-read : tie.Need-add-read Inv-loop μ-loop
+add-read c = omega arith
+
+loop-less : tie.Need-loop-less Inv-loop μ-loop
+loop-less c = omega arith
+
+loop-again : tie.Need-loop-again Inv-loop μ-loop
+loop-again c =
+    let printed = c .before .before .before .before .before .before in
+    let tested = printed .before .before .before .before .before in
+    let whole = tested .before in
+    onward-more (whole .before .before .loop .inv) (whole .read-line .result .end) (tested .if1 .left) (whole .read-line .ensures) (printed .print-line .ensures)
+    (printed .print-line .kept .0) (printed .print-line .kept .1 .0) (printed .print-line .kept .1 .1 .1 .0)
+
+same-length-4 : tie.Need-same-length-4 Inv-loop μ-loop
+same-length-4 c = omega arith
+
+same-length-5 : tie.Need-same-length-5 Inv-loop μ-loop
+same-length-5 c = omega arith
+
+same-length-6 : tie.Need-same-length-6 Inv-loop μ-loop
+same-length-6 c = omega arith
+
+returns-2 : tie.Need-returns-2 Inv-loop μ-loop
+returns-2 c = c .before .loop .inv .lines
+
+pub read-lines-spec : {M : Type 1} → statement M
+read-lines-spec =
+    tie.close
+    (tie.spec
+    Inv-loop
+    μ-loop
+    loop-holds
+    read-line-requires
+    sub-if1
+    mul-if1
+    add-if1
+    same-length
+    same-length-2
+    same-length-3
+    returns
+    print-line-requires
+    add-read
+    loop-less
+    loop-again
+    same-length-4
+    same-length-5
+    same-length-6
+    returns-2)
