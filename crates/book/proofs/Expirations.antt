@@ -1,4 +1,4 @@
--- The series of a class on either side of a month and a strike: the words that they take, and what a new series and new marks make of them, from the three parts by month and then by strike. Assumes nothing.
+-- The series of a class on either side of a month and a strike: the words that they take, and what a new series, new marks and a removal make of them, from the three parts by month and then by strike. Assumes nothing.
 use Prim.Native.Nat.{ℕ, suc, _+_, _≤_, _<_, zero-le}
 use mathlib.Core.Path.{_≡_, refl, sym, ap, _∙_, subst}
 use mathlib.Core.Bool.{Bool, true, false, cond, not}
@@ -7,7 +7,7 @@ use mathlib.Core.Logic.{inl, inr}
 use native.Mathlib.Omega.{arith}
 use lib.ListN.{length, length-append, length-map}
 use lib.Dec.{T, eqb, leb, ltb, leb→le, le→leb, ltb→lt, lt→ltb, eqb→eq, eqb-refl, not-T}
-use borrow.Author.Tests.{eq-eqb, ne-eqb, not-true}
+use borrow.Author.Tests.{ltb-true, ltb-false, eq-eqb, ne-eqb, not-true}
 use Rattle.word.specs.declared.codec.Word.{Word}
 use Rattle.word.specs.declared.codec.Word.the-variants.{Expiration}
 use Rattle.rule.specs.Lists.{every, some, only, Rising}
@@ -20,7 +20,7 @@ use Rattle.book.proofs.Lists.{every-imply, every-only, ordered, rises-o
 use Rattle.book.proofs.Forms.{areSeries}
 use Rattle.book.proofs.Layouts.{seriesWords-append}
 use Rattle.book.proofs.SeriesLaws.{Precedes, to-precedes, months-rise, isWith, series-order, markedAt}
-use Rattle.book.proofs.Parts.{only-absent, every-kept, some-only, some-both, some-after, map-same, every-append, ordered-imply, inserted-between, isUnder, isEqual, isOver, not-under, three-parts, distinct-parts, Single, single}
+use Rattle.book.proofs.Parts.{only-absent, every-kept, only-others, some-only, some-all, some-both, some-after, map-same, every-append, ordered-imply, inserted-between, isUnder, isEqual, isOver, not-under, three-parts, distinct-parts, Single, single}
 
 abbrev pub monthOf : Series → ℕ
 monthOf s = s .month
@@ -164,32 +164,50 @@ module _ (ss : List Series) (m h : ℕ) where
   abbrev has : Bool
   has = some (isEqual monthOf m) ss
 
-  -- the words before those at m and h, and the words after them, before `rest`
-  abbrev pub wordsBefore : List Word
-  wordsBefore = seriesWords 0 early [] ++ expirationUnless (not has) m (map strikeWord low)
+  -- whether it has others than those at m and h
+  abbrev pub others : Bool
+  others = some (isEqual monthOf m) (low ++ high)
+
+  -- the words before those at m and h, with its expiration's word or without, and the words after them, before `rest`
+  abbrev pub wordsBefore : Bool → List Word
+  wordsBefore stands = seriesWords 0 early [] ++ expirationUnless (not stands) m (map strikeWord low)
 
   abbrev pub wordsAfter : List Word → List Word
   wordsAfter rest = map strikeWord high ++ seriesWords 0 late rest
 
-  pub length-before : length wordsBefore ≡ length (seriesWords 0 early []) + cond {A = ℕ} has 1 0 + length low
-  length-before = go has
-    where
-      go :
-          (b : Bool)
-          → length (seriesWords 0 early [] ++ expirationUnless (not b) m (map strikeWord low))
-          ≡ length (seriesWords 0 early []) + cond {A = ℕ} b 1 0 + length low
-      go true = simp (length-append, length-map) (omega arith)
-      go false = simp (length-append, length-map) (omega arith)
+  pub length-before :
+      (stands : Bool) → length (wordsBefore stands) ≡ length (seriesWords 0 early []) + cond {A = ℕ} stands 1 0 + length low
+  length-before true = simp (length-append, length-map) (omega arith)
+  length-before false = simp (length-append, length-map) (omega arith)
 
-  -- the words with the series y at m and h; its expiration's word is new where the month has no series
+  in-month : (p : Series → Bool) → T (every (isEqual monthOf m) (only p (inMonth m ss)))
+  in-month p =
+      every-only (isEqual monthOf m) (isEqual monthOf m) p (λ s k t. t) (inMonth m ss) (every-kept (isEqual monthOf m) ss)
+
+  -- the words with the series of x at m and h
+  words-around :
+      (x : List Series) (rest : List Word) → T (every (isEqual monthOf m) x)
+      → seriesWords 0 (around x) rest
+      ≡ seriesWords 0 early []
+      ++ expirationUnless (not (some (isEqual monthOf m) (low ++ (x ++ high)))) m
+      (map strikeWord (low ++ (x ++ high)) ++ seriesWords 0 late rest)
+  words-around x rest t =
+      ap (λ (l : List Series). seriesWords 0 l rest) regrouped
+      ∙ month-words m early (low ++ (x ++ high)) late rest (every-kept (isUnder monthOf m) ss)
+      (every-append (isEqual monthOf m) low (x ++ high) (in-month (isUnder strikeOf h))
+      (every-append (isEqual monthOf m) x high t (in-month (isOver strikeOf h))))
+      (every-kept (isOver monthOf m) ss)
+    where
+      regrouped : around x ≡ early ++ ((low ++ (x ++ high)) ++ late)
+      regrouped = simp append-assoc
+
+  -- .. with the series y; its expiration's word is new where the month has no series
   pub around-words :
       (y : Series) (rest : List Word) → y .month ≡ m
       → seriesWords 0 (around (y ∷ [])) rest
-      ≡ wordsBefore ++ (expirationUnless has m (strikeWord y ∷ []) ++ wordsAfter rest)
+      ≡ wordsBefore has ++ (expirationUnless has m (strikeWord y ∷ []) ++ wordsAfter rest)
   around-words y rest e =
-      ap (λ (l : List Series). seriesWords 0 l rest) regrouped
-      ∙ month-words m early (low ++ (y ∷ high)) late rest (every-kept (isUnder monthOf m) ss) in-month
-      (every-kept (isOver monthOf m) ss)
+      words-around (y ∷ []) rest (and-intro (isEqual monthOf m y) true there tt)
       ∙ ap
       (λ (b : Bool).
       seriesWords 0 early []
@@ -197,30 +215,52 @@ module _ (ss : List Series) (m h : ℕ) where
       (T-true (some (isEqual monthOf m) (low ++ (y ∷ high))) (some-after (isEqual monthOf m) low y high there))
       ∙ go has refl
     where
-      regrouped : around (y ∷ []) ≡ early ++ ((low ++ (y ∷ high)) ++ late)
-      regrouped = simp append-assoc
-
       there : T (isEqual monthOf m y)
       there = rw e (eqb-refl m)
-
-      kept : (p : Series → Bool) → T (every (isEqual monthOf m) (only p (inMonth m ss)))
-      kept p =
-          every-only (isEqual monthOf m) (isEqual monthOf m) p (λ s k t. t) (inMonth m ss) (every-kept (isEqual monthOf m) ss)
-
-      in-month : T (every (isEqual monthOf m) (low ++ (y ∷ high)))
-      in-month =
-          every-append (isEqual monthOf m) low (y ∷ high) (kept (isUnder strikeOf h))
-          (and-intro (isEqual monthOf m y) (every (isEqual monthOf m) high) there (kept (isOver strikeOf h)))
 
       go :
           (b : Bool) → has ≡ b
           → seriesWords 0 early [] ++ (Expiration m ∷ (map strikeWord (low ++ (y ∷ high)) ++ seriesWords 0 late rest))
-          ≡ (seriesWords 0 early [] ++ expirationUnless (not b) m (map strikeWord low))
-          ++ (expirationUnless b m (strikeWord y ∷ []) ++ wordsAfter rest)
+          ≡ wordsBefore b ++ (expirationUnless b m (strikeWord y ∷ []) ++ wordsAfter rest)
       go true q = simp (map-append, append-assoc)
       go false q =
           let none : low ≡ [] = ap (only (isUnder strikeOf h)) (only-absent (isEqual monthOf m) ss (rw q tt)) in
           simp (append-assoc, none)
+
+  -- .. with none
+  pub left-words : (rest : List Word) → seriesWords 0 (around []) rest ≡ wordsBefore others ++ wordsAfter rest
+  left-words rest = words-around [] rest tt ∙ go others
+    where
+      go :
+          (b : Bool)
+          → seriesWords 0 early [] ++ expirationUnless (not b) m (map strikeWord (low ++ high) ++ seriesWords 0 late rest)
+          ≡ wordsBefore b ++ wordsAfter rest
+      go true = simp (map-append, append-assoc)
+      go false = simp (map-append, append-assoc)
+
+  -- the expiration's word goes with that of y where the month has no others
+  pub alone-words :
+      (y : Series) (rest : List Word)
+      → wordsBefore true ++ (strikeWord y ∷ wordsAfter rest)
+      ≡ wordsBefore others ++ (expirationUnless others m (strikeWord y ∷ []) ++ wordsAfter rest)
+  alone-words y rest = go low (in-month (isUnder strikeOf h))
+    where
+      go :
+          (l : List Series) → T (every (isEqual monthOf m) l)
+          → (seriesWords 0 early [] ++ (Expiration m ∷ map strikeWord l)) ++ (strikeWord y ∷ wordsAfter rest)
+          ≡ (seriesWords 0 early []
+          ++ expirationUnless (not (some (isEqual monthOf m) (l ++ high))) m (map strikeWord l))
+          ++ (expirationUnless (some (isEqual monthOf m) (l ++ high)) m (strikeWord y ∷ []) ++ wordsAfter rest)
+      go [] t = first (some (isEqual monthOf m) high)
+        where
+          first :
+              (b : Bool)
+              → (seriesWords 0 early [] ++ (Expiration m ∷ [])) ++ (strikeWord y ∷ wordsAfter rest)
+              ≡ (seriesWords 0 early [] ++ expirationUnless (not b) m [])
+              ++ (expirationUnless b m (strikeWord y ∷ []) ++ wordsAfter rest)
+          first true = refl
+          first false = simp append-assoc
+      go (s ∷ l) t = rw (T-true (isEqual monthOf m s) (search ands))
 
   module _ (now : ℕ) (t : T (areSeries now ss)) where
     strikes-in-order : T (ordered (λ s u. ltb (s .strike) (u .strike)) (inMonth m ss))
@@ -276,7 +316,7 @@ module _ (ss : List Series) (m h : ℕ) where
     around-placed : ss ≡ around placed
     around-placed = month-parts now m ss t ∙ ap (λ (l : List Series). early ++ (l ++ late)) strike-parts ∙ simp append-assoc
 
-    pub placed-words : (rest : List Word) → seriesWords 0 ss rest ≡ wordsBefore ++ (map strikeWord placed ++ wordsAfter rest)
+    pub placed-words : (rest : List Word) → seriesWords 0 ss rest ≡ wordsBefore has ++ (map strikeWord placed ++ wordsAfter rest)
     placed-words rest =
         series-words now m ss t rest
         ∙ ap
@@ -289,8 +329,7 @@ module _ (ss : List Series) (m h : ℕ) where
             (b : Bool)
             → seriesWords 0 early []
             ++ expirationUnless (not b) m (map strikeWord (low ++ (placed ++ high)) ++ seriesWords 0 late rest)
-            ≡ (seriesWords 0 early [] ++ expirationUnless (not b) m (map strikeWord low))
-            ++ (map strikeWord placed ++ wordsAfter rest)
+            ≡ wordsBefore b ++ (map strikeWord placed ++ wordsAfter rest)
         go true = simp (map-append, append-assoc)
         go false = simp (map-append, append-assoc)
 
@@ -316,6 +355,45 @@ module _ (ss : List Series) (m h : ℕ) where
         lower u q l (inl a) = omega arith
         lower u q l (inr b) = omega arith
 
+    apart : (u : Series) → (u .month ≡ m → u .strike ≡ h → ⊥) → T (not (isAt m h u))
+    apart u f = not-T (isAt m h u) (λ p. f (eqb→eq (u .month) m (search ands)) (eqb→eq (u .strike) h (search ands)))
+
+    elsewhere-before : T (every (λ u. not (isAt m h u)) (early ++ low))
+    elsewhere-before =
+        every-before (λ u. not (isAt m h u)) (λ u l. apart u (λ q q′. omega arith)) (λ u r l. apart u (λ q q′. omega arith))
+
+    elsewhere-after : T (every (λ u. not (isAt m h u)) (high ++ late))
+    elsewhere-after =
+        every-after (λ u. not (isAt m h u)) (λ u l. apart u (λ q q′. omega arith)) (λ u r l. apart u (λ q q′. omega arith))
+
+    pub removed-around :
+        (s : Series) → s .month ≡ m → s .strike ≡ h → placed ≡ s ∷ [] → only (λ u. not (isAt m h u)) ss ≡ around []
+    removed-around s e e′ one =
+        ap (only (λ u. not (isAt m h u))) (around-placed ∙ ap around one)
+        ∙ only-others (λ u. not (isAt m h u)) (early ++ low) s (high ++ late) elsewhere-before
+        (rw (eq-eqb (s .month) m e, eq-eqb (s .strike) h e′)) elsewhere-after
+
+    -- the one at m and h is alone in its month where this has no others
+    pub alone-says :
+        (k : ℕ) (s : Series) → placed ≡ s ∷ [] → eqb (k + length (inMonth m ss)) (k + 1) ≡ not others
+    alone-says k s one =
+        let count : others ≡ ltb 0 (length (low ++ high)) =
+        some-all (isEqual monthOf m) (low ++ high)
+        (every-append (isEqual monthOf m) low high (in-month (isUnder strikeOf h)) (in-month (isOver strikeOf h))) in
+        let all : length (inMonth m ss) ≡ length low + suc (length high) =
+        ap length (strike-parts ∙ ap (λ (l : List Series). low ++ (l ++ high)) one) ∙ length-append low (s ∷ high) in
+        go (ltb 0 (length (low ++ high))) refl all ∙ ap not (sym count)
+      where
+        go :
+            (b : Bool) → ltb 0 (length (low ++ high)) ≡ b → length (inMonth m ss) ≡ length low + suc (length high)
+            → eqb (k + length (inMonth m ss)) (k + 1) ≡ not b
+        go true e all =
+            ne-eqb (k + length (inMonth m ss)) (k + 1)
+            (λ q. omega (arith, ltb-true 0 (length (low ++ high)) e, length-append low high))
+        go false e all =
+            eq-eqb (k + length (inMonth m ss)) (k + 1)
+            (omega (arith, ltb-false 0 (length (low ++ high)) e, length-append low high))
+
     pub marked-around :
         (s : Series) (a b : ℕ) → s .month ≡ m → s .strike ≡ h → placed ≡ s ∷ []
         → map (markedAt m h a b) ss ≡ around (withMarks a b s ∷ [])
@@ -329,18 +407,11 @@ module _ (ss : List Series) (m h : ℕ) where
             map-same (λ u. not (isAt m h u)) (markedAt m h a b)
             (λ u k. rw (not-true (isAt m h u) (T-true (not (isAt m h u)) k))) us n
 
-        apart : (u : Series) → (u .month ≡ m → u .strike ≡ h → ⊥) → T (not (isAt m h u))
-        apart u f = not-T (isAt m h u) (λ p. f (eqb→eq (u .month) m (search ands)) (eqb→eq (u .strike) h (search ands)))
-
         before : map (markedAt m h a b) (early ++ low) ≡ early ++ low
-        before =
-            unmarked (early ++ low)
-            (every-before (λ u. not (isAt m h u)) (λ u l. apart u (λ q q′. omega arith)) (λ u r l. apart u (λ q q′. omega arith)))
+        before = unmarked (early ++ low) elsewhere-before
 
         after : map (markedAt m h a b) (high ++ late) ≡ high ++ late
-        after =
-            unmarked (high ++ late)
-            (every-after (λ u. not (isAt m h u)) (λ u l. apart u (λ q q′. omega arith)) (λ u r l. apart u (λ q q′. omega arith)))
+        after = unmarked (high ++ late) elsewhere-after
 
         here : markedAt m h a b s ≡ withMarks a b s
         here = rw (eq-eqb (s .month) m e, eq-eqb (s .strike) h e′)

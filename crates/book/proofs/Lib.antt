@@ -22,4 +22,5 @@ pub mod Splits
 pub mod ClassWords
 pub mod Splices
 pub mod Runs
+pub mod SplicedRuns
 pub mod Followed

@@ -1,10 +1,11 @@
 -- A list that rises by a number of its elements is what stands below a number, at it and above it, and an edit at that number leaves what stands beside it: by induction on the list. Assumes nothing.
-use Prim.Native.Nat.{ℕ, _≤_, _<_}
+use Prim.Native.Nat.{ℕ, suc, _≤_, _<_}
 use mathlib.Core.Path.{_≡_, refl, sym, ap, _∙_, subst}
 use mathlib.Core.Bool.{Bool, true, false, cond, not, _&&_, _||_, and-comm}
 use mathlib.Core.List.{List, [], _∷_, _++_, map}
 use mathlib.Core.Logic.{_⊎_, inl, inr}
 use native.Mathlib.Omega.{arith}
+use lib.ListN.{length}
 use lib.Dec.{T, eqb, leb, ltb, leb→le, le→leb, ltb→lt, eqb→eq}
 use borrow.Author.Tests.{eqb-true, lt-ltb, le-ltb, eq-eqb, ne-eqb, not-true}
 use Rattle.rule.specs.Lists.{every, some, only}
@@ -33,6 +34,18 @@ module _ {A : Type 0} where
       go true e t = let a : T (p x) = rw e tt in search and-intro
       go false e t = t
 
+  -- all but one, which does not pass
+  pub only-others :
+      (p : A → Bool) (xs : List A) (y : A) (zs : List A) → T (every p xs) → p y ≡ false → T (every p zs)
+      → only p (xs ++ (y ∷ zs)) ≡ xs ++ zs
+  only-others p [] y zs t e u = rw e (all zs u)
+    where
+      all : (ys : List A) → T (every p ys) → only p ys ≡ ys
+      all [] a = refl
+      all (x ∷ ys) a = rw (T-true (p x) (search ands)) (ap (λ (l : List A). x ∷ l) (all ys (search ands)))
+  only-others p (x ∷ xs) y zs t e u =
+      rw (T-true (p x) (search ands)) (ap (λ (l : List A). x ∷ l) (only-others p xs y zs (search ands) e u))
+
   pub some-only : (p : A → Bool) (xs : List A) → some p (only p xs) ≡ some p xs
   some-only p [] = refl
   some-only p (x ∷ xs) = go (p x) refl (some-only p xs)
@@ -42,6 +55,11 @@ module _ {A : Type 0} where
           → some p (cond b (x ∷ only p xs) (only p xs)) ≡ (b || some p xs)
       go true e r = rw e
       go false e r = r
+
+  -- where all pass
+  pub some-all : (p : A → Bool) (xs : List A) → T (every p xs) → some p xs ≡ ltb 0 (length xs)
+  some-all p [] t = refl
+  some-all p (x ∷ xs) t = rw (T-true (p x) (search ands)) (sym (lt-ltb 0 (suc (length xs)) (omega arith)))
 
   pub only-both : (p q : A → Bool) (xs : List A) → only q (only p xs) ≡ only (λ x. p x && q x) xs
   only-both p q [] = refl

@@ -12,11 +12,11 @@ use Rattle.word.specs.Answers.{answerNumber, refusalNumber}
 use Rattle.word.specs.declared.answer.Refusal.the-variants.{OffGrid, OutOfRange, TooClose}
 use Rattle.rule.specs.Lists.{some, only, upFrom}
 use Rattle.rule.specs.Terms.{isOutside}
-use Rattle.rule.specs.Ends.{highestPermitted}
+use Rattle.rule.specs.Ends.{highEnd}
 use Rattle.rule.specs.Spacing.{Standing}
 use Rattle.rule.specs.Judgement.{passesGrid, passesRange, passes, refusalOf, groundFrom, decided, judgement, isPermittedBeside, permitted}
 use Rattle.rule.proofs.Tests.{and-left}
-use Rattle.rule.proofs.Bound.{refused-above, only-short}
+use Rattle.rule.proofs.Most.{refused-above, only-short}
 use Rattle.book.specs.Facts.{Facts, inMonth}
 use Rattle.book.specs.Calls.{class, setting, standingIn, rows, isNotOpen, isStanding, hasNoClose, Condition, draws, first, judging, permittedIn}
 use Rattle.book.proofs.Lists.{some-map}
@@ -83,8 +83,8 @@ module _ (c m : ℕ) (f : Facts) where
       (λ (k : ℕ). cond (isNotOpen f c) 4 (cond (isOutside (setting f c m)) 5 (cond (isStanding f c m h) 6 (cond (hasNoClose f c) 8 k))))
       (ruled-number (rows f c m h))
 
-  beyond : (h : ℕ) → highestPermitted (class f c .figures .close) < h → eqb (first (judging c m h f)) 0 ≡ false
-  beyond h l =
+  beyond : (h : ℕ) → highEnd (setting f c m) < h → h ≤ 19999 → eqb (first (judging c m h f)) 0 ≡ false
+  beyond h l most =
       ap (λ (k : ℕ). eqb k 0) (judging-number h)
       ∙ go (isNotOpen f c) (isOutside (setting f c m)) (isStanding f c m h) (hasNoClose f c)
     where
@@ -94,17 +94,17 @@ module _ (c m : ℕ) (f : Facts) where
       go false true d e = refl
       go false false true e = refl
       go false false false true = refl
-      go false false false false = refused-above (setting f c m) (standingIn f c m) h l
+      go false false false false = refused-above (setting f c m) (standingIn f c m) h l most
 
   -- the permitted strikes are found among those up to the bound of the rules
   pub permitted-short :
-      (b : ℕ) → highestPermitted (class f c .figures .close) ≤ b → b ≤ 19999
+      (b : ℕ) → highEnd (setting f c m) ≤ b → b ≤ 19999
       → permittedIn c m f ≡ only (λ h. eqb (first (judging c m h f)) 0) (upFrom b 1)
   unfolding permittedIn
   permitted-short b l k =
       let test : ℕ → Bool = λ h. eqb (first (judging c m h f)) 0 in
       let e : 19999 ≡ b + (19999 - b) = omega arith in
-      ap (λ (n : ℕ). only test (upFrom n 1)) e ∙ only-short test b (19999 - b) 1 (λ x j. beyond x (omega arith))
+      ap (λ (n : ℕ). only test (upFrom n 1)) e ∙ only-short test b (19999 - b) 1 (λ x j i. beyond x (omega arith) (omega arith))
 
   standing-is : (h : ℕ) → isStanding f c m h ≡ some (λ t. eqb (t .strike) h) (standingIn f c m)
   standing-is h =

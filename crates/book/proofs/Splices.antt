@@ -1,11 +1,11 @@
 -- What each edit of facts makes of their words: new ones in place of old ones, between words that stay; and how many words they then take. By the classes and the series on either side. Assumes nothing.
-use Prim.Native.Nat.{ℕ, suc, _+_, _≤_}
+use Prim.Native.Nat.{ℕ, suc, _+_, _-_, _≤_}
 use mathlib.Core.Path.{_≡_, refl, sym, ap, _∙_, subst}
 use mathlib.Core.Bool.{Bool, true, false, cond, not}
 use mathlib.Core.List.{List, [], _∷_, _++_, map, append-assoc}
 use native.Mathlib.Omega.{arith}
 use lib.ListN.{length, length-append}
-use lib.Dec.{T, ltb, ltb→lt, eqb-refl, not-T}
+use lib.Dec.{T, eqb, ltb, ltb→lt, eqb-refl, not-T}
 use Rattle.word.specs.declared.class.ClassRecord.{ClassRecord}
 use Rattle.word.specs.Class.{opened}
 use Rattle.word.specs.declared.codec.Word.{Word}
@@ -13,8 +13,8 @@ use Rattle.rule.specs.Lists.{some, only}
 use Rattle.book.specs.Facts.{Series, OpenClass, Facts, number, newClass, isOpen, insertClass, withFigures, withSeries, isBelow, isAt, withMarks, insertSeries, wordsOf, wordsTaken}
 use Rattle.book.specs.Layout.{strikeWord, expirationUnless, seriesWords, figuresWords, classesWords, used}
 use Rattle.book.specs.Books.{isSeries, isWellFormed}
-use Rattle.book.specs.Calls.{callO, callI, class, isStanding, update, changed}
-use Rattle.book.specs.Places.{classPlace, hasExpiration, strikePlace}
+use Rattle.book.specs.Calls.{callO, callX, callI, class, isStanding, update, changed}
+use Rattle.book.specs.Places.{classPlace, hasExpiration, expirationPlace, strikesPlace, strikesEnd, strikePlace}
 use Rattle.book.proofs.Tests.{T-true}
 use Rattle.book.proofs.Lists.{every-imply, sum-inserted}
 use Rattle.book.proofs.Forms.{areSeries}
@@ -22,7 +22,7 @@ use Rattle.book.proofs.Layouts.{seriesWords-append, used-taken}
 use Rattle.book.proofs.SeriesLaws.{markedAt}
 use Rattle.book.proofs.ClassLaws.{number-of}
 use Rattle.book.proofs.Parts.{only-absent, every-kept, some-only, only-both, some-after, inserted-between, isUnder, isEqual, isOver, distinct-parts}
-use Rattle.book.proofs.Expirations.{monthOf, strikeOf, low, placed, high, around, wordsBefore, wordsAfter, length-before, around-words, strike-parts, Stander, stander, placed-words, inserted-around, marked-around}
+use Rattle.book.proofs.Expirations.{monthOf, strikeOf, low, placed, high, around, others, wordsBefore, wordsAfter, length-before, around-words, left-words, alone-words, strike-parts, Stander, stander, placed-words, inserted-around, removed-around, alone-says, marked-around}
 use Rattle.book.proofs.ClassWords.{classes-apart, numbers-rise, series-good, class-parts, class-put}
 
 -- the words of g are those of f, with `new` in place of `old` from the index `at` of the run on
@@ -132,7 +132,7 @@ module _ (n : ℕ) (f : Facts) (c : ℕ) (w : T (isWellFormed n f)) where
             ∙ classes-apart below (newClass c ∷ above) [];
       }
 
--- ---- a strike listed, and a strike marked
+-- ---- a strike listed, a strike marked, and a strike delisted
 
 module _ (n : ℕ) (f : Facts) (c : ℕ) (w : T (isWellFormed n f)) (o : T (isOpen c (f .classes))) where
   abbrev series-limits : T (areSeries (f .now) (class f c .series))
@@ -150,11 +150,11 @@ module _ (n : ℕ) (f : Facts) (c : ℕ) (w : T (isWellFormed n f)) (o : T (isOp
         let rest = classesWords (above n f c w) [] in
         let r = class f c .figures in
         let new = expirationUnless (hasExpiration c m f) m (strikeWord y ∷ []) in
-        class-spliced n f c w o (withSeries series (class f c)) (figuresWords r (wordsBefore ss m h)) (map strikeWord x) new
-        (wordsAfter ss m h rest) (strikePlace c m h f) (number-of c (f .classes)) (omega (arith, length-before ss m h))
+        class-spliced n f c w o (withSeries series (class f c)) (figuresWords r (wordsBefore ss m h (hasExpiration c m f))) (map strikeWord x) new
+        (wordsAfter ss m h rest) (strikePlace c m h f) (number-of c (f .classes)) (omega (arith, length-before ss m h (hasExpiration c m f)))
         (ap (figuresWords r)
         (placed-words ss m h (f .now) series-limits rest
-        ∙ ap (λ (l : List Series). wordsBefore ss m h ++ (map strikeWord l ++ wordsAfter ss m h rest)) e))
+        ∙ ap (λ (l : List Series). wordsBefore ss m h (hasExpiration c m f) ++ (map strikeWord l ++ wordsAfter ss m h rest)) e))
         (ap (figuresWords r)
         (ap (λ (l : List Series). seriesWords 0 l rest) is ∙ around-words ss m h y rest month))
 
@@ -171,6 +171,19 @@ module _ (n : ℕ) (f : Facts) (c : ℕ) (w : T (isWellFormed n f)) (o : T (isOp
       strike-spliced (s .month) (s .strike) [] s (insertSeries s ss) none refl
       (inserted-around ss (s .month) (s .strike) (f .now) series-limits s refl refl none)
 
+  module _ (m h : ℕ) (s : T (isStanding f c m h)) where
+    one : Stander (class f c .series) m h (f .now) series-limits
+    one = stander (class f c .series) m h (f .now) series-limits s
+
+    has : hasExpiration c m f ≡ true
+    has =
+        let ss = class f c .series in
+        sym (some-only (isEqual monthOf m) ss)
+        ∙ ap (some (isEqual monthOf m))
+        (strike-parts ss m h (f .now) series-limits ∙ ap (λ (l : List Series). low ss m h ++ (l ++ high ss m h)) (one .alone))
+        ∙ T-true (some (isEqual monthOf m) (low ss m h ++ (one .it ∷ high ss m h)))
+        (some-after (isEqual monthOf m) (low ss m h) (one .it) (high ss m h) (rw (one .month) (eqb-refl m)))
+
   -- the series that stands at m and h, and its word with new marks
   pub record Marking (m h : ℕ) : Type 0 where
     pub it : Series
@@ -182,32 +195,70 @@ module _ (n : ℕ) (f : Facts) (c : ℕ) (w : T (isWellFormed n f)) (o : T (isOp
   pub marking : (m h : ℕ) → T (isStanding f c m h) → Marking m h
   unfolding changed
   marking m h s =
+      let ss = class f c .series in
+      let x = one m h s in
       record {
-        it = one .it;
-        limits = one .limits;
+        it = x .it;
+        limits = x .limits;
         spliced = λ a b.
             subst
             (λ (b′ : Bool).
-            Spliced (strikePlace c m h f) (strikeWord (one .it) ∷ [])
-            (expirationUnless b′ m (strikeWord (withMarks a b (one .it)) ∷ [])) f (changed (callI c m h a b) f))
-            has
-            (strike-spliced m h (one .it ∷ []) (withMarks a b (one .it)) (map (markedAt m h a b) ss) (one .alone) (one .month)
-            (marked-around ss m h (f .now) series-limits (one .it) a b (one .month) (one .strike) (one .alone)));
+            Spliced (strikePlace c m h f) (strikeWord (x .it) ∷ [])
+            (expirationUnless b′ m (strikeWord (withMarks a b (x .it)) ∷ [])) f (changed (callI c m h a b) f))
+            (has m h s)
+            (strike-spliced m h (x .it ∷ []) (withMarks a b (x .it)) (map (markedAt m h a b) ss) (x .alone) (x .month)
+            (marked-around ss m h (f .now) series-limits (x .it) a b (x .month) (x .strike) (x .alone)));
+      }
+
+  -- .. and taken out; its expiration's word goes with it where it is alone behind that
+  pub record Delisting (m h : ℕ) (alone : Bool) : Type 0 where
+    pub it : Series
+    pub spliced :
+        Spliced (strikePlace c m h f - cond {A = ℕ} alone 1 0) (expirationUnless (not alone) m (strikeWord it ∷ [])) [] f
+        (changed (callX c m h) f)
+
+  pub delisting :
+      (m h : ℕ) (alone : Bool) → T (isStanding f c m h) → alone ≡ eqb (strikesEnd c m f) (strikesPlace c m f + 1)
+      → Delisting m h alone
+  unfolding changed
+  delisting m h alone s e =
+      let ss = class f c .series in
+      let x = one m h s in
+      let r = class f c .figures in
+      let rest = classesWords (above n f c w) [] in
+      let q : others ss m h ≡ not alone = go alone (others ss m h) (e ∙ alone-says ss m h (f .now) series-limits (strikesPlace c m f) (x .it) (x .alone)) in
+      record {
+        it = x .it;
+        spliced =
+            class-spliced n f c w o (withSeries (only (λ u. not (isAt m h u)) ss) (class f c))
+            (figuresWords r (wordsBefore ss m h (not alone))) (expirationUnless (not alone) m (strikeWord (x .it) ∷ [])) []
+            (wordsAfter ss m h rest) (strikePlace c m h f - cond {A = ℕ} alone 1 0) (number-of c (f .classes))
+            (place alone)
+            (ap (figuresWords r)
+            (placed-words ss m h (f .now) series-limits rest
+            ∙ (λ i. wordsBefore ss m h (has m h s i) ++ (map strikeWord (x .alone i) ++ wordsAfter ss m h rest))
+            ∙ alone-words ss m h (x .it) rest
+            ∙ (λ i. wordsBefore ss m h (q i) ++ (expirationUnless (q i) m (strikeWord (x .it) ∷ []) ++ wordsAfter ss m h rest))))
+            (ap (figuresWords r)
+            (ap (λ (l : List Series). seriesWords 0 l rest)
+            (removed-around ss m h (f .now) series-limits (x .it) (x .month) (x .strike) (x .alone))
+            ∙ left-words ss m h rest
+            ∙ (λ i. wordsBefore ss m h (q i) ++ wordsAfter ss m h rest)));
       }
     where
-      ss : List Series
-      ss = class f c .series
+      go : (a b : Bool) → a ≡ not b → b ≡ not a
+      go a true e = ap not (sym e)
+      go a false e = ap not (sym e)
 
-      one : Stander ss m h (f .now) series-limits
-      one = stander ss m h (f .now) series-limits s
+      at : strikePlace c m h f ≡ expirationPlace c m f + 1 + length (low (class f c .series) m h)
+      at = rw (has m h s)
 
-      has : hasExpiration c m f ≡ true
-      has =
-          sym (some-only (isEqual monthOf m) ss)
-          ∙ ap (some (isEqual monthOf m))
-          (strike-parts ss m h (f .now) series-limits ∙ ap (λ (l : List Series). low ss m h ++ (l ++ high ss m h)) (one .alone))
-          ∙ T-true (some (isEqual monthOf m) (low ss m h ++ (one .it ∷ high ss m h)))
-          (some-after (isEqual monthOf m) (low ss m h) (one .it) (high ss m h) (rw (one .month) (eqb-refl m)))
+      place :
+          (a : Bool)
+          → strikePlace c m h f - cond {A = ℕ} a 1 0
+          ≡ classPlace c f + length (figuresWords (class f c .figures) (wordsBefore (class f c .series) m h (not a)))
+      place true = omega (arith, at, length-before (class f c .series) m h false)
+      place false = omega (arith, at, length-before (class f c .series) m h true)
 
 -- ---- the words that they take
 

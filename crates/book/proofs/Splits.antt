@@ -1,7 +1,7 @@
 -- Tests over the parts of a list: over a list in two parts, over those that pass another test, and over the parts by a key. By induction on the list, and by cases on the parts. Assumes nothing.
 use Prim.Native.Nat.{ℕ, suc, _<_}
 use mathlib.Core.Path.{_≡_, refl, sym, _∙_}
-use mathlib.Core.Bool.{Bool, true, false, cond, _||_}
+use mathlib.Core.Bool.{Bool, false}
 use mathlib.Core.List.{List, [], _∷_, _++_}
 use native.Mathlib.Omega.{arith}
 use lib.ListN.{length}
@@ -9,7 +9,7 @@ use lib.Dec.{T, eqb, ltb, ltb→lt}
 use borrow.Author.Tests.{lt-ltb, ne-eqb}
 use Rattle.rule.specs.Lists.{every, some, only}
 use Rattle.book.proofs.Tests.{and-intro, ands, T-true}
-use Rattle.book.proofs.Parts.{every-kept, isEqual, isOver}
+use Rattle.book.proofs.Parts.{every-kept, some-only, some-all, isEqual, isOver}
 
 module _ {A : Type 0} where
   pub every-split : (p : A → Bool) (xs ys : List A) → T (every p (xs ++ ys)) → T (every p xs) × T (every p ys)
@@ -20,14 +20,7 @@ module _ {A : Type 0} where
       (and-intro (p x) (every p xs) a (r .0), r .1)
 
   pub some-length : (p : A → Bool) (xs : List A) → some p xs ≡ ltb 0 (length (only p xs))
-  some-length p [] = refl
-  some-length p (x ∷ xs) = go (p x) (some-length p xs)
-    where
-      go :
-          (b : Bool) → some p xs ≡ ltb 0 (length (only p xs))
-          → (b || some p xs) ≡ ltb 0 (length (cond b (x ∷ only p xs) (only p xs)))
-      go true e = sym (lt-ltb 0 (suc (length (only p xs))) (omega arith))
-      go false e = e
+  some-length p xs = sym (some-only p xs) ∙ some-all p (only p xs) (every-kept p xs)
 
 module _ {A : Type 0} (key : A → ℕ) (k : ℕ) where
   -- the first of them has the key k

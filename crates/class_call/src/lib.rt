@@ -15,7 +15,7 @@ use place::head::used;
 use place::lookup::Lookup;
 use place::lookup::look_up;
 use place::lookup::next_class;
-use removal::expire;
+use removal::expiry::expire;
 use removal::review;
 use word::answer::Answer;
 use word::answer::Refusal;

@@ -13,8 +13,7 @@ use Rattle.book.specs.Facts.{Facts}
 use Rattle.book.specs.Layout.{used, layout, factsOf}
 use Rattle.book.specs.Books.{isBook}
 use Rattle.book.proofs.Splices.{Spliced, used-spliced}
-use Rattle.book.proofs.Runs.{run-parts}
-use Rattle.place.proofs.Heads.{book-is}
+use Rattle.book.proofs.SplicedRuns.{front, back, zeros, place-is, run-was, run-is}
 use Rattle.edit.specs.Insertion.{insertWords}
 
 -- ---- words stored, and words put in
@@ -66,50 +65,27 @@ module _
   abbrev f : Facts
   f = factsOf ws
 
-  abbrev front : List ℕ
-  front = map packed (Head (f .now) (used f) ∷ s .front)
+  abbrev before : List ℕ
+  before = front ws t s
 
-  abbrev back : List ℕ
-  back = map packed (s .back)
+  abbrev after : List ℕ
+  after = back ws t s
 
-  abbrev zeros : List ℕ
-  zeros = replicate (length ws - used f) 0
-
-  at-is : at ≡ length front
-  at-is = s .place ∙ ap suc (sym (length-map (s .front) packed))
-
-  was : ws ≡ front ++ (map packed old ++ (back ++ zeros))
-  was =
-      sym (book-is ws t)
-      ∙ run-parts (length ws) f (Head (f .now) (used f) ∷ s .front) old (s .back)
-      (ap (λ (l : List Word). Head (f .now) (used f) ∷ l) (s .was))
-
-  -- the run after an edit that leaves `count` words used
-  is :
-      (count : ℕ) → used g ≡ count
-      → packed (Head (f .now) count)
-      ∷ (map packed (s .front) ++ (map packed new ++ (back ++ replicate (length ws - count) 0)))
-      ≡ layout (length ws) g
-  is count e =
-      sym
-      (run-parts (length ws) g (Head (g .now) (used g) ∷ s .front) new (s .back)
-      (ap (λ (l : List Word). Head (g .now) (used g) ∷ l) (s .is))
-      ∙ (λ i.
-      map packed (Head (s .month i) (e i) ∷ s .front)
-      ++ (map packed new ++ (back ++ replicate (length ws - e i) 0))))
+  abbrev past : List ℕ
+  past = zeros ws t s
 
   pub old-read : {w : Word} → old ≡ w ∷ [] → getD ws at 0 ≡ packed w
   old-read {w} e =
-      (λ i. getD (was i) (at-is i) 0)
-      ∙ ap (λ (l : List Word). getD (front ++ (map packed l ++ (back ++ zeros))) (length front) 0) e
-      ∙ getD-append-seam front (packed w) (back ++ zeros) 0
+      (λ i. getD (run-was ws t s i) (place-is ws t s i) 0)
+      ∙ ap (λ (l : List Word). getD (before ++ (map packed l ++ (after ++ past))) (length before) 0) e
+      ∙ getD-append-seam before (packed w) (after ++ past) 0
 
   pub stored : length old ≡ length new → sets ws at (map packed new) ≡ layout (length ws) g
   stored e =
-      (λ i. sets (was i) (at-is i) (map packed new))
-      ∙ sets-between front (map packed old) (map packed new) (back ++ zeros)
+      (λ i. sets (run-was ws t s i) (place-is ws t s i) (map packed new))
+      ∙ sets-between before (map packed old) (map packed new) (after ++ past)
       (length-map old packed ∙ e ∙ sym (length-map new packed))
-      ∙ is (used f) (omega (arith, used-spliced s))
+      ∙ run-is ws t s (used f) (omega (arith, used-spliced s))
 
   pub inserted : old ≡ [] → insertWords at (map packed new) ws ≡ layout (length ws) g
   unfolding insertWords
@@ -117,11 +93,11 @@ module _
       ap
       (λ (l : List ℕ).
       set (take at l ++ (map packed new ++ (take (used f - at) (drop at l) ++ drop (used f + k) l))) 0 head)
-      (was ∙ ap (λ (l : List Word). front ++ (map packed l ++ (back ++ zeros))) none)
-      ∙ ap (λ (l : List ℕ). set l 0 head) (put-between front (map packed new) back zeros at (used f) at-is all)
-      ∙ ap (λ (l : List ℕ). head ∷ (map packed (s .front) ++ (map packed new ++ (back ++ l))))
+      (run-was ws t s ∙ ap (λ (l : List Word). before ++ (map packed l ++ (after ++ past))) none)
+      ∙ ap (λ (l : List ℕ). set l 0 head) (put-between before (map packed new) after past at (used f) (place-is ws t s) all)
+      ∙ ap (λ (l : List ℕ). head ∷ (map packed (s .front) ++ (map packed new ++ (after ++ l))))
       (drop-zeros k (length ws - used f) ∙ ap (λ (j : ℕ). replicate j 0) fewer)
-      ∙ is (used f + k) (omega (arith, used-spliced s, ap length none, length-map new packed))
+      ∙ run-is ws t s (used f + k) (omega (arith, used-spliced s, ap length none, length-map new packed))
     where
       k : ℕ
       k = length (map packed new)
@@ -129,7 +105,7 @@ module _
       head : ℕ
       head = packed (Head (f .now) (used f + k))
 
-      all : used f ≡ length front + length back
+      all : used f ≡ length before + length after
       all =
           omega (
             arith,

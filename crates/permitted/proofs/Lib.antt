@@ -1,4 +1,5 @@
 pub mod Strikes
 pub mod Filling
 pub mod Trying
+pub mod Parts
 pub mod Filled

@@ -1,125 +1,153 @@
--- The strikes that are tried, one in every stride from the lowest to the highest: none that is left out can be permitted, so that what is written are the permitted ones. Assumes nothing.
+-- The multiples that are tried, one after another from the lowest to the highest: no strike between them is open, so that what is written are the permitted ones. Assumes nothing.
 use mathlib.Core.Path.{_≡_, refl, ap, _∙_}
-use mathlib.Core.Bool.{Bool, true, false, cond, and-false}
+use mathlib.Core.Bool.{Bool, true, false, cond}
 use mathlib.Core.List.{List, _∷_, map}
-use Prim.Native.Nat.{ℕ, suc, _+_, _-_, _%_, _≤_, _<_, min}
-use native.Mathlib.Nat.{add-mod-right}
+use Prim.Native.Nat.{ℕ, suc, _+_, _-_, _*_, _/_, _%_, _≤_, _<_, min, max}
+use native.Mathlib.Nat.{add-mod-right, mul-add-mod-self-left, mul-mod-left, div-add-mod, div-add-mod', mod-lt, mod-eq-of-lt}
 use native.Mathlib.Omega.{arith}
 use lib.Dec.{leb, ltb}
 use lib.ListN.{length, getD, set}
-use lib.Seq.{sets}
 use borrow.Author.Tests.{ltb-true, ltb-false, leb-false}
 use Rattle.rule.specs.declared.terms.Setting.{Setting}
-use Rattle.rule.specs.Terms.{price}
-use Rattle.rule.specs.Ends.{stride, lowestPermitted, highestPermitted}
+use Rattle.rule.specs.Ends.{reachOf, isOpen}
 use Rattle.rule.specs.Spacing.{standingIn}
-use Rattle.rule.specs.Judgement.{isPermittedBeside, permitted}
+use Rattle.rule.specs.Judgement.{isPermittedBeside}
 use Rattle.rule.proofs.Walks.{First}
-use Rattle.rule.proofs.Strides.{stride-bounds, between-multiples, lowest-first}
-use Rattle.rule.proofs.Bound.{Tried, refused-untried}
-use Rattle.permitted.specs.Listing.{strikeIn, strikeFrom, Listable, Triable}
+use Rattle.rule.proofs.Open.{permitted-open}
+use Rattle.permitted.specs.declared.Progress.{Progress}
+use Rattle.permitted.specs.Listing.{strikeIn, strikeFrom, permittedIn, Behind, Triable, Continuable, Continued}
 use Rattle.permitted.proofs.Strikes.{strike-found}
-use Rattle.permitted.proofs.Filling.{left, left-here, left-skip, Filling, filling-start, filling-as, filling-one, filling-done}
+use Rattle.permitted.proofs.Filling.{left, left-here, left-none, left-skip, Filling, filling-start, filling-as, filling-one, filling-done}
 
--- the strikes below h are done
-pub record Trying (s : Setting) (ws o : List ℕ) (high step : ℕ) (b : List ℕ) (from n h : ℕ) : Type 0 where
-  pub last : high ≡ min (highestPermitted (price s)) 19999
-  pub by : step ≡ stride (s .class)
-  pub steps : (1 ≤ step) × (step ≤ 10)
-  pub least : 1 ≤ h
-  pub fewer : n < h
+-- no multiple of k stands between two that follow each other
+between-multiples : (k h i : ℕ) → h % k ≡ 0 → i % k ≡ 0 → h < i → i < h + k → ⊥
+between-multiples k h i a b l m =
+    let e : i ≡ k * (h / k) + (i - h) = omega (arith, div-add-mod h k) in
+    let d : i % k ≡ i - h =
+    ap (λ (n : ℕ). n % k) e ∙ mul-add-mod-self-left k (h / k) (i - h) ∙ mod-eq-of-lt (omega arith) in
+    omega arith
+
+pub closed-refused : (s : Setting) (ws : List ℕ) (h : ℕ) → (isOpen s h ≡ true → ⊥) → isPermittedBeside s (map standingIn ws) h ≡ false
+closed-refused s ws h closed = go (isPermittedBeside s (map standingIn ws) h) refl
+  where
+    go : (t : Bool) → isPermittedBeside s (map standingIn ws) h ≡ t → t ≡ false
+    go true e = absurd (closed (permitted-open s h (map standingIn ws) e))
+    go false e = refl
+
+pub behind-more : {s : Setting} {ws : List ℕ} {from h h′ : ℕ} → h ≤ h′ → Behind s ws from h → Behind s ws from h′
+behind-more l t = record { within = t .within; below = λ i k. omega (arith, t .below i k) }
+
+-- the search leaves no strike behind that is within reach
+behind-found : {s : Setting} {ws : List ℕ} {from h : ℕ} → Behind s ws from h → (from′ reach : ℕ) → reach ≡ reachOf s → from′ ≡ strikeFrom ws from (h - reach) →
+    Behind s ws from′ h
+behind-found {s} {ws} {from} {h} t from′ reach r e =
+    record { within = omega (arith, t .within, found .most); below = λ i l. below i l (ltb i from) refl }
+  where
+    found : First (λ i. leb (h - reach) (strikeIn (getD ws i 0))) (length ws - from) from from′
+    found = rw e (strike-found ws from (h - reach))
+
+    below : (i : ℕ) → i < from′ → (u : Bool) → ltb i from ≡ u → strikeIn (getD ws i 0) + reachOf s < h
+    below i l true q = t .below i (ltb-true i from q)
+    below i l false q = omega (arith, leb-false (h - reach) (strikeIn (getD ws i 0)) (found .before i (ltb-false i from q) l))
+
+-- the strikes below h are done, where the list began at the place `at`
+pub record Trying (s : Setting) (ws o : List ℕ) (low high step at reach : ℕ) (b : List ℕ) (from n h : ℕ) : Type 0 where
+  pub reaches : reach ≡ reachOf s
+  pub least : low ≤ h
   pub multiple : h % step ≡ 0
-  pub within : from ≤ length ws
-  pub below : (i : ℕ) → i < from → strikeIn (getD ws i 0) + 2 < h
-  pub filling : Filling (permitted s (map standingIn ws)) o b n (left (isPermittedBeside s (map standingIn ws)) 20000 h)
+  pub behind : Behind s ws from (min h (max low (high + 1)))
+  pub fewer : n < min h (max low (high + 1))
+  pub filling : Filling (permittedIn s ws low high) o at b n (left (isPermittedBeside s (map standingIn ws)) (high + 1) h)
 
-module _ (s : Setting) (ws : List ℕ) where
+module _ {s : Setting} {ws : List ℕ} {all : Bool} {low high step : ℕ} {done : Progress} (p : Continuable s ws all low high step done) where
   abbrev test : ℕ → Bool
   test h = isPermittedBeside s (map standingIn ws) h
 
-  untried : (h : ℕ) → 1 ≤ h → (Tried (s .class) h → ⊥) → test h ≡ false
-  untried h l not-tried = rw (refused-untried s (map standingIn ws) h l not-tried, and-false)
+  untried : (h : ℕ) → low ≤ h → h < high + 1 → (h % step ≡ 0 → ⊥) → test h ≡ false
+  untried h l m other = closed-refused s ws h (λ e. other (p .multiples .among h l (omega arith) e))
 
-  all-left : permitted s (map standingIn ws) ≡ left test 20000 1
-  unfolding permitted
-  all-left = refl
-
-  pub trying-start : (o : List ℕ) (high step h : ℕ) → high ≡ min (highestPermitted (price s)) 19999 → step ≡ stride (s .class) →
-      h ≡ lowestPermitted (s .class) → Trying s ws o high step o 0 0 h
-  trying-start o high step h last by e =
-      let f = lowest-first (s .class) in
-      let k : 1 + (h - 1) ≡ h = omega arith in
-      let same : permitted s (map standingIn ws) ≡ left test 20000 h =
-      all-left ∙ left-skip test 20000 (h - 1) 1 (λ i l m. untried i l (λ t. omega (arith, t .0))) ∙ ap (left test 20000) k in
+  pub trying-start : (o : List ℕ) (reach h : ℕ) → reach ≡ reachOf s → h ≡ (low + (step - 1)) / step * step →
+      Trying s ws o low high step (done .count) reach o (done .from) (done .count) h
+  trying-start o reach h r e =
+      let parts = div-add-mod' (low + (step - 1)) step in
+      let rest = mod-lt (low + (step - 1)) {m = step} (omega (arith, p .steps)) in
+      let least : low ≤ h = omega (arith, p .steps) in
+      let next : h < low + step = omega (arith, p .steps) in
+      let multiple : h % step ≡ 0 = rw e (mul-mod-left ((low + (step - 1)) / step) step) in
+      let sum : low + (h - low) ≡ h = omega arith in
       record {
-        last = last;
-        by = by;
-        steps = rw by (stride-bounds (s .class));
-        least = omega arith;
-        fewer = omega arith;
-        multiple = rw (e, by) (f .1);
-        within = omega arith;
-        below = λ i l. absurd (omega arith);
-        filling = filling-start same;
+        reaches = r;
+        least = least;
+        multiple = multiple;
+        behind = behind-more (omega arith) (p .behind);
+        fewer = omega (arith, p .fewer);
+        filling =
+            filling-start
+            (left-skip test (high + 1) (h - low) low
+            (λ i l m k. untried i l k (λ q. between-multiples step i h q multiple (omega arith) (omega arith)))
+            ∙ ap (left test (high + 1)) sum);
       }
 
-  module _ {o b : List ℕ} {high step from n h : ℕ} (t : Trying s ws o high step b from n h) where
-    pub trying-here : Listable s ws → h ≤ high → Triable s ws from h
-    trying-here fits l =
+  module _ {o b : List ℕ} {at reach from n h : ℕ} (t : Trying s ws o low high step at reach b from n h) where
+    pub trying-reach : h ≤ high → reach ≤ h
+    trying-reach l = go (ltb h step) refl
+      where
+        go : (u : Bool) → ltb h step ≡ u → reach ≤ h
+        go true q =
+            let none : h % step ≡ h = mod-eq-of-lt (ltb-true h step q) in
+            absurd (omega (arith, p .lows, t .least, t .multiple))
+        go false q = omega (arith, t .reaches, ltb-false h step q, p .reach (omega (arith, t .least)))
+
+    pub trying-here : h ≤ high → (from′ : ℕ) → from′ ≡ strikeFrom ws from (h - reach) → Triable s ws from′ h
+    trying-here l from′ e =
         record {
-          judged = record { close = fits .close; current = fits .current; strike = omega (arith, t .last) };
-          rising = fits .rising;
-          within = t .within;
-          below = t .below;
+          judged = record { close = p .listable .close; current = p .listable .current; strike = omega (arith, p .last) };
+          rising = p .listable .rising;
+          behind = behind-found (behind-more (omega arith) (t .behind)) from′ reach (t .reaches) e;
         }
+
+    pub trying-open : h ≤ high → all ≡ true → isOpen s h ≡ true
+    trying-open l e = p .multiples .each e h (t .least) l (t .multiple)
 
     -- the strikes up to the next that is tried are none that is permitted
-    left-turn : h ≤ high → left test 20000 h ≡ cond (test h) (h ∷ left test 20000 (h + step)) (left test 20000 (h + step))
+    left-turn : h ≤ high → left test (high + 1) h ≡ cond (test h) (h ∷ left test (high + 1) (h + step)) (left test (high + 1) (h + step))
     left-turn l =
-        let e : suc h + (step - 1) ≡ h + step = omega (arith, t .steps) in
-        left-here test 20000 h (omega (arith, t .last))
-        ∙ ap (λ (r : List ℕ). cond (test h) (h ∷ r) r)
-        (left-skip test 20000 (step - 1) (suc h)
-        (λ i k m. untried i (omega arith) (λ q. between-multiples step h i (t .multiple) (rw (t .by) (q .1 .1)) (omega arith) (omega arith)))
-        ∙ ap (left test 20000) e)
+        let e : suc h + (step - 1) ≡ h + step = omega (arith, p .steps) in
+        left-here test (high + 1) h (omega arith)
+        ∙ ap (λ (rest : List ℕ). cond (test h) (h ∷ rest) rest)
+        (left-skip test (high + 1) (step - 1) (suc h)
+        (λ i k m u. untried i (omega (arith, t .least)) u (λ q. between-multiples step h i (t .multiple) q (omega arith) (omega arith)))
+        ∙ ap (left test (high + 1)) e)
 
-    trying-next : (from′ n′ : ℕ) (b′ : List ℕ) → from′ ≡ strikeFrom ws from (h + step - 2) → n′ ≤ n + 1 →
-        Filling (permitted s (map standingIn ws)) o b′ n′ (left test 20000 (h + step)) → Trying s ws o high step b′ from′ n′ (h + step)
-    trying-next from′ n′ b′ e k filling =
+    trying-next : h ≤ high → (from′ n′ : ℕ) (b′ : List ℕ) → from′ ≡ strikeFrom ws from (h - reach) → n′ ≤ n + 1 →
+        Filling (permittedIn s ws low high) o at b′ n′ (left test (high + 1) (h + step)) →
+        Trying s ws o low high step at reach b′ from′ n′ (h + step)
+    trying-next l from′ n′ b′ e k filling =
         record {
-          last = t .last;
-          by = t .by;
-          steps = t .steps;
+          reaches = t .reaches;
           least = omega (arith, t .least);
-          fewer = omega (arith, t .fewer, t .steps);
           multiple = add-mod-right h step ∙ t .multiple;
-          within = omega (arith, t .within, found .most);
-          below = λ i l. below i l (ltb i from) refl;
+          behind = behind-more (omega (arith, p .steps)) (trying-here l from′ e .behind);
+          fewer = omega (arith, t .fewer, p .steps);
           filling = filling;
         }
-      where
-        found : First (λ i. leb (h + step - 2) (strikeIn (getD ws i 0))) (length ws - from) from from′
-        found = rw e (strike-found ws from (h + step - 2))
 
-        below : (i : ℕ) → i < from′ → (u : Bool) → ltb i from ≡ u → strikeIn (getD ws i 0) + 2 < h + step
-        below i l true q = omega (arith, t .below i (ltb-true i from q))
-        below i l false q =
-            omega (arith, leb-false (h + step - 2) (strikeIn (getD ws i 0)) (found .before i (ltb-false i from q) l))
-
-    pub trying-taken : h ≤ high → test h ≡ true → (from′ : ℕ) → from′ ≡ strikeFrom ws from (h + step - 2) →
-        Trying s ws o high step (set b n h) from′ (n + 1) (h + step)
+    pub trying-taken : h ≤ high → test h ≡ true → (from′ : ℕ) → from′ ≡ strikeFrom ws from (h - reach) →
+        Trying s ws o low high step at reach (set b n h) from′ (n + 1) (h + step)
     trying-taken l e from′ q =
-        trying-next from′ (n + 1) (set b n h) q (omega arith) (filling-one (filling-as (left-turn l ∙ rw e) (t .filling)))
+        trying-next l from′ (n + 1) (set b n h) q (omega arith) (filling-one (filling-as (left-turn l ∙ rw e) (t .filling)))
 
-    pub trying-skipped : h ≤ high → test h ≡ false → (from′ : ℕ) → from′ ≡ strikeFrom ws from (h + step - 2) →
-        Trying s ws o high step b from′ n (h + step)
-    trying-skipped l e from′ q = trying-next from′ n b q (omega arith) (filling-as (left-turn l ∙ rw e) (t .filling))
+    pub trying-skipped : h ≤ high → test h ≡ false → (from′ : ℕ) → from′ ≡ strikeFrom ws from (h - reach) →
+        Trying s ws o low high step at reach b from′ n (h + step)
+    trying-skipped l e from′ q = trying-next l from′ n b q (omega arith) (filling-as (left-turn l ∙ rw e) (t .filling))
 
-    pub trying-done : high < h → (n ≡ length (permitted s (map standingIn ws))) × (b ≡ sets o 0 (permitted s (map standingIn ws)))
-    trying-done l =
-        let z : 20000 - (h + (20000 - h)) ≡ 0 = omega arith in
-        filling-done
-        (filling-as
-        (left-skip test 20000 (20000 - h) h (λ i k m. untried i (omega (arith, t .least)) (λ q. omega (arith, t .last, q .1 .0)))
-        ∙ rw z)
-        (t .filling))
+  pub trying-done : {o b : List ℕ} {reach from n h : ℕ} → Trying s ws o low high step (done .count) reach b from n h → high < h →
+      Continued s ws low high done o (record { from = from; count = n }) b
+  trying-done {h = h} t l =
+      let written = filling-done (filling-as (left-none test (high + 1) h (omega arith)) (t .filling)) in
+      record {
+        count = written .0;
+        written = written .1;
+        behind = behind-more (omega (arith, t .least)) (t .behind);
+        fewer = omega (arith, t .fewer, t .least);
+      }

@@ -1,24 +1,37 @@
-// The permitted strikes of an expiration, tried one after another beside the standing strikes near them.
+// The permitted strikes of an expiration: the multiples that the rules can accept, tried one after another beside the standing strikes near them.
 ghost use mathlib.Core.Path.{_≡_};
-ghost use mathlib.Core.Bool.{not};
+ghost use mathlib.Core.Bool.{not, true};
 ghost use mathlib.Core.List.{map};
 ghost use Prim.Native.Nat.{_≤_};
 ghost use lib.Dec.{eqb};
 ghost use lib.ListN.{length, set};
 ghost use lib.Seq.{sets};
 ghost use Rattle.rule.specs.Lists.{some};
+ghost use Rattle.rule.specs.Ends.{reachOf, isOpen};
 ghost use Rattle.rule.specs.Spacing.{standingIn};
 ghost use Rattle.rule.specs.Judgement.{isPermittedBeside, permitted};
-ghost use Rattle.permitted.specs.Listing.{Listable, Triable, strikeFrom, Filled};
-use rule::bounds::highest_permitted;
-use rule::bounds::lowest_permitted;
-use rule::bounds::stride;
+ghost use Rattle.permitted.specs.Listing.{Listable, Triable, Continuable, Continued, strikeFrom, Filled};
+use rule::bounds::fine_end;
+use rule::bounds::fine_step;
+use rule::bounds::half_end;
+use rule::bounds::high_end;
+use rule::bounds::higher_of;
+use rule::bounds::is_program_class;
+use rule::bounds::low_end;
+use rule::bounds::lower_of;
 use rule::judgement::is_accepted;
 use rule::terms::Setting;
+use rule::terms::is_long;
 use word::answer::Answer;
 use word::answer::Refusal;
 use word::field::field_of;
 use word::strike::Strike;
+
+// How far a list is: the standing strikes before `from` are far below the strikes to come, and `count` strikes are listed.
+struct Progress {
+    from: usize,
+    count: u32,
+}
 
 // The first index from `at` on whose strike is at least `low`, or the length.
 fn strike_from(standing: &[u32], at: usize, low: u32) -> usize
@@ -56,7 +69,25 @@ fn is_permitted_at(s: Setting, standing: &[u32], from: usize, h: u32) -> bool
 {
     let to = strike_from(standing, from, h + 3);
     let near = &standing[from..to];
-    is_absent(near, h) & is_accepted(s, Strike(h), near)
+    is_absent(near, h) && is_accepted(s, Strike(h), near)
+}
+
+// The same of a strike that the rules accept beside none, by the first standing strike within `reach`, where that decides.
+fn is_open_at(s: Setting, standing: &[u32], from: usize, h: u32, reach: u32) -> bool
+    requires { ⌜ Triable s (now standing) from h × ((reach ≡ reachOf s) × (isOpen s h ≡ true)) ⌝ }
+    ensures { λ r. ⌜ r ≡ isPermittedBeside s (map standingIn (now (standing .entry))) h ⌝ }
+{
+    if from == standing.len() {
+        return true;
+    }
+    let t = field_of(standing[from], 0, 15);
+    if h + reach < t {
+        return true;
+    }
+    if t == h {
+        return false;
+    }
+    is_permitted_at(s, standing, from, h)
 }
 
 // Writes a strike where the run has a place for it.
@@ -68,6 +99,40 @@ fn put(out: &mut [u32], at: usize, h: u32)
     }
 }
 
+// Goes on with the permitted strikes from `low` to `high`, which are multiples of `step`. `all` says that the rules accept each of those multiples where none stands.
+fn write_multiples(
+    s: Setting,
+    standing: &[u32],
+    all: bool,
+    low: u32,
+    high: u32,
+    step: u32,
+    done: Progress,
+    out: &mut [u32],
+) -> Progress
+    requires { ⌜ Continuable s (now standing) all low high step done ⌝ }
+    ensures { λ r. ⌜ Continued s (now (standing .entry)) low high done (now (out .entry)) r (now (out .exit)) ⌝ }
+{
+    let reach = if is_long(s) { 2 } else { 1 };
+    let mut from = done.from;
+    let mut count = done.count;
+    let mut h = (low + (step - 1)) / step * step;
+    while h <= high {
+        from = strike_from(standing, from, h - reach);
+        let permitted = if all {
+            is_open_at(s, standing, from, h, reach)
+        } else {
+            is_permitted_at(s, standing, from, h)
+        };
+        if permitted {
+            put(out, count as usize, h);
+            count += 1;
+        }
+        h += step;
+    }
+    Progress { from, count }
+}
+
 // Writes the permitted strikes, rising, as far as `out` has places, and answers how many there are.
 pub fn write_permitted(s: Setting, standing: &[u32], out: &mut [u32]) -> u32
     requires { ⌜ Listable s (now standing) ⌝ }
@@ -75,31 +140,48 @@ pub fn write_permitted(s: Setting, standing: &[u32], out: &mut [u32]) -> u32
     ensures { λ _. ⌜ now (out .exit) ≡ sets (now (out .entry)) 0 (permitted s (map standingIn (now (standing .entry)))) ⌝ }
 {
     let class = s.class;
-    let high = highest_permitted(class.close);
-    let step = stride(class);
-    let mut from: usize = 0;
-    let mut count: u32 = 0;
-    let mut h = lowest_permitted(class);
-    while h <= high {
-        if is_permitted_at(s, standing, from, h) {
-            put(out, count as usize, h);
-            count += 1;
-        }
-        h += step;
-        from = strike_from(standing, from, h - 2);
-    }
-    count
+    let half = half_end(s);
+    let low = higher_of(low_end(class.close), half + 1);
+    let high = high_end(s);
+    let end = fine_end(class);
+    let open = !(is_long(s) & is_program_class(class));
+    let none = Progress { from: 0, count: 0 };
+    let halves = write_multiples(s, standing, true, 1, half, 1, none, out);
+    let fine = write_multiples(
+        s,
+        standing,
+        open,
+        low,
+        lower_of(high, end),
+        fine_step(class),
+        halves,
+        out,
+    );
+    let fives = write_multiples(
+        s,
+        standing,
+        true,
+        higher_of(low, end + 1),
+        lower_of(high, 400),
+        10,
+        fine,
+        out,
+    );
+    let all = write_multiples(s, standing, true, higher_of(low, 401), high, 20, fives, out);
+    all.count
 }
 
-// Writes the permitted strikes to the second run where it has places for all of them, and nothing else: they are counted before.
+// Writes the permitted strikes to the second run where it has places for all of them, and nothing else: unless it has a place for each multiple, they are counted before.
 pub fn list_permitted(s: Setting, standing: &[u32], second: &mut [u32]) -> Answer
     requires { ⌜ Listable s (now standing) ⌝ }
     ensures { λ r. ⌜ Filled (permitted s (map standingIn (now (standing .entry)))) (now (second .entry)) r (now (second .exit)) ⌝ }
 {
-    let count = write_permitted(s, standing, &mut second[0..0]);
-    if second.len() < count as usize {
-        return Answer::Refused(Refusal::OutOfWords(count));
+    let most = half_end(s) + high_end(s) / fine_step(s.class);
+    if second.len() < most as usize {
+        let count = write_permitted(s, standing, &mut second[0..0]);
+        if second.len() < count as usize {
+            return Answer::Refused(Refusal::OutOfWords(count));
+        }
     }
-    write_permitted(s, standing, second);
-    Answer::Listed(count)
+    Answer::Listed(write_permitted(s, standing, second))
 }

@@ -4,12 +4,14 @@ use mathlib.Core.Path.{_≡_, refl, sym, ap, _∙_}
 use mathlib.Core.Bool.{Bool, true, false, cond, not}
 use mathlib.Core.List.{List}
 use native.Mathlib.Omega.{arith}
-use lib.ListN.{length, take, drop, length-drop}
+use lib.ListN.{length, take, drop, getD, length-drop}
 use lib.Seq.{take-all, length-take-le}
-use lib.Dec.{T, ltb}
-use borrow.Author.Tests.{not-true, not-false, ltb-true}
+use lib.Dec.{T, leb→le}
+use borrow.Author.Tests.{not-true, not-false, lt-ltb, le-ltb, eq-eqb, ne-eqb}
 use Rattle.word.specs.declared.class.ClassRecord.{ClassRecord}
-use Rattle.word.proofs.Tests.{and-both}
+use Rattle.word.specs.declared.codec.Word.the-variants.{Expiration as ExpirationWord}
+use Rattle.word.specs.Limits.{isMonth}
+use Rattle.word.specs.Codec.{packed}
 use Rattle.rule.specs.Lists.{every}
 use Rattle.book.specs.Facts.{Facts, isOpen}
 use Rattle.book.specs.Layout.{used, factsOf}
@@ -25,11 +27,10 @@ use Rattle.place.specs.declared.lookup.Part.{Part}
 use Rattle.place.specs.declared.lookup.StrikeSearch.{StrikeSearch}
 use Rattle.place.specs.declared.lookup.StrikeLookup.the-variants.{NotOpen as NoStrike, Open as OpenStrike}
 use Rattle.place.specs.declared.search.Found.{Found}
-use Rattle.place.specs.Search.{firstAt, isOfKind, isFrom, holdsAt, figuresAt, Finds, strikesAfter, strikesIn}
+use Rattle.place.specs.Search.{firstAt, isOfKind, isUpTo, figuresAt, Finds, standsAt, strikesAfter, strikesIn}
 use Rattle.place.specs.Lookups.{lookupOf, expirationOf, expirationLookupOf, strikeSearchOf, strikeLookupOf}
 use Rattle.place.proofs.Heads.{book-good, book-room}
-use Rattle.place.proofs.Words.{first-of-kind}
-use Rattle.place.proofs.Found.{class-sought, class-found, class-room, figures-found, class-ended, strikes-sought, strikes-kind, strike-sought, strike-found}
+use Rattle.place.proofs.Found.{class-sought, class-found, class-room, figures-found, strikes-sought, strikes-kind, strike-sought, strike-found}
 
 -- ---- what an answer says
 
@@ -130,31 +131,31 @@ module _
 
 -- ---- the strikes of a month in some words
 
-module _ (ws : List ℕ) (m : ℕ) (r : Found) (s : Finds 5 10 m ws r) where
-  strikes-are : strikesAfter (r .holds) (r .at) ws ≡ strikesIn m ws
-  strikes-are =
-      ap (λ (x : Bool). strikesAfter x (r .at) ws) (s .holds)
-      ∙ (λ j. strikesAfter (holdsAt 10 m ws (s .first j)) (s .first j) ws)
+module _
+    (ws : List ℕ) (m w at : ℕ) (word : w ≡ packed (ExpirationWord m)) (q : at ≡ firstAt (isUpTo w) ws) where
+  strikes-are : (b : Bool) → standsAt w ws at ≡ b → strikesAfter b at ws ≡ strikesIn m ws
+  strikes-are b e =
+      ap (λ (x : Bool). strikesAfter x at ws) (sym e)
+      ∙ (λ j. strikesAfter (standsAt w ws (q j)) (q j) ws)
+      ∙ ap (λ (v : ℕ). strikesAfter (standsAt v ws (firstAt (isUpTo v) ws)) (firstAt (isUpTo v) ws) ws) word
 
-  pub answer-no-strikes : not (r .holds) ≡ true → record { from = r .at; to = r .at } ≡ strikesIn m ws
-  answer-no-strikes n = ap (λ (x : Bool). strikesAfter x (r .at) ws) (sym (not-true (r .holds) n)) ∙ strikes-are
+  pub answer-no-word : at ≡ length ws → record { from = at; to = at } ≡ strikesIn m ws
+  answer-no-word l = strikes-are false (rw (le-ltb at (length ws) (omega arith)))
 
-  module _ (n : not (r .holds) ≡ false) where
-    pub answer-strikes-within : r .at + 1 ≤ length ws
-    answer-strikes-within =
-        let t = and-both (ltb (r .at) (length ws)) _ (sym (s .holds) ∙ not-false (r .holds) n) in
-        omega (arith, ltb-true (r .at) (length ws) (t .0))
+  module _ (l : at < length ws) where
+    pub answer-other-word : (getD ws at 0 ≡ w → ⊥) → record { from = at; to = at } ≡ strikesIn m ws
+    answer-other-word n = strikes-are false (rw (lt-ltb at (length ws) l, ne-eqb (getD ws at 0) w n))
 
     pub answer-strikes :
-        (k : ℕ) → k ≡ firstAt (isOfKind 5) (take (length ws - (r .at + 1)) (drop (r .at + 1) ws))
-        → record { from = r .at + 1; to = r .at + 1 + k } ≡ strikesIn m ws
-    answer-strikes k q =
-        let after = drop (r .at + 1) ws in
-        let whole : take (length ws - (r .at + 1)) after ≡ after =
-        take-all (length ws - (r .at + 1)) after (simp length-drop (omega arith)) in
-        (λ j. record { from = r .at + 1; to = r .at + 1 + (q ∙ ap (firstAt (isOfKind 5)) whole ∙ first-of-kind 5 10 after) j })
-        ∙ ap (λ (x : Bool). strikesAfter x (r .at) ws) (sym (not-false (r .holds) n))
-        ∙ strikes-are
+        getD ws at 0 ≡ w → (v k : ℕ) → v ≡ packed (ExpirationWord 0)
+        → k ≡ firstAt (isUpTo v) (take (length ws - (at + 1)) (drop (at + 1) ws))
+        → record { from = at + 1; to = at + 1 + k } ≡ strikesIn m ws
+    answer-strikes e v k x p =
+        let after = drop (at + 1) ws in
+        let whole : take (length ws - (at + 1)) after ≡ after = take-all (length ws - (at + 1)) after (simp length-drop (omega arith)) in
+        let to : k ≡ firstAt (isUpTo (packed (ExpirationWord 0))) after = p ∙ (λ j. firstAt (isUpTo (x j)) (whole j)) in
+        (λ j. record { from = at + 1; to = at + 1 + to j })
+        ∙ strikes-are true (rw (lt-ltb at (length ws) l, eq-eqb (getD ws at 0) w e))
 
 -- ---- the lookup of an expiration
 
@@ -172,15 +173,12 @@ module _
       omega (arith, class-room ws b c (x .0), x .1 .0)
 
   module _
-      (m end : ℕ) (p : Part)
-      (e : end ≡ at + 3 + firstAt (isFrom 2 14 0) (take (used (factsOf ws) - (at + 3)) (drop (at + 3) ws)))
+      (m end : ℕ) (p : Part) (month : T (isMonth m)) (e : end ≡ used (factsOf ws))
       (q : p ≡ strikesIn m (take (end - (at + 3)) (drop (at + 3) ws))) where
     places : (at + 3 + p .from ≡ strikesPlace c m (factsOf ws)) × (at + 3 + p .to ≡ strikesEnd c m (factsOf ws))
     places =
         let x = lookup-open c (factsOf ws) at r l in
-        let s =
-        strikes-sought ws b c (x .0) m (at + 3) end (omega (arith, x .1 .0))
-        (class-ended ws b c (x .0) (at + 3) end (omega (arith, x .1 .0)) e) in
+        let s = strikes-sought ws b c (x .0) m (at + 3) end (leb→le m 1023 month) (omega (arith, x .1 .0)) e in
         (ap (λ (k : Part). at + 3 + k .from) q ∙ s .0, ap (λ (k : Part). at + 3 + k .to) q ∙ s .1)
 
     pub places-within : (at + 3 + p .from ≤ length ws) × (at + 3 + p .to ≤ length ws)
@@ -190,12 +188,12 @@ module _
         (omega (arith, places .0, book-room ws b), omega (arith, places .1, book-room ws b))
 
     pub answer-expiration :
-        OpenExpiration (record { figures = r; from = at + 3 + p .from; to = at + 3 + p .to }) ≡ expirationLookupOf c m (factsOf ws)
+        OpenExpiration (record { class = at; from = at + 3 + p .from; to = at + 3 + p .to }) ≡ expirationLookupOf c m (factsOf ws)
     unfolding expirationLookupOf
     answer-expiration =
         let x = lookup-open c (factsOf ws) at r l in
         rw (T-true (isOpen c (factsOf ws .classes)) (x .0))
-        (λ j. OpenExpiration (record { figures = x .1 .1 j; from = places .0 j; to = places .1 j }))
+        (λ j. OpenExpiration (record { class = x .1 .0 j; from = places .0 j; to = places .1 j }))
 
 -- ---- the lookup of a strike
 
@@ -241,13 +239,13 @@ module _
         )
 
     pub answer-strike :
-        OpenStrike (record { figures = r .figures; from = r .from; to = r .to; at = r .from + k .at; standing = k .holds })
+        OpenStrike (record { class = r .class; from = r .from; to = r .to; at = r .from + k .at; standing = k .holds })
         ≡ strikeLookupOf c m h (factsOf ws)
     unfolding strikeLookupOf
     answer-strike =
         let s = strike-finds in
-        let figures = ap (λ (y : Expiration). y .figures) (expiration-open c (factsOf ws) m r l .1) in
+        let class-place = ap (λ (y : Expiration). y .class) (expiration-open c (factsOf ws) m r l .1) in
         let at = strike-sought ws b c opened m h (r .from) (r .to) from-place to-end (k .at) (s .first) in
         let standing = s .holds ∙ strike-found ws b c opened m h (r .from) (r .to) from-place to-end (k .at) (s .first) in
         rw (T-true (isOpen c (factsOf ws .classes)) opened)
-        (λ j. OpenStrike (record { figures = figures j; from = from-place j; to = to-end j; at = at j; standing = standing j }))
+        (λ j. OpenStrike (record { class = class-place j; from = from-place j; to = to-end j; at = at j; standing = standing j }))

@@ -1,6 +1,6 @@
 -- The first of a list that passes a test, found one by one or by blocks: by induction on the list, and by what is left of it. Assumes nothing.
 use Prim.Native.Nat.{ℕ, zero, suc, _+_, _-_, _≤_, _<_, zero-le}
-use mathlib.Core.Path.{_≡_, refl, sym, ap, _∙_}
+use mathlib.Core.Path.{_≡_, refl, sym, ap, _∙_, subst}
 use mathlib.Core.Bool.{Bool, true, false, cond}
 use mathlib.Core.List.{List, [], _∷_, _++_, map}
 use native.Mathlib.Omega.{arith}
@@ -13,6 +13,7 @@ use Rattle.word.specs.Digits.{binary, firstOne}
 use Rattle.word.proofs.Digits.{trailing-zeros, no-one, some-one}
 use Rattle.rule.specs.Lists.{every}
 use Rattle.book.proofs.Tests.{ands}
+use Rattle.book.proofs.Splits.{every-split}
 use Rattle.place.specs.Search.{firstAt}
 
 module _ {A : Type 0} (p : A → Bool) where
@@ -105,6 +106,12 @@ every-at p d (x ∷ xs) zero l t = search ands
 every-at p d (x ∷ xs) (suc i) l t = every-at p d xs i (omega arith) (search ands)
 
 -- ---- the words from i to e, as a part is lent
+
+pub every-part : {A : Type 0} (p : A → Bool) (xs : List A) (n i : ℕ) → T (every p xs) → T (every p (take n (drop i xs)))
+every-part {A = A} p xs n i t =
+    let left = every-split p (take i xs) (drop i xs) (subst (λ (l : List A). T (every p l)) (sym (take-append-drop i xs)) t) .1 in
+    every-split p (take n (drop i xs)) (drop n (drop i xs))
+    (subst (λ (l : List A). T (every p l)) (sym (take-append-drop n (drop i xs))) left) .0
 
 module _ {A : Type 0} (xs : List A) (i e : ℕ) (high : e ≤ length xs) where
   part-length : i ≤ e → length (take (e - i) (drop i xs)) ≡ e - i

@@ -1,4 +1,4 @@
--- What a search finds in the words of a list that rises by a key, of classes, of series and of strikes: it passes the words of the keys below, and stops at the first word after them. Assumes nothing.
+-- What a search finds in the words of a list that rises by a key, of classes and of strikes: it passes the words of the keys below, and stops at the first word after them. And tests that each word of series and of classes passes, by induction on these. Assumes nothing.
 use Prim.Native.Nat.{ℕ, suc, _<_}
 use mathlib.Core.Path.{_≡_, refl, sym, ap, _∙_}
 use mathlib.Core.Bool.{Bool, true, false, not, _&&_}
@@ -6,12 +6,12 @@ use mathlib.Core.List.{List, [], _∷_, _++_, map, map-append, append-nil}
 use native.Mathlib.Omega.{arith}
 use lib.ListN.{length, getD, length-append, length-map}
 use lib.Seq.{getD-at}
-use lib.Dec.{T, eqb, leb, ltb, eqb·zero-suc, leb·zero, ltb→lt}
+use lib.Dec.{T, eqb, leb, ltb, leb·zero, ltb→lt}
 use borrow.Author.Tests.{not-true, eq-eqb, lt-ltb, le-ltb, lt-leb}
 use Rattle.word.specs.declared.codec.Word.{Word}
 use Rattle.word.specs.declared.codec.Word.the-variants.{Class, Close, Volume, Expiration}
-use Rattle.word.specs.Codec.{isLegal, packed}
-use Rattle.word.proofs.Words.{kindIn}
+use Rattle.word.specs.Codec.{isLegal, packed, kindOf}
+use Rattle.word.proofs.Words.{legal-fits, kindIn, kind-packed}
 use Rattle.rule.specs.Lists.{every, some, only}
 use Rattle.book.specs.Facts.{Series, OpenClass, number}
 use Rattle.book.specs.Layout.{strikeWord, expirationUnless, seriesWords, classesWords}
@@ -19,7 +19,7 @@ use Rattle.book.proofs.Tests.{and-intro, ands, T-true}
 use Rattle.book.proofs.Lists.{every-imply, every-map}
 use Rattle.book.proofs.Parts.{every-kept, isUnder, isEqual, isOver, not-under}
 use Rattle.book.proofs.Splits.{every-split, leads, some-leads}
-use Rattle.book.proofs.Expirations.{monthOf, strikeOf, series-apart}
+use Rattle.book.proofs.Expirations.{strikeOf}
 use Rattle.book.proofs.ClassWords.{classes-apart}
 use Rattle.place.specs.Search.{firstAt, isFrom, holdsAt}
 use Rattle.place.proofs.Firsts.{first-beyond}
@@ -27,26 +27,36 @@ use Rattle.place.proofs.Words.{keyIn, widthOf, isKeyed, key-said, from-
 
 -- ---- packed words
 
--- a search in packed words is one in the words
-first-packed :
-    (kind key : ℕ) (ws : List Word) → T (every isLegal ws)
-    → firstAt (isFrom kind (widthOf kind) key) (map packed ws) ≡ firstAt (isKeyed kind key) ws
-first-packed kind key [] legal = refl
-first-packed kind key (w ∷ ws) legal =
-    rw (from-packed kind key w (T-true (isLegal w) (search ands)), first-packed kind key ws (search ands))
-
 none-first : {A : Type 0} (p : A → Bool) (xs : List A) → T (every (λ x. not (p x)) xs) → firstAt p xs ≡ length xs
 none-first p [] t = refl
 none-first p (x ∷ xs) t = rw (not-true (p x) (T-true (not (p x)) (search ands))) (ap suc (none-first p xs (search ands)))
 
--- words that the search passes, then words at whose first it stops
-pub first-after :
-    (kind key : ℕ) (ws rest : List Word) → T (every isLegal (ws ++ rest)) → T (every (λ w. not (isKeyed kind key w)) ws)
-    → firstAt (isKeyed kind key) rest ≡ 0 → firstAt (isFrom kind (widthOf kind) key) (map packed (ws ++ rest)) ≡ length ws
-first-after kind key ws rest legal none stop =
-    let e = none-first (isKeyed kind key) ws none in
-    let d = first-beyond (isKeyed kind key) ws rest (omega arith) in
-    first-packed kind key (ws ++ rest) legal ∙ omega arith
+-- a search in packed words is one in the words
+module _ (p : ℕ → Bool) (q : Word → Bool) (says : (x : Word) → isLegal x ≡ true → p (packed x) ≡ q x) where
+  first-packed : (ws : List Word) → T (every isLegal ws) → firstAt p (map packed ws) ≡ firstAt q ws
+  first-packed [] legal = refl
+  first-packed (w ∷ ws) legal = rw (says w (T-true (isLegal w) (search ands)), first-packed ws (search ands))
+
+  -- words that the search passes, then words at whose first it stops
+  pub first-after :
+      (ws rest : List Word) → T (every isLegal (ws ++ rest)) → T (every (λ w. not (q w)) ws) → firstAt q rest ≡ 0
+      → firstAt p (map packed (ws ++ rest)) ≡ length ws
+  first-after ws rest legal none stop =
+      let e = none-first q ws none in
+      let d = first-beyond q ws rest (omega arith) in
+      first-packed (ws ++ rest) legal ∙ omega arith
+
+-- a test of the kinds of packed words is one of the words' kinds
+pub kinds-packed :
+    (test : ℕ → Bool) (ws : List Word) → T (every isLegal ws) → T (every (λ w. test (kindIn w)) ws)
+    → T (every (λ w. test (kindOf w)) (map packed ws))
+kinds-packed test [] legal t = tt
+kinds-packed test (w ∷ ws) legal t =
+    let here : T (test (kindIn w)) = search ands in
+    let a : T (test (kindOf (packed w))) =
+    rw (kind-packed w (packed w) (legal-fits w (T-true (isLegal w) (search ands))) refl) here in
+    let b = kinds-packed test ws (search ands) (search ands) in
+    search and-intro
 
 -- ---- the words of a list of keys
 
@@ -112,7 +122,7 @@ module _ {A : Type 0} (key : A → ℕ) (kind : ℕ) (lay : List A → List Word
     pub sought : firstAt (isFrom kind (widthOf kind) k) (map packed (lay xs)) ≡ length under
     sought =
         ap (λ (l : List Word). firstAt (isFrom kind (widthOf kind) k) (map packed l)) two-parts
-        ∙ first-after kind k under (lay others) (rw two-parts at legal)
+        ∙ first-after (isFrom kind (widthOf kind) k) (isKeyed kind k) (from-packed kind k) under (lay others) (rw two-parts at legal)
         (laid .passed k (only (isUnder key k) xs) (every-kept (isUnder key k) xs)) (stops-there k others from-there)
 
     -- .. and the word there holds the key exactly where one of the list has it
@@ -124,7 +134,11 @@ module _ {A : Type 0} (key : A → ℕ) (kind : ℕ) (lay : List A → List Word
 
 -- ---- series
 
-every-series :
+pub every-true : {A : Type 0} (xs : List A) → T (every (λ x. true) xs)
+every-true [] = tt
+every-true (x ∷ xs) = every-true xs
+
+pub every-series :
     (q : Word → Bool) (p : ℕ) (ss : List Series) (rest : List Word)
     → T (every (λ s. q (strikeWord s) && q (Expiration (s .month))) ss) → T (every q rest) → T (every q (seriesWords p ss rest))
 every-series q p [] rest t u = u
@@ -141,23 +155,8 @@ every-series q p (s ∷ ss) rest t u =
         search and-intro
 
 -- a key below k does not stop a search from k on
-not-from : (n k : ℕ) → T (ltb n k) → T (not (leb k n))
+pub not-from : (n k : ℕ) → T (ltb n k) → T (not (leb k n))
 not-from n k t = rw (lt-leb k n (ltb→lt n k t)) tt
-
-pub months-laid : Laid monthOf 5 (λ ss. seriesWords 0 ss [])
-months-laid = record {
-  first = λ s. Expiration (s .month);
-  rest = λ s ss. strikeWord s ∷ seriesWords (suc (s .month)) ss [];
-  none = refl;
-  begins = λ s ss. rw (eqb·zero-suc (s .month));
-  kinds = λ s. refl;
-  keys = λ s. refl;
-  apart = λ k xs ys a b. series-apart 0 k xs ys [] (omega arith) a b;
-  passed = λ k xs t.
-      every-series (λ w. not (isKeyed 5 k w)) 0 xs []
-      (every-imply (λ s. ltb (s .month) k) (λ s. not (isKeyed 5 k (strikeWord s)) && not (isKeyed 5 k (Expiration (s .month))))
-      (λ s u. not-from (s .month) k u) xs t) tt;
-}
 
 pub strikes-laid : Laid strikeOf 6 (map strikeWord)
 strikes-laid = record {
@@ -173,6 +172,12 @@ strikes-laid = record {
 }
 
 -- ---- classes
+
+-- no word is of a lower kind than a class word
+pub class-kinds : (xs : List OpenClass) → T (every (λ w. leb 2 (kindIn w)) (classesWords xs []))
+class-kinds [] = tt
+class-kinds (x ∷ xs) =
+    every-series (λ w. leb 2 (kindIn w)) 0 (x .series) (classesWords xs []) (every-true (x .series)) (class-kinds xs)
 
 -- a test that each word passes which is no class word
 module _ (q : Word → Bool) (other : (w : Word) → eqb (kindIn w) 2 ≡ false → T (q w)) where

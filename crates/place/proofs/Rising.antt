@@ -21,7 +21,7 @@ use Rattle.book.proofs.Lists.{ordered}
 use Rattle.place.specs.Search.{firstAt, isOfKind, isFrom, Rises}
 use Rattle.place.proofs.Firsts.{every-at}
 use Rattle.place.proofs.Words.{keyIn, widthOf, key-said}
-use Rattle.place.proofs.Laid.{no-class, every-class}
+use Rattle.place.proofs.Laid.{every-true, no-class, every-class}
 
 -- ---- words in their order
 
@@ -110,10 +110,6 @@ module _ (kind : ℕ) where
       search and-intro
 
 -- ---- classes
-
-every-true : {A : Type 0} (xs : List A) → T (every (λ x. true) xs)
-every-true [] = tt
-every-true (x ∷ xs) = every-true xs
 
 series-ordered :
     (p : ℕ) (ss : List Series) (rest : List Word) → T (ordered (isLower 2) rest) → T (ordered (isLower 2) (seriesWords p ss rest))

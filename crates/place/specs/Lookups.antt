@@ -17,7 +17,7 @@ unfoldable pub lookupOf : ℕ → Facts → Lookup
 lookupOf c f = cond (isOpen c (f .classes)) (Open (classPlace c f) (class f c .figures)) (NotOpen (classPlace c f))
 
 abbrev pub expirationOf : ℕ → ℕ → Facts → Expiration
-expirationOf c m f = record { figures = class f c .figures; from = strikesPlace c m f; to = strikesEnd c m f }
+expirationOf c m f = record { class = classPlace c f; from = strikesPlace c m f; to = strikesEnd c m f }
 
 unfoldable pub expirationLookupOf : ℕ → ℕ → Facts → ExpirationLookup
 expirationLookupOf c m f = cond (isOpen c (f .classes)) (OpenExpiration (expirationOf c m f)) NoExpiration
@@ -25,7 +25,7 @@ expirationLookupOf c m f = cond (isOpen c (f .classes)) (OpenExpiration (expirat
 abbrev pub strikeSearchOf : ℕ → ℕ → ℕ → Facts → StrikeSearch
 strikeSearchOf c m h f =
     record {
-      figures = class f c .figures;
+      class = classPlace c f;
       from = strikesPlace c m f;
       to = strikesEnd c m f;
       at = strikePlace c m h f;

@@ -1,5 +1,5 @@
 -- The first of a list that passes a test, and the tests by which words are sought: no sentence of document 01. Assumes nothing.
-use Prim.Native.Nat.{ℕ, suc, _+_, _<_, _≤_}
+use Prim.Native.Nat.{ℕ, suc, _+_, _-_, _*_, _^_, _<_, _≤_}
 use mathlib.Core.Path.{_≡_}
 use mathlib.Core.Bool.{Bool, true, false, cond, _&&_}
 use mathlib.Core.List.{List, [], _∷_}
@@ -7,7 +7,8 @@ use lib.ListN.{drop, getD, length}
 use lib.Dec.{eqb, leb, ltb}
 use Rattle.word.specs.declared.class.ClassRecord.{ClassRecord}
 use Rattle.word.specs.Field.{field}
-use Rattle.word.specs.Codec.{kindOf}
+use Rattle.word.specs.declared.codec.Word.the-variants.{Expiration}
+use Rattle.word.specs.Codec.{packed, kindOf}
 use Rattle.place.specs.declared.lookup.Part.{Part}
 use Rattle.place.specs.declared.search.Found.{Found}
 
@@ -20,6 +21,18 @@ module _ {A : Type 0} (test : A → Bool) where
 -- a word of the kind
 abbrev pub isOfKind : ℕ → ℕ → Bool
 isOfKind kind w = eqb (kindOf w) kind
+
+-- a word of the kind or of a higher one
+abbrev pub isNoLower : ℕ → ℕ → Bool
+isNoLower kind w = leb kind (kindOf w)
+
+-- a word by its kind, and in its kind by how little it holds
+abbrev pub rankOf : ℕ → ℕ
+rankOf w = kindOf w * 2 ^ 28 + (2 ^ 28 - 1 - field w 0 28)
+
+-- a word of a lower kind than the word `sought`, or of its kind and holding at least as much
+abbrev pub isUpTo : ℕ → ℕ → Bool
+isUpTo sought w = leb (rankOf w) (rankOf sought)
 
 -- a word of the kind whose lowest field, of `width` bits, holds at least `key`
 abbrev pub isFrom : ℕ → ℕ → ℕ → ℕ → Bool
@@ -55,12 +68,18 @@ figuresAt at ws =
       half = field (getD ws at 0) 16 2;
     }
 
--- the strikes that follow the expiration word at this index, to the next expiration word; or none there
+-- this word stands at this index
+abbrev pub standsAt : ℕ → List ℕ → ℕ → Bool
+standsAt w ws at = ltb at (length ws) && eqb (getD ws at 0) w
+
+-- the strikes that follow the expiration word at this index, to the first word that is no strike; or none there
 abbrev pub strikesAfter : Bool → ℕ → List ℕ → Part
-strikesAfter true at ws = record { from = at + 1; to = at + 1 + firstAt (isFrom 5 10 0) (drop (at + 1) ws) }
+strikesAfter true at ws =
+    record { from = at + 1; to = at + 1 + firstAt (isUpTo (packed (Expiration 0))) (drop (at + 1) ws) }
 strikesAfter false at ws = record { from = at; to = at }
 
--- where the strikes of the month m stand in the words of series
+-- where the strikes of the month m stand in the words of a class's series and of the classes after it
 abbrev pub strikesIn : ℕ → List ℕ → Part
 strikesIn m ws =
-    strikesAfter (holdsAt 10 m ws (firstAt (isFrom 5 10 m) ws)) (firstAt (isFrom 5 10 m) ws) ws
+    let at = firstAt (isUpTo (packed (Expiration m))) ws in
+    strikesAfter (standsAt (packed (Expiration m)) ws at) at ws

@@ -2,4 +2,4 @@
 pub mod head;
 pub mod lookup;
 pub mod own;
-mod search;
+pub mod search;

@@ -3,16 +3,18 @@ ghost use mathlib.Core.Path.{_≡_};
 ghost use Prim.Native.Nat.{_+_, _-_, _<_, _≤_};
 ghost use lib.Dec.{T};
 ghost use lib.ListN.{drop, length, take};
+ghost use Rattle.word.specs.Limits.{isMonth};
 ghost use Rattle.book.specs.Layout.{factsOf, used};
 ghost use Rattle.book.specs.Books.{isBook};
 ghost use Rattle.place.specs.Search.{firstAt, isFrom, figuresAt, strikesIn};
 ghost use Rattle.place.specs.Lookups.{lookupOf, expirationLookupOf, strikeLookupOf};
 use crate::head;
-use crate::search::find;
 use crate::search::find_plainly;
 use crate::search::find_rising;
 use crate::search::first;
 use word::class::ClassRecord;
+use word::codec::class_word;
+use word::codec::expiration_word;
 use word::field::field_of;
 
 // Where a class stands, with its figures; or where its words would be put.
@@ -21,9 +23,9 @@ pub enum Lookup {
     Open(usize, ClassRecord),
 }
 
-// Where the strikes of an expiration stand, and the figures of its class.
+// Where the words of an open class begin, and where the strikes of an expiration of it stand.
 pub struct Expiration {
-    pub figures: ClassRecord,
+    pub class: usize,
     pub from: usize,
     pub to: usize,
 }
@@ -33,9 +35,9 @@ pub enum ExpirationLookup {
     Open(Expiration),
 }
 
-// Where a strike stands among those of its expiration, or where its word would be put.
+// The same, and where a strike stands among those of its expiration, or where its word would be put.
 pub struct StrikeSearch {
-    pub figures: ClassRecord,
+    pub class: usize,
     pub from: usize,
     pub to: usize,
     pub at: usize,
@@ -54,7 +56,7 @@ struct Part {
 }
 
 // What the three words of a class say, which begin at `at`.
-fn figures_at(run: &[u32], at: usize) -> ClassRecord
+pub fn figures_at(run: &[u32], at: usize) -> ClassRecord
     requires { ⌜ at + 2 < length (now run) ⌝ }
     ensures { λ r. ⌜ r ≡ figuresAt at (now (run .entry)) ⌝ }
 {
@@ -69,26 +71,30 @@ fn figures_at(run: &[u32], at: usize) -> ClassRecord
 
 // The index of the first class word from `from` on, or the words used.
 pub fn next_class(run: &[u32], from: usize) -> usize
-    requires { ⌜ T (isBook (now run)) × (from ≤ used (factsOf (now run))) ⌝ }
+    requires { ⌜ T (isBook (now run)) × ((0 < from) × (from ≤ used (factsOf (now run)))) ⌝ }
     ensures { λ r. ⌜ (r ≡ from + firstAt (isFrom 2 14 0) (take (used (factsOf (now (run .entry))) - from) (drop from (now (run .entry))))) × (r ≤ used (factsOf (now (run .entry)))) ⌝ }
 {
     let used = head::used(run);
-    from + first(&run[from..used], 2)
+    from + first(&run[from..used], class_word(0, 0, 0))
 }
 
-// Where the strikes of the month m stand in the words of a class's series.
+// Where the strikes of the month m stand in the words of a class's series and of the classes after it.
 fn strikes_in(words: &[u32], m: u32) -> Part
+    requires { ⌜ T (isMonth m) ⌝ }
     ensures { λ r. ⌜ r ≡ strikesIn m (now (words .entry)) ⌝ }
 {
-    let found = find(words, 5, 10, m);
-    let at = found.at;
-    if !found.holds {
+    let sought = expiration_word(m);
+    let at = first(words, sought);
+    if at == words.len() {
+        return Part { from: at, to: at };
+    }
+    if words[at] != sought {
         return Part { from: at, to: at };
     }
     let from = at + 1;
     Part {
         from,
-        to: from + first(&words[from..words.len()], 5),
+        to: from + first(&words[from..words.len()], expiration_word(0)),
     }
 }
 
@@ -106,17 +112,17 @@ pub fn look_up(run: &[u32], c: u32) -> Lookup
 }
 
 pub fn look_up_expiration(run: &[u32], c: u32, m: u32) -> ExpirationLookup
-    requires { ⌜ T (isBook (now run)) ⌝ }
+    requires { ⌜ T (isBook (now run)) × T (isMonth m) ⌝ }
     ensures { λ r. ⌜ r ≡ expirationLookupOf c m (factsOf (now (run .entry))) ⌝ }
 {
     match look_up(run, c) {
         Lookup::NotOpen(_) => ExpirationLookup::NotOpen,
-        Lookup::Open(at, figures) => {
+        Lookup::Open(at, _) => {
             let begin = at + 3;
-            let end = next_class(run, begin);
+            let end = head::used(run);
             let strikes = strikes_in(&run[begin..end], m);
             ExpirationLookup::Open(Expiration {
-                figures,
+                class: at,
                 from: begin + strikes.from,
                 to: begin + strikes.to,
             })
@@ -125,18 +131,18 @@ pub fn look_up_expiration(run: &[u32], c: u32, m: u32) -> ExpirationLookup
 }
 
 pub fn look_up_strike(run: &[u32], c: u32, m: u32, h: u32) -> StrikeLookup
-    requires { ⌜ T (isBook (now run)) ⌝ }
+    requires { ⌜ T (isBook (now run)) × T (isMonth m) ⌝ }
     ensures { λ r. ⌜ r ≡ strikeLookupOf c m h (factsOf (now (run .entry))) ⌝ }
 {
     match look_up_expiration(run, c, m) {
         ExpirationLookup::NotOpen => StrikeLookup::NotOpen,
         ExpirationLookup::Open(e) => {
-            let figures = e.figures;
+            let class = e.class;
             let from = e.from;
             let to = e.to;
             let found = find_plainly(&run[from..to], 15, h);
             StrikeLookup::Open(StrikeSearch {
-                figures,
+                class,
                 from,
                 to,
                 at: from + found.at,

@@ -1,4 +1,4 @@
--- The series that a rule leaves in a class, and the marked strikes of an expiration: its words give the bounds that its series have, by induction on the series, which rise by month. Assumes nothing.
+-- The series that the review leaves in a class, and the marked strikes of an expiration: its words give the bounds that its series have, by induction on the series, which rise by month. Assumes nothing.
 use Prim.Native.Nat.{ℕ, suc, _≤_, _<_}
 use mathlib.Core.Path.{_≡_, refl, ap, _∙_}
 use mathlib.Core.Bool.{Bool, true, false, cond, not, _&&_}
@@ -7,7 +7,6 @@ use native.Mathlib.Nat.{le-refl}
 use native.Mathlib.Omega.{arith}
 use lib.Dec.{T, eqb}
 use borrow.Author.Tests.{eqb-true, eqb-false, eq-eqb, ne-eqb}
-use Rattle.word.specs.declared.codec.Word.{Word}
 use Rattle.word.specs.declared.codec.Word.the-variants.{Expiration}
 use Rattle.word.specs.Codec.{packed}
 use Rattle.rule.specs.Lists.{every, only}
@@ -19,9 +18,8 @@ use Rattle.book.proofs.LegalWords.{strike-legal, month-legal}
 use Rattle.book.proofs.SeriesLaws.{months-rise}
 use Rattle.book.proofs.Forms.{areSeries}
 use Rattle.removal.specs.declared.marks.Bounds.{Bounds}
-use Rattle.removal.specs.declared.rules.Rule.{Rule}
 use Rattle.removal.specs.Marks.{said, noneMarked, widened, withStrike, boundsIn}
-use Rattle.removal.specs.Compaction.{stays, boundsFor}
+use Rattle.removal.specs.Compaction.{stays}
 use Rattle.removal.proofs.Said.{said-packed}
 
 -- ---- what stays
@@ -33,18 +31,22 @@ abbrev pub widenedBy : Bounds → List Series → Bounds
 widenedBy b [] = b
 widenedBy b (s ∷ ss) = widenedBy (widened b (s .strike)) ss
 
-abbrev pub boundsAmong : Rule → List Series → ℕ → Bounds
-boundsAmong rule ss month = boundsFor rule (widenedBy noneMarked (markedIn month ss))
+abbrev pub boundsAmong : List Series → ℕ → Bounds
+boundsAmong ss month = widenedBy noneMarked (markedIn month ss)
+
+-- whether the series s stays, by the bounds b
+abbrev pub staysBy : ℕ → Bounds → Series → Bool
+staysBy close b s = stays close b (s .strike) (s .ground) (s .put) (s .call)
 
 -- whether s stays among the series ss of its class
-abbrev pub staysAmong : Rule → List Series → Series → Bool
-staysAmong rule ss s = stays rule (boundsAmong rule ss (s .month)) s
+abbrev pub staysAmong : ℕ → List Series → Series → Bool
+staysAmong close ss s = staysBy close (boundsAmong ss (s .month)) s
 
-abbrev pub staying : Rule → List Series → List Series
-staying rule ss = only (staysAmong rule ss) ss
+abbrev pub staying : ℕ → List Series → List Series
+staying close ss = only (staysAmong close ss) ss
 
-abbrev pub leaving : Rule → List Series → List Series
-leaving rule ss = only (λ s. not (staysAmong rule ss s)) ss
+abbrev pub leaving : ℕ → List Series → List Series
+leaving close ss = only (λ s. not (staysAmong close ss s)) ss
 
 -- ---- series in their order, with words that say them
 
@@ -100,13 +102,12 @@ none-later month p (s ∷ ss) l a =
     rw e (none-later month (suc (s .month)) ss (omega arith) (a .1))
 
 pub look-series :
-    (month : ℕ) (b : Bounds) (ss : List Series) (rest : List Word) → AllPlaced (suc month) ss
-    → ((d : Bounds) → boundsIn d (map packed rest) ≡ d)
-    → boundsIn b (map packed (seriesWords (suc month) ss rest)) ≡ widenedBy b (markedIn month ss)
-look-series month b [] rest a ends = ends b
-look-series month b (s ∷ ss) rest a ends =
+    (month : ℕ) (b : Bounds) (ss : List Series) → AllPlaced (suc month) ss
+    → boundsIn b (map packed (seriesWords (suc month) ss [])) ≡ widenedBy b (markedIn month ss)
+look-series month b [] a = refl
+look-series month b (s ∷ ss) a =
     go (eqb (suc month) (suc (s .month))) refl
-    (look-series (s .month) (withStrike b (s .strike) (s .put) (s .call)) ss rest (a .1) ends)
+    (look-series (s .month) (withStrike b (s .strike) (s .put) (s .call)) ss (a .1))
   where
     counted :
         (m : Bool) (l : List Series) → widenedBy (cond m (widened b (s .strike)) b) l ≡ widenedBy b (cond m (s ∷ l) l)
@@ -115,9 +116,9 @@ look-series month b (s ∷ ss) rest a ends =
 
     go :
         (here : Bool) → eqb (suc month) (suc (s .month)) ≡ here
-        → boundsIn (withStrike b (s .strike) (s .put) (s .call)) (map packed (seriesWords (suc (s .month)) ss rest))
+        → boundsIn (withStrike b (s .strike) (s .put) (s .call)) (map packed (seriesWords (suc (s .month)) ss []))
         ≡ widenedBy (withStrike b (s .strike) (s .put) (s .call)) (markedIn (s .month) ss)
-        → boundsIn b (map packed (expirationUnless here (s .month) (strikeWord s ∷ seriesWords (suc (s .month)) ss rest)))
+        → boundsIn b (map packed (expirationUnless here (s .month) (strikeWord s ∷ seriesWords (suc (s .month)) ss [])))
         ≡ widenedBy b (markedIn month (s ∷ ss))
     go true e ih =
         let q : suc month ≡ suc (s .month) = eqb-true (suc month) (suc (s .month)) e in

@@ -10,3 +10,8 @@ pub mod Kept
 pub mod Reviewed
 pub mod Whole
 pub mod CallFacts
+pub mod Stretches
+pub mod Stays
+pub mod Expired
+pub mod Expiring
+pub mod Delisted

@@ -31,7 +31,7 @@ module _ {ws : List ℕ} {b : Bounds} {i : ℕ} (L : Looking ws b i) where
   look-stop h n =
       let strike : (h ground put call : ℕ) → Bounds =
       λ h ground put call. boundsIn (withStrike b h put call) (drop (suc i) ws) in
-      sym (rw (drop-cons ws i 0 h) (by-other (λ m. b) strike b (getD ws i 0) n (λ k. refl))) ∙ L .rest
+      sym (rw (drop-cons ws i 0 h) (by-other b strike b (getD ws i 0) n (λ k. refl))) ∙ L .rest
 
   pub look-done : length ws ≤ i → b ≡ boundsIn noneMarked ws
   look-done h = sym (ap (boundsIn b) (drop-of-length-le ws h)) ∙ L .rest

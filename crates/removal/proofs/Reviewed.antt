@@ -14,7 +14,6 @@ use Rattle.book.specs.Books.{isSeries}
 use Rattle.book.specs.Calls.{isReviewed}
 use Rattle.book.proofs.Tests.{and-left, and-right, and-intro, ands, same-bool}
 use Rattle.removal.specs.declared.marks.Bounds.{Bounds}
-use Rattle.removal.specs.declared.rules.Rule.the-variants.{Review}
 use Rattle.removal.specs.Marks.{noneMarked, lower, higher, widened}
 use Rattle.removal.proofs.Expirations.{markedIn, widenedBy, staysAmong, staying, leaving}
 
@@ -79,7 +78,7 @@ only-same p f g agree (x ∷ xs) t =
     λ i. cond (here i) (x ∷ rest i) (rest i)
 
 module _ (now close : ℕ) (x : OpenClass) (e : close ≡ x .figures .close) (t : T (every (isSeries now) (x .series))) where
-  agrees : (s : Series) → T (isSeries now s) → staysAmong (Review close) (x .series) s ≡ not (isReviewed x s)
+  agrees : (s : Series) → T (isSeries now s) → staysAmong close (x .series) s ≡ not (isReviewed x s)
   agrees s u =
       let l : s .strike ≤ 19999 = leb→le (s .strike) 19999 (search ands) in
       λ i.
@@ -87,11 +86,11 @@ module _ (now close : ℕ) (x : OpenClass) (e : close ≡ x .figures .close) (t 
       && (ltb 500 (apart (cents (s .strike)) (e i))
       && (not (isMarked s) && beyond (s .strike) (markedIn (s .month) (x .series)) (omega arith) i)))
 
-  pub review-leaves : staying (Review close) (x .series) ≡ only (λ s. not (isReviewed x s)) (x .series)
+  pub review-leaves : staying close (x .series) ≡ only (λ s. not (isReviewed x s)) (x .series)
   review-leaves =
-      only-same (isSeries now) (staysAmong (Review close) (x .series)) (λ s. not (isReviewed x s)) agrees (x .series) t
+      only-same (isSeries now) (staysAmong close (x .series)) (λ s. not (isReviewed x s)) agrees (x .series) t
 
-  pub review-removes : leaving (Review close) (x .series) ≡ only (isReviewed x) (x .series)
+  pub review-removes : leaving close (x .series) ≡ only (isReviewed x) (x .series)
   review-removes =
-      only-same (isSeries now) (λ s. not (staysAmong (Review close) (x .series) s)) (isReviewed x)
+      only-same (isSeries now) (λ s. not (staysAmong close (x .series) s)) (isReviewed x)
       (λ s u. ap not (agrees s u) ∙ Bool·not-not (isReviewed x s)) (x .series) t

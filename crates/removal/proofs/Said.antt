@@ -4,7 +4,6 @@ use mathlib.Core.Path.{_≡_, refl, ap}
 use mathlib.Core.Bool.{Bool, true, false, cond}
 use lib.Dec.{T, eqb}
 use borrow.Author.Tests.{eqb-true, ne-eqb}
-use Rattle.word.specs.Field.{field}
 use Rattle.word.specs.declared.codec.Word.{Word}
 use Rattle.word.specs.declared.codec.Word.the-variants.{Head, Class, Close, Volume, Expiration, Strike, Invalid}
 use Rattle.word.specs.Codec.{isLegal, packed, fieldsAs, kindOf}
@@ -25,10 +24,10 @@ pub said-packed : (x : Word) → T (isLegal x) → said (packed x) ≡ x
 unfolding said
 said-packed x legal = fields-packed x (fits x legal)
 
-module _ {A : Type 0} (expiration : ℕ → A) (strike : (h ground put call : ℕ) → A) (other : A) where
+module _ {A : Type 0} (expiration : A) (strike : (h ground put call : ℕ) → A) (other : A) where
   -- a word that is no strike, and no expiration that makes a difference
   pub by-other :
-      (w : ℕ) → (kindOf w ≡ 6 → ⊥) → (kindOf w ≡ 5 → expiration (field w 0 10) ≡ other)
+      (w : ℕ) → (kindOf w ≡ 6 → ⊥) → (kindOf w ≡ 5 → expiration ≡ other)
       → byKind expiration strike other (said w) ≡ other
   unfolding said
   by-other w n e =
@@ -43,12 +42,12 @@ module _ {A : Type 0} (expiration : ℕ → A) (strike : (h ground put call : �
       (λ t. refl))))))
 
   pub by-each :
-      (P : A → Type 0) → ((m : ℕ) → P (expiration m)) → ((h ground put call : ℕ) → P (strike h ground put call))
+      (P : A → Type 0) → P expiration → ((h ground put call : ℕ) → P (strike h ground put call))
       → P other → (x : Word) → P (byKind expiration strike other x)
   by-each P e s o (Head now used) = o
   by-each P e s o (Class number dollar half) = o
   by-each P e s o (Close price) = o
   by-each P e s o (Volume contracts) = o
-  by-each P e s o (Expiration month) = e month
+  by-each P e s o (Expiration month) = e
   by-each P e s o (Strike h ground put call) = s h ground put call
   by-each P e s o Invalid = o

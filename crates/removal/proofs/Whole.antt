@@ -8,7 +8,6 @@ use lib.Seq.{drop-at}
 use borrow.Rule.Slice.PartMut.{midOf, putMid}
 use Rattle.word.specs.declared.codec.Word.the-variants.{Head}
 use Rattle.word.specs.Codec.{packed}
-use Rattle.removal.specs.declared.rules.Rule.{Rule}
 use Rattle.removal.specs.Runs.{closed}
 use Rattle.removal.specs.Compaction.{compacted, Compacted, Parted, Removed}
 use Rattle.removal.proofs.Parts.{part-is, put-part}
@@ -21,22 +20,22 @@ module _ (p k z c d : List ℕ) where
   regroup-after = simp append-assoc
 
 module _
-    (rule : Rule) (month : ℕ) (xs : List ℕ) (from to end head : ℕ) (a b c d : List ℕ)
+    (close month : ℕ) (xs : List ℕ) (from to end head : ℕ) (a b c d : List ℕ)
     (P : Parted xs from to end head a b c d) (ys zs : List ℕ) (w r : ℕ)
-    (C : Compacted rule (midOf from (to - from) xs) ys w r)
+    (C : Compacted close (midOf from (to - from) xs) ys w r)
     (Z : zs ≡ closed (to - (from + w)) (midOf (from + w) (end - (from + w)) (putMid from (to - from) xs ys))) where
   pub removed-parts :
-      Removed rule month a b c d
+      Removed close month a b c d
       (set (putMid (from + w) (end - (from + w)) (putMid from (to - from) xs ys) zs) 0
       (packed (Head month (end - (to - (from + w))))))
       r
   removed-parts =
-      let k = compacted rule b .words in
+      let k = compacted close b .words in
       let zeros = replicate {A = ℕ} (length b - length k) 0 in
       let long : length b ≡ to - from = omega (arith, P .last) in
       let part : midOf from (to - from) xs ≡ b =
       ap (midOf from (to - from)) (P .whole) ∙ part-is (head ∷ a) b (c ++ d) from (to - from) (sym (P .first)) long in
-      let C′ : Compacted rule b ys w r = rw part at C in
+      let C′ : Compacted close b ys w r = rw part at C in
       let count : w ≡ length k = C′ .count in
       let fewer : length k ≤ length b = omega (arith, C′ .fewer) in
       let gap : to - (from + w) ≡ length b - length k = omega (arith, P .last) in

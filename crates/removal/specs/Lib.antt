@@ -1,3 +1,4 @@
 pub mod Runs
 pub mod Marks
 pub mod Compaction
+pub mod Expiry

@@ -13,13 +13,13 @@ unfoldable pub said : ℕ → Word
 said w = fieldsAs (kindOf w) w
 
 -- expirations and strikes are looked at, other words are not
-module _ {A : Type 0} (expiration : ℕ → A) (strike : (h ground put call : ℕ) → A) (other : A) where
+module _ {A : Type 0} (expiration : A) (strike : (h ground put call : ℕ) → A) (other : A) where
   abbrev pub byKind : Word → A
   byKind (Head now used) = other
   byKind (Class number dollar half) = other
   byKind (Close price) = other
   byKind (Volume contracts) = other
-  byKind (Expiration month) = expiration month
+  byKind (Expiration month) = expiration
   byKind (Strike h ground put call) = strike h ground put call
   byKind Invalid = other
 
@@ -46,4 +46,4 @@ withStrike b h put call = cond (marks put call) (widened b h) b
 -- over the strikes that the words begin with
 abbrev pub boundsIn : Bounds → List ℕ → Bounds
 boundsIn b [] = b
-boundsIn b (w ∷ ws) = byKind (λ m. b) (λ h ground put call. boundsIn (withStrike b h put call) ws) b (said w)
+boundsIn b (w ∷ ws) = byKind b (λ h ground put call. boundsIn (withStrike b h put call) ws) b (said w)

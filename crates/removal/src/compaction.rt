@@ -1,22 +1,23 @@
-// The compaction of lent words in place.
+// The compaction of lent words in place, by the review at a close.
 ghost use mathlib.Core.Path.{_≡_};
 ghost use Prim.Native.Nat.{_+_, _<_, _≤_};
 ghost use lib.ListN.{length, getD, drop};
 ghost use lib.Seq.{sets};
+ghost use Rattle.word.specs.Field.{field};
 ghost use Rattle.removal.specs.Marks.{noneMarked, boundsIn};
-ghost use Rattle.removal.specs.Compaction.{boundsFor, settled, strikeStep, stepAt, wordsOf, Compacted};
+ghost use Rattle.removal.specs.Compaction.{stays, settled, strikeStep, stepAt, wordsOf, Compacted};
 use crate::marks::Bounds;
 use crate::marks::bounds_in;
+use crate::marks::is_marked;
 use crate::marks::none_marked;
-use crate::rules::Rule;
-use crate::rules::does_stay;
+use rule::spacing::distance;
 use word::codec::kind;
 use word::field::field_of;
+use word::strike::Strike;
 use word::zeros::zero_all;
 
-// How far a compaction is: the month, the expiration word that waits for a strike that stays (0: none), the marked strikes of its expiration, and the strikes removed.
+// How far a compaction is: the expiration word that waits for a strike that stays (0: none), the marked strikes of its expiration, and the strikes removed.
 pub struct Progress {
-    pub month: u32,
     pub waiting: u32,
     pub bounds: Bounds,
     pub removed: usize,
@@ -36,13 +37,23 @@ pub struct Kept {
     pub removed: usize,
 }
 
+// Whether the strike of the word w stays in the review at a close; `b` bounds the marked strikes of its expiration.
+fn does_stay(close: u32, b: Bounds, w: u32) -> bool
+    ensures { λ r. ⌜ r ≡ stays close b (field w 0 15) (field w 15 3) (field w 18 1) (field w 19 1) ⌝ }
+{
+    let h = field_of(w, 0, 15);
+    let ground = field_of(w, 15, 3);
+    let far = 500 < distance(Strike(h).cents(), close);
+    let beyond = (b.above <= h) | (h < b.lowest);
+    !(((ground == 1) | (ground == 3)) & (far & (!is_marked(w) & beyond)))
+}
+
 // No expiration word waits.
 fn settle(k: Progress) -> Progress
     ensures { λ r. ⌜ r ≡ settled k ⌝ }
 {
     let b = k.bounds;
     Progress {
-        month: k.month,
         waiting: 0,
         bounds: b,
         removed: k.removed,
@@ -73,7 +84,6 @@ fn strike_step(stays: bool, k: Progress, w: u32) -> Step
     }
     let b = k.bounds;
     let next = Progress {
-        month: k.month,
         waiting: k.waiting,
         bounds: b,
         removed: k.removed + 1,
@@ -86,36 +96,29 @@ fn strike_step(stays: bool, k: Progress, w: u32) -> Step
     }
 }
 
-// The marked strikes after `at`, where the rule asks for them.
-fn bounds_after(words: &[u32], at: usize, rule: Rule) -> Bounds
+// The marked strikes after `at`.
+fn bounds_after(words: &[u32], at: usize) -> Bounds
     requires { ⌜ at < length (now words) ⌝ }
-    ensures { λ r. ⌜ r ≡ boundsFor rule (boundsIn noneMarked (drop (at + 1) (now (words .entry)))) ⌝ }
+    ensures { λ r. ⌜ r ≡ boundsIn noneMarked (drop (at + 1) (now (words .entry))) ⌝ }
 {
-    match rule {
-        Rule::From(m) => none_marked(),
-        Rule::Except(m, h) => none_marked(),
-        Rule::Review(close) => {
-            let from = at + 1;
-            bounds_in(&words[from..])
-        }
-    }
+    let from = at + 1;
+    bounds_in(&words[from..])
 }
 
 // The step at the word `at`.
-fn step_at(words: &[u32], at: usize, rule: Rule, k: Progress) -> Step
+fn step_at(words: &[u32], at: usize, close: u32, k: Progress) -> Step
     requires { ⌜ (at < length (now words)) × (k .removed < 65535) ⌝ }
-    ensures { λ r. ⌜ r ≡ stepAt rule k (getD (now (words .entry)) at 0) (drop (at + 1) (now (words .entry))) ⌝ }
+    ensures { λ r. ⌜ r ≡ stepAt close k (getD (now (words .entry)) at 0) (drop (at + 1) (now (words .entry))) ⌝ }
 {
     let w = words[at];
     let b = k.bounds;
     let of = kind(w);
     if of == 6 {
-        return strike_step(does_stay(rule, b, k.month, w), k, w);
+        return strike_step(does_stay(close, b, w), k, w);
     }
     if of == 5 {
-        let found = bounds_after(words, at, rule);
+        let found = bounds_after(words, at);
         let next = Progress {
-            month: field_of(w, 0, 10),
             waiting: w,
             bounds: found,
             removed: k.removed,
@@ -153,12 +156,11 @@ fn write(words: &mut [u32], at: usize, o: Step) -> usize
 }
 
 // Moves what stays to the front and zeroes the rest. An expiration word is written before its first strike that stays.
-pub fn compact(part: &mut [u32], rule: Rule) -> Kept
+pub fn compact(part: &mut [u32], close: u32) -> Kept
     requires { ⌜ length (now part) ≤ 65535 ⌝ }
-    ensures { λ r. ⌜ Compacted rule (now (part .entry)) (now (part .exit)) (r .words) (r .removed) ⌝ }
+    ensures { λ r. ⌜ Compacted close (now (part .entry)) (now (part .exit)) (r .words) (r .removed) ⌝ }
 {
     let mut k = Progress {
-        month: 0,
         waiting: 0,
         bounds: none_marked(),
         removed: 0,
@@ -166,7 +168,7 @@ pub fn compact(part: &mut [u32], rule: Rule) -> Kept
     let mut read = 0;
     let mut written = 0;
     while read < part.len() {
-        let o = step_at(part, read, rule, k);
+        let o = step_at(part, read, close, k);
         written = write(part, written, o);
         k = o.progress;
         read += 1;

@@ -30,7 +30,7 @@ fn move_down_two(words: &mut [u32])
     }
 }
 
-fn move_down_by(words: &mut [u32], gap: usize)
+pub fn move_down_by(words: &mut [u32], gap: usize)
     requires { ⌜ gap ≤ length (now words) ⌝ }
     ensures { λ _. ⌜ now (words .exit) ≡ movedDown gap (now (words .entry)) ⌝ }
 {

@@ -1,23 +1,20 @@
--- Document 01, "Closes at the edges": T1 to T10 as one list of cases, each computed up to the highest strike that can be permitted and so shown for all strikes. Assumes nothing.
+-- Document 01, "Closes at the edges": T1 to T10 as one list of cases, each computed up to the end of the range and so shown for all strikes. Assumes nothing.
 use mathlib.Core.Path.{_≡_, refl, _∙_}
 use mathlib.Core.Bool.{Bool, true, false}
 use mathlib.Core.List.{List, [], _∷_, _++_, map}
 use Prim.Native.Nat.{ℕ, _*_}
-use native.Mathlib.Omega.{arith}
-use lib.Dec.{leb}
-use borrow.Author.Tests.{leb-true}
 use Rattle.word.specs.declared.class.ClassRecord.{ClassRecord}
 use Rattle.word.specs.declared.answer.Refusal.the-variants.{OffGrid, TooClose}
 use Rattle.word.specs.declared.answer.Answer.{Answer}
 use Rattle.word.specs.declared.answer.Answer.the-variants.{Ground, Refused}
 use Rattle.rule.specs.declared.terms.Setting.{Setting}
 use Rattle.rule.specs.Lists.{only, upFrom}
-use Rattle.rule.specs.Terms.{isLong, isNear, isOutside, price}
+use Rattle.rule.specs.Terms.{isLong, isNear, isOutside}
 use Rattle.rule.specs.Ranges.{lowest, amongFive}
-use Rattle.rule.specs.Ends.{highestPermitted}
+use Rattle.rule.specs.Ends.{highEnd}
 use Rattle.rule.specs.Spacing.{Standing}
 use Rattle.rule.specs.Judgement.{judgement, isPermittedBeside, permitted}
-use Rattle.rule.proofs.Bound.{permitted-short}
+use Rattle.rule.proofs.Most.{permitted-short}
 
 pub data Case : Type 0 where
   -- beside the standing strikes exactly these are permitted
@@ -42,22 +39,21 @@ abbrev pub All : List Case → Type 0
 All [] = Unit {0}
 All (x ∷ xs) = Holds x × All xs
 
--- what is computed for a case: the permitted strikes, looked for among those up to the bound, which has to be a strike
+-- what is computed for a case: the permitted strikes, looked for among those up to the end of the range
 data Outcome : Type 0 where
-  strikesOf : Bool → List ℕ → Outcome
+  strikesOf : List ℕ → Outcome
   answerOf : Answer → Outcome
   testsOf : List Bool → Outcome
 
 abbrev computed : ClassRecord → Case → Outcome
-computed c (permits s standing strikes) =
-    strikesOf (leb (highestPermitted (price s)) 19999) (only (isPermittedBeside s standing) (upFrom (highestPermitted (price s)) 1))
+computed c (permits s standing strikes) = strikesOf (only (isPermittedBeside s standing) (upFrom (highEnd s) 1))
 computed c (answers s standing h answer) = answerOf (judgement s standing h)
 computed c (refused now month) = testsOf (isOutside (seenFrom now month c) ∷ [])
 computed c (near now month) = testsOf (isOutside (seenFrom now month c) ∷ isNear (seenFrom now month c) ∷ [])
 computed c (long now month) = testsOf (isOutside (seenFrom now month c) ∷ isLong (seenFrom now month c) ∷ [])
 
 abbrev expected : Case → Outcome
-expected (permits s standing strikes) = strikesOf true strikes
+expected (permits s standing strikes) = strikesOf strikes
 expected (answers s standing h answer) = answerOf answer
 expected (refused now month) = testsOf (true ∷ [])
 expected (near now month) = testsOf (false ∷ true ∷ [])
@@ -65,9 +61,8 @@ expected (long now month) = testsOf (false ∷ true ∷ [])
 
 holds : (x : Case) → ((c : ClassRecord) → computed c x ≡ expected x) → Holds x
 holds (permits s standing strikes) e =
-    let e₁ : computed (s .class) (permits s standing strikes) ≡ strikesOf true strikes = e (s .class) in
-    let b : leb (highestPermitted (price s)) 19999 ≡ true = cc in
-    permitted-short s standing (highestPermitted (price s)) (omega arith) (leb-true (highestPermitted (price s)) 19999 b) ∙ cc
+    let e₁ : computed (s .class) (permits s standing strikes) ≡ strikesOf strikes = e (s .class) in
+    permitted-short s standing ∙ cc
 holds (answers s standing h answer) e = let e₁ = e (s .class) in cc
 holds (refused now month) e = λ c. let e₁ = e c in cc
 holds (near now month) e = λ c. let e₁ = e c in (cc, cc)

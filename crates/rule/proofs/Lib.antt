@@ -1,5 +1,5 @@
 pub mod Tests
-pub mod Strides
+pub mod Steps
 pub mod Five
 pub mod Grounds
 pub mod Rows
@@ -7,4 +7,6 @@ pub mod Walks
 pub mod Permitted
 pub mod Bound
 pub mod Near
+pub mod Open
+pub mod Most
 pub mod Closes

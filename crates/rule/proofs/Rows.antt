@@ -1,17 +1,21 @@
--- The decision over the rows of the grounds, one row at a time: what is decided is said of the rows that are left. Assumes nothing.
+-- The decision over the rows of the grounds, one row at a time: what is decided is said of the rows that are left. It needs the spacing of no ground but the first that passes. Assumes nothing.
 use mathlib.Core.Path.{_≡_, refl, sym, ap, _∙_}
-use mathlib.Core.Bool.{Bool, true, false, cond, _||_, or-assoc, or-false}
+use mathlib.Core.Bool.{Bool, true, false, cond, _&&_, _||_, or-assoc, or-false, and-false, and-self-left}
 use mathlib.Core.List.{List, [], _∷_}
-use Prim.Native.Nat.{ℕ, suc, _+_, _≤_, _<_}
+use Prim.Native.Nat.{ℕ, zero, suc, _+_, _≤_, _<_}
 use native.Mathlib.Numerals.{add-one}
 use native.Mathlib.Omega.{arith}
-use lib.ListN.{length, getD, drop, drop-of-length-le}
+use lib.ListN.{length, getD, set, drop, drop-of-length-le}
 use lib.Seq.{drop-cons}
 use Rattle.word.specs.declared.answer.Refusal.the-variants.{OffGrid, OutOfRange, TooClose}
 use Rattle.word.specs.declared.answer.Answer.{Answer}
 use Rattle.word.specs.declared.answer.Answer.the-variants.{Ground, Refused}
+use Rattle.rule.specs.declared.terms.Setting.{Setting}
 use Rattle.rule.specs.Lists.{some}
-use Rattle.rule.specs.Judgement.{passes, passesGrid, passesRange, refusalOf, groundFrom, decided, isAccepted}
+use Rattle.rule.specs.Grids.{gridOf}
+use Rattle.rule.specs.Ranges.{rangeOf}
+use Rattle.rule.specs.Spacing.{Standing}
+use Rattle.rule.specs.Judgement.{rowOf, rowsOf, passes, passesGrid, passesRange, refusalOf, groundFrom, decided, openRows, firstGround, judgement, isAccepted}
 
 first-step : (rows : List (List Bool)) (g : ℕ) → g < length rows → (v : Answer) →
     groundFrom v g (drop g rows) ≡ cond (passes (getD rows g [])) (Ground g) (groundFrom v (g + 1) (drop (g + 1) rows))
@@ -76,3 +80,29 @@ accepted-passes rows = accepted-from (Refused (refusalOf rows)) (go (some passes
     go true u = refl
     go false true = refl
     go false false = refl
+
+-- ---- the rows with no spacing
+
+pub open-range : (s : Setting) (h g : ℕ) → g < 4 → passesRange (getD (openRows s h) g []) ≡ (gridOf s g h && rangeOf s g h)
+open-range s h zero l = refl
+open-range s h (suc zero) l = refl
+open-range s h (suc (suc zero)) l = and-self-left (gridOf s 2 h) (rangeOf s 2 h)
+open-range s h (suc (suc (suc zero))) l = and-self-left (gridOf s 3 h) (rangeOf s 3 h)
+open-range s h (suc (suc (suc (suc g)))) l = absurd (omega arith)
+
+-- the row of the first ground that passes, if any, may be said to pass, and no other needs its spacing
+pub marked-judgement : (s : Setting) (standing : List Standing) (h : ℕ) →
+    decided (set (openRows s h) (firstGround s standing h) (true ∷ true ∷ true ∷ [])) ≡ judgement s standing h
+marked-judgement s standing h = go (passes-at 0) (passes-at 1) (passes-at 2) (passes-at 3)
+  where
+    passes-at : ℕ → Bool
+    passes-at g = passes (rowOf s standing h g)
+
+    go : (a b c d : Bool) →
+        decided (set (openRows s h) (cond a 0 (cond b 1 (cond c 2 (cond {A = ℕ} d 3 4)))) (true ∷ true ∷ true ∷ []))
+        ≡ cond a (Ground 0) (cond b (Ground 1) (cond c (Ground 2) (cond d (Ground 3) (Refused (refusalOf (rowsOf s standing h))))))
+    go true b c d = refl
+    go false true c d = simp and-false
+    go false false true d = simp and-false
+    go false false false true = simp and-false
+    go false false false false = simp (and-false, and-self-left)

@@ -1,10 +1,10 @@
 -- Tests, their conjunctions and disjunctions, by cases of the Booleans. Assumes nothing.
 use mathlib.Core.Path.{_≡_, refl, sym, ap, _∙_}
-use mathlib.Core.Bool.{Bool, true, false, _&&_, _||_, and-false}
+use mathlib.Core.Bool.{Bool, true, false, not, _&&_, _||_, and-false, or-true}
 use mathlib.Core.Logic.{_⊎_, inl, inr}
 use Prim.Native.Nat.{ℕ, _≤_}
-use lib.Dec.{leb}
-use borrow.Author.Tests.{leb-true, le-leb}
+use lib.Dec.{leb, ltb}
+use borrow.Author.Tests.{leb-true, ltb-true, ltb-false, le-leb, lt-leb}
 
 pub and-left : (a b : Bool) → (a && b) ≡ true → a ≡ true
 and-left true b e = refl
@@ -14,6 +14,12 @@ pub and-right : (a b : Bool) → (a && b) ≡ true → b ≡ true
 and-right true b e = e
 and-right false true e = refl
 and-right false false e = e
+
+pub or-left : (a b : Bool) → a ≡ true → (a || b) ≡ true
+or-left a b e = rw e
+
+pub or-right : (a b : Bool) → b ≡ true → (a || b) ≡ true
+or-right a b e = rw (e, or-true)
 
 pub or-cases : (a b : Bool) → (a || b) ≡ true → (a ≡ true) ⊎ (b ≡ true)
 or-cases true b e = inl refl
@@ -30,6 +36,13 @@ pub and-implied : (a b c d : Bool) → (c ≡ true → a ≡ true) → (a && b &
 and-implied a b true d e = rw (e refl)
 and-implied a b false d e = and-false (a && b)
 
+-- four tests hold where none fails
+pub none-fails : (a b c d : Bool) → (not a && b && not c && not d) ≡ not (a || not b || c || d)
+none-fails true b c d = refl
+none-fails false true true d = refl
+none-fails false true false d = refl
+none-fails false false c d = refl
+
 -- two tests that hold together
 same : (a b : Bool) → (a ≡ true → b ≡ true) → (b ≡ true → a ≡ true) → a ≡ b
 same true b to from = sym (to refl)
@@ -39,3 +52,10 @@ same false false to from = refl
 pub same-leb : (a b c d : ℕ) → (a ≤ b → c ≤ d) → (c ≤ d → a ≤ b) → leb a b ≡ leb c d
 same-leb a b c d to from =
     same (leb a b) (leb c d) (λ e. le-leb c d (to (leb-true a b e))) (λ e. le-leb a b (from (leb-true c d e)))
+
+pub leb-not : (a b : ℕ) → leb a b ≡ not (ltb b a)
+leb-not a b = go (ltb b a) refl
+  where
+    go : (t : Bool) → ltb b a ≡ t → leb a b ≡ not t
+    go true e = lt-leb a b (ltb-true b a e)
+    go false e = le-leb a b (ltb-false b a e)

@@ -1,24 +1,16 @@
 -- The search for the first number that passes a test, one number at a time, and the walk along a list, one element at a time: what is asked of all is asked of those that are left. Assumes nothing.
 use mathlib.Core.Path.{_≡_, refl, sym, ap, _∙_}
-use mathlib.Core.Bool.{Bool, true, false, cond, _&&_, _||_, and-false}
+use mathlib.Core.Bool.{Bool, true, false, cond, _&&_}
 use mathlib.Core.List.{List, [], _∷_, map}
 use Prim.Native.Nat.{ℕ, zero, suc, _+_, _-_, _≤_, _<_}
 use native.Mathlib.Omega.{arith}
 use native.Mathlib.Numerals.{add-one}
-use lib.Dec.{eqb, ltb}
+use lib.Dec.{eqb}
 use lib.ListN.{length, getD, drop, drop-of-length-le}
 use lib.Seq.{drop-cons}
-use borrow.Author.Tests.{eq-eqb, ne-eqb, eqb-true, eqb-false}
-use Rattle.word.specs.declared.answer.Answer.{Answer}
-use Rattle.word.specs.declared.answer.Answer.the-variants.{Refused}
-use Rattle.rule.specs.declared.terms.Setting.{Setting}
-use Rattle.rule.specs.Lists.{every, upFrom}
-use Rattle.rule.specs.Grids.{grounds, gridOf}
-use Rattle.rule.specs.Ranges.{rangeOf}
-use Rattle.rule.specs.Spacing.{Standing, spacingOf}
-use Rattle.rule.specs.Judgement.{rowOf, rowsOf, passes, refusalOf, groundFrom, decided, firstFrom, firstGround, judgement, isAccepted}
-use Rattle.rule.proofs.Tests.{and-left}
-use Rattle.rule.proofs.Rows.{accepted-passes}
+use borrow.Author.Tests.{eqb-true, eqb-false}
+use Rattle.rule.specs.Lists.{every}
+use Rattle.rule.specs.Judgement.{firstFrom}
 
 pub every-map : {A B : Type 0} (test : B → Bool) (f : A → B) (xs : List A) → every test (map f xs) ≡ every (λ x. test (f x)) xs
 every-map test f [] = refl
@@ -89,45 +81,3 @@ first-found test (suc n) g = go (test g) refl (first-found test n (g + 1))
         here : (i : ℕ) → g ≤ i → i < firstFrom test n (g + 1) → (u : Bool) → eqb i g ≡ u → test i ≡ false
         here i l k true q = rw (eqb-true i g q) e
         here i l k false q = r .before i (omega (arith, eqb-false i g q)) k
-
--- the rows of n grounds from g on, by the three tests of a ground
-rowsBy : (ℕ → Bool) → (ℕ → Bool) → (ℕ → Bool) → ℕ → ℕ → List (List Bool)
-rowsBy grid range spacing n g = map (λ x. grid x ∷ range x ∷ spacing x ∷ []) (upFrom n g)
-
--- spacing may be said of the first ground that passes alone
-marked : (v : Answer) (grid range spacing : ℕ → Bool) (found n g : ℕ) → found ≡ firstFrom (λ x. grid x && range x && spacing x) n g →
-    groundFrom v g (rowsBy grid range (λ x. eqb x found) n g) ≡ groundFrom v g (rowsBy grid range spacing n g)
-unfolding rowsBy
-marked v grid range spacing found zero g e = refl
-marked v grid range spacing found (suc n) g e = go (grid g && range g && spacing g) refl (marked v grid range spacing found n (g + 1))
-  where
-    go : (t : Bool) → (grid g && range g && spacing g) ≡ t →
-        (found ≡ firstFrom (λ x. grid x && range x && spacing x) n (g + 1) →
-        groundFrom v (g + 1) (rowsBy grid range (λ x. eqb x found) n (g + 1)) ≡ groundFrom v (g + 1) (rowsBy grid range spacing n (g + 1))) →
-        groundFrom v g (rowsBy grid range (λ x. eqb x found) (suc n) g) ≡ groundFrom v g (rowsBy grid range spacing (suc n) g)
-    go true q r =
-        let i : found ≡ g = e ∙ rw q in
-        rw (q, and-left (grid g && range g) (spacing g) q, eq-eqb g found (sym i))
-    go false q r =
-        let i : found ≡ firstFrom (λ x. grid x && range x && spacing x) n (g + 1) = e ∙ rw q in
-        let l : g < found = omega (arith, i, first-found (λ x. grid x && range x && spacing x) n (g + 1) .least) in
-        rw (q, ne-eqb g found (λ k. omega arith), and-false, ← add-one g) (r i)
-
-pub marked-judgement : (s : Setting) (standing : List Standing) (h found : ℕ) → found ≡ firstGround s standing h →
-    decided (map (λ g. gridOf s g h ∷ rangeOf s g h ∷ eqb g found ∷ []) grounds) ≡ judgement s standing h
-unfolding rowsBy
-marked-judgement s standing h found e =
-    marked (Refused (refusalOf (rowsOf s standing h))) (λ g. gridOf s g h) (λ g. rangeOf s g h) (λ g. spacingOf s standing g h) found 4 0 e
-
-pub accepted-first : (s : Setting) (standing : List Standing) (h : ℕ) → ltb (firstGround s standing h) 4 ≡ isAccepted (judgement s standing h)
-accepted-first s standing h = go (passes-at 0) (passes-at 1) (passes-at 2) (passes-at 3) ∙ sym (accepted-passes (rowsOf s standing h))
-  where
-    passes-at : ℕ → Bool
-    passes-at g = passes (rowOf s standing h g)
-
-    go : (a b c d : Bool) → ltb (cond a 0 (cond b 1 (cond c 2 (cond {A = ℕ} d 3 4)))) 4 ≡ (a || (b || (c || (d || false))))
-    go true b c d = refl
-    go false true c d = refl
-    go false false true d = refl
-    go false false false true = refl
-    go false false false false = refl

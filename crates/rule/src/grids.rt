@@ -1,8 +1,7 @@
 // The grids of the four grounds, over strikes in cents.
 ghost use mathlib.Core.Path.{_≡_};
-ghost use Prim.Native.Nat.{_*_, _<_, _≤_};
-ghost use Rattle.rule.specs.Grids.{ladder, standardGrid, dollarGrid, halfDollars, halfGrid, wingAt, wingGrid, gridOf};
-ghost use Rattle.rule.specs.Judgement.{Judged};
+ghost use Prim.Native.Nat.{_<_, _≤_};
+ghost use Rattle.rule.specs.Grids.{ladder, standardGrid, dollarGrid, halfDollars, halfGrid, wingAt, wingGrid};
 use crate::terms::Setting;
 use crate::terms::is_dollar_class;
 use crate::terms::is_half_class;
@@ -24,7 +23,7 @@ pub fn on_standard(class: ClassRecord, k: u32) -> bool
     on_ladder(k) & !(is_dollar_class(class) & (k < 5000) & !(k % 500 == 0))
 }
 
-fn on_dollar(s: Setting, k: u32) -> bool
+pub fn on_dollar(s: Setting, k: u32) -> bool
     requires { ⌜ s .current ≤ 1023 ⌝ }
     ensures { λ r. ⌜ r ≡ dollarGrid s k ⌝ }
 {
@@ -41,7 +40,7 @@ pub fn on_half_dollars(k: u32) -> bool
     (k % 50 == 0) & (k <= Strike::FIVE_FIFTY.cents())
 }
 
-fn on_half(s: Setting, k: u32) -> bool
+pub fn on_half(s: Setting, k: u32) -> bool
     requires { ⌜ s .current ≤ 1023 ⌝ }
     ensures { λ r. ⌜ r ≡ halfGrid s k ⌝ }
 {
@@ -63,7 +62,7 @@ fn is_wing_at(p: u32, l: u32, k: u32) -> bool
         | (k == l + 200) & ((l < p) & (p <= l + 500))
 }
 
-fn on_wing(s: Setting, k: u32) -> bool
+pub fn on_wing(s: Setting, k: u32) -> bool
     requires { ⌜ (s .current ≤ 1023) × (k < 2000000) ⌝ }
     ensures { λ r. ⌜ r ≡ wingGrid s k ⌝ }
 {
@@ -73,18 +72,4 @@ fn on_wing(s: Setting, k: u32) -> bool
         & is_dollar_class(class)
         & (class.close < 5000)
         & ((500 <= l) & (l <= 4500) & is_wing_at(class.close, l, k))
-}
-
-// Whether the strike is on the grid of the ground g.
-pub fn on_grid(s: Setting, g: u32, strike: Strike) -> bool
-    requires { ⌜ Judged s (strike .0) ⌝ }
-    ensures { λ r. ⌜ r ≡ gridOf s g (strike .0) ⌝ }
-{
-    let k = strike.cents();
-    match g {
-        0 => on_standard(s.class, k),
-        1 => on_dollar(s, k),
-        2 => on_half(s, k),
-        _ => on_wing(s, k),
-    }
 }

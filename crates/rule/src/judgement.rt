@@ -1,13 +1,15 @@
 // The judgement of a strike beside the standing strikes of its expiration.
 ghost use mathlib.Core.Path.{_≡_};
-ghost use mathlib.Core.List.{[], _∷_, map};
-ghost use lib.Dec.{eqb};
-ghost use Rattle.rule.specs.Grids.{gridOf};
-ghost use Rattle.rule.specs.Ranges.{rangeOf};
+ghost use mathlib.Core.List.{map};
 ghost use Rattle.rule.specs.Spacing.{standingIn};
-ghost use Rattle.rule.specs.Judgement.{Judged, decided, judgement, firstGround, isAccepted};
-use crate::grids::on_grid;
-use crate::ranges::in_range;
+ghost use Rattle.rule.specs.Judgement.{Judged, decided, judgement, firstGround, isAccepted, openRows};
+use crate::grids::on_dollar;
+use crate::grids::on_half;
+use crate::grids::on_standard;
+use crate::grids::on_wing;
+use crate::ranges::in_half_range;
+use crate::ranges::in_standard_range;
+use crate::ranges::in_wing_range;
 use crate::spacing::is_clear;
 use crate::terms::Setting;
 use word::answer::Answer;
@@ -43,9 +45,27 @@ pub fn decide(rows: [[bool; 3]; 4]) -> Answer
     Answer::Refused(Refusal::OffGrid)
 }
 
-// The first ground that passes grid, range and spacing beside the words of the standing strikes; 4 where none does.
-fn first_ground(s: Setting, strike: Strike, standing: &[u32]) -> u32
+// Grid and range of each ground; the range counts only on the grid, and is false off it where it is not at hand. The spacing is still to be found.
+fn rows_of(s: Setting, strike: Strike) -> [[bool; 3]; 4]
     requires { ⌜ Judged s (strike .0) ⌝ }
+    ensures { λ r. ⌜ r ≡ openRows s (strike .0) ⌝ }
+{
+    let k = strike.cents();
+    let class = s.class;
+    let ranged = in_standard_range(s, strike);
+    let half = on_half(s, k);
+    let wing = on_wing(s, k);
+    [
+        [on_standard(class, k), ranged, false],
+        [on_dollar(s, k), ranged, false],
+        [half, half && in_half_range(class.close, strike), false],
+        [wing, wing && in_wing_range(s, strike), false],
+    ]
+}
+
+// The first ground that passes the grid and the range of its row, and the spacing beside the words of the standing strikes; 4 where none does.
+fn first_ground(s: Setting, strike: Strike, rows: [[bool; 3]; 4], standing: &[u32]) -> u32
+    requires { ⌜ Judged s (strike .0) × (rows ≡ openRows s (strike .0)) ⌝ }
     ensures { λ r. ⌜ r ≡ firstGround s (map standingIn (now (standing .entry))) (strike .0) ⌝ }
 {
     let mut g: u32 = 0;
@@ -53,7 +73,8 @@ fn first_ground(s: Setting, strike: Strike, standing: &[u32]) -> u32
         if g == 4 {
             break 'grounds 4;
         }
-        if on_grid(s, g, strike) & in_range(s, g, strike) {
+        let row = rows[g as usize];
+        if row[0] & row[1] {
             let mut i: usize = 0;
             'standing: loop {
                 if i == standing.len() {
@@ -70,26 +91,16 @@ fn first_ground(s: Setting, strike: Strike, standing: &[u32]) -> u32
     found
 }
 
-// Grid, range and spacing of the ground g, where the search found the first ground that passes: below it none passes all three, and the decision looks no further.
-fn row(s: Setting, strike: Strike, found: u32, g: u32) -> [bool; 3]
-    requires { ⌜ Judged s (strike .0) ⌝ }
-    ensures { λ r. ⌜ r ≡ gridOf s g (strike .0) ∷ rangeOf s g (strike .0) ∷ eqb g found ∷ [] ⌝ }
-{
-    [on_grid(s, g, strike), in_range(s, g, strike), g == found]
-}
-
-// The judgement of the strike beside the words of the standing strikes of its expiration.
+// The judgement of the strike beside the words of the standing strikes of its expiration. Below the ground that was found none passes all three, and the decision looks no further.
 pub fn judge(s: Setting, strike: Strike, standing: &[u32]) -> Answer
     requires { ⌜ Judged s (strike .0) ⌝ }
     ensures { λ r. ⌜ r ≡ judgement s (map standingIn (now (standing .entry))) (strike .0) ⌝ }
 {
-    let found = first_ground(s, strike, standing);
-    let rows = [
-        row(s, strike, found, 0),
-        row(s, strike, found, 1),
-        row(s, strike, found, 2),
-        row(s, strike, found, 3),
-    ];
+    let mut rows = rows_of(s, strike);
+    let found = first_ground(s, strike, rows, standing);
+    if found < 4 {
+        rows[found as usize] = [true, true, true];
+    }
     decide(rows)
 }
 
@@ -98,5 +109,5 @@ pub fn is_accepted(s: Setting, strike: Strike, standing: &[u32]) -> bool
     requires { ⌜ Judged s (strike .0) ⌝ }
     ensures { λ r. ⌜ r ≡ isAccepted (judgement s (map standingIn (now (standing .entry))) (strike .0)) ⌝ }
 {
-    first_ground(s, strike, standing) < 4
+    judge(s, strike, standing).number() == 0
 }

@@ -15,7 +15,7 @@ use crate::terms::is_long;
 use word::strike::Strike;
 
 // The last of the five lowest strikes above q, a strike of at most $20, on the range grid of Standard and Dollar.
-fn fifth_above(whole: bool, dollar: bool, q: u32) -> u32
+pub fn fifth_above(whole: bool, dollar: bool, q: u32) -> u32
     requires { ⌜ q ≤ 40 ⌝ }
     ensures { λ r. ⌜ r ≡ fifthAbove whole dollar q ⌝ }
 {
@@ -70,7 +70,7 @@ fn is_within_half(p: u32, k: u32) -> bool
 }
 
 // Whether the strike is in range as Standard or Dollar.
-fn in_standard_range(s: Setting, strike: Strike) -> bool
+pub fn in_standard_range(s: Setting, strike: Strike) -> bool
     requires { ⌜ (s .current ≤ 1023) × ((s .class .close ≤ 999999) × (strike .0 < 32768)) ⌝ }
     ensures { λ r. ⌜ r ≡ standardRange s (strike .0) ⌝ }
 {
@@ -83,7 +83,7 @@ fn in_standard_range(s: Setting, strike: Strike) -> bool
 }
 
 // Whether the strike is in range as Half.
-fn in_half_range(p: u32, strike: Strike) -> bool
+pub fn in_half_range(p: u32, strike: Strike) -> bool
     requires { ⌜ (p ≤ 999999) × (strike .0 < 32768) ⌝ }
     ensures { λ r. ⌜ r ≡ rangeBy halfDollars p (strike .0) ⌝ }
 {
@@ -94,17 +94,11 @@ fn in_half_range(p: u32, strike: Strike) -> bool
     (k <= 2 * p) | among_five_half_dollars(p, strike)
 }
 
-// Whether the strike is in range on the ground g.
-pub fn in_range(s: Setting, g: u32, strike: Strike) -> bool
+// Whether the strike is in range as a wing.
+pub fn in_wing_range(s: Setting, strike: Strike) -> bool
     requires { ⌜ Judged s (strike .0) ⌝ }
-    ensures { λ r. ⌜ r ≡ rangeOf s g (strike .0) ⌝ }
+    ensures { λ r. ⌜ r ≡ rangeOf s 3 (strike .0) ⌝ }
 {
-    if g < 2 {
-        return in_standard_range(s, strike);
-    }
-    if g == 2 {
-        return in_half_range(s.class.close, strike);
-    }
     let low = strike.cents() / 500 * 10;
     in_standard_range(s, Strike(low)) & in_standard_range(s, Strike(low + 10))
 }

@@ -1,7 +1,6 @@
 // Which words are no next strikes, told 64 words at a time: so that a stretch of strikes is passed at once, however long it is.
 ghost use mathlib.Core.Path.{_≡_};
 ghost use Prim.Native.Nat.{_+_, _-_, _<_, _≤_, suc};
-ghost use lib.Dec.{T};
 ghost use lib.ListN.{drop, getD, length, take};
 ghost use Rattle.word.specs.Codec.{kindOf};
 ghost use Rattle.scan.specs.Tests.{isNextStrike, nextLength, orderOf};

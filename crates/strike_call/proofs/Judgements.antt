@@ -1,12 +1,13 @@
 -- What `judge_found` and `judge_at` answer: each test on the way is the condition of the facts, and the words of the expiration's strikes read as those that stand. Assumes nothing.
 use Prim.Native.Nat.{ℕ, _-_, _≤_}
-use mathlib.Core.Path.{_≡_, sym, ap, _∙_}
+use mathlib.Core.Path.{_≡_, sym, ap, subst, _∙_}
 use mathlib.Core.Bool.{true, false, not}
 use mathlib.Core.List.{List, map}
 use native.Mathlib.Omega.{arith}
 use lib.Dec.{T, ltb, leb→le}
 use lib.ListN.{length, take, drop}
 use borrow.Author.Tests.{eq-eqb, ne-eqb}
+use Rattle.word.specs.declared.class.ClassRecord.{ClassRecord}
 use Rattle.word.specs.declared.answer.Answer.{Answer}
 use Rattle.word.specs.declared.answer.Answer.the-variants.{Refused}
 use Rattle.word.specs.declared.answer.Refusal.the-variants.{BeyondLimits, NotOpen, MonthOutside, AlreadyStanding, NoClose}
@@ -14,31 +15,39 @@ use Rattle.rule.specs.declared.terms.Setting.{Setting}
 use Rattle.rule.specs.Terms.{isOutside}
 use Rattle.rule.specs.Spacing.{standingIn as standingOf}
 use Rattle.rule.specs.Judgement.{judgement}
-use Rattle.book.specs.Facts.{isOpen}
+use Rattle.book.specs.Facts.{isOpen, inMonth}
 use Rattle.book.specs.Layout.{factsOf}
 use Rattle.book.specs.Books.{isBook}
 use Rattle.book.specs.Calls.{callJ, isWritten, class, setting, standingIn}
 use Rattle.book.proofs.Tests.{ands, T-true}
+use Rattle.book.proofs.Lists.{length-only}
 use Rattle.book.proofs.Layouts.{book-facts}
 use Rattle.book.proofs.ClassWords.{class-good}
-use Rattle.book.proofs.Runs.{strikes-within, used-within, strikes-standing, expiration-strikes}
+use Rattle.book.proofs.Runs.{strikes-within, used-within, expiration-strikes}
 use Rattle.place.specs.declared.lookup.StrikeSearch.{StrikeSearch}
 use Rattle.place.specs.declared.lookup.StrikeLookup.the-variants.{NotOpen as NoStrike, Open as OpenStrike}
 use Rattle.place.specs.Lookups.{strikeSearchOf, strikeLookupOf}
+use Rattle.place.specs.Search.{figuresAt}
 use Rattle.place.proofs.Answers.{strike-open, strike-not-open}
+use Rattle.place.proofs.Found.{class-room, figures-found}
 use Rattle.strike_call.specs.Judging.{Sought, foundAnswer, judgedAnswer, Judges}
 use Rattle.strike_call.proofs.Standing.{passed}
+use Rattle.strike_call.proofs.StrikeWords.{Lent, judged-near}
 
 -- ---- a strike that was looked up
 
 module _
     (w : List ℕ) (book : T (isBook w)) (c m h : ℕ) (o : T (isOpen c (factsOf w .classes))) (r : StrikeSearch)
-    (e : r ≡ strikeSearchOf c m h (factsOf w)) (current : ℕ) (d : current ≡ factsOf w .now) where
+    (e : r ≡ strikeSearchOf c m h (factsOf w)) (figures : ClassRecord) (g : figures ≡ figuresAt (r .class) w)
+    (current : ℕ) (d : current ≡ factsOf w .now) where
   abbrev here : Setting
-  here = record { class = r .figures; current = current; month = m }
+  here = record { class = figures; current = current; month = m }
+
+  figures-are : figures ≡ class (factsOf w) c .figures
+  figures-are = g ∙ figures-found w book c o (r .class) (ap (λ (x : StrikeSearch). x .class) e)
 
   is-here : here ≡ setting (factsOf w) c m
-  is-here i = record { class = e i .figures; current = d i; month = m }
+  is-here i = record { class = figures-are i; current = d i; month = m }
 
   pub found-outside : isOutside here ≡ true → Refused MonthOutside ≡ foundAnswer c m h (factsOf w)
   unfolding foundAnswer
@@ -50,10 +59,10 @@ module _
     found-standing s = rw (sym (ap isOutside is-here) ∙ t, sym (ap (λ (x : StrikeSearch). x .standing) e) ∙ s)
 
     module _ (s : r .standing ≡ false) where
-      close-is : r .figures .close ≡ class (factsOf w) c .figures .close
-      close-is i = e i .figures .close
+      close-is : figures .close ≡ class (factsOf w) c .figures .close
+      close-is i = figures-are i .close
 
-      pub found-no-close : r .figures .close ≡ 0 → Refused NoClose ≡ foundAnswer c m h (factsOf w)
+      pub found-no-close : figures .close ≡ 0 → Refused NoClose ≡ foundAnswer c m h (factsOf w)
       unfolding foundAnswer
       found-no-close z =
           rw (
@@ -62,23 +71,20 @@ module _
             eq-eqb (class (factsOf w) c .figures .close) 0 (sym close-is ∙ z),
           )
 
-      standing-here : map standingOf (take (r .to - r .from) (drop (r .from) w)) ≡ standingIn (factsOf w) c m
-      standing-here =
-          let b = book-facts w book in
-          (λ i. map standingOf (take (e i .to - e i .from) (drop (e i .from) (sym (b .1) i))))
-          ∙ strikes-standing (length w) (factsOf w) c m (b .0) o
-
       pub found-judged :
-          (r .figures .close ≡ 0 → ⊥) → (x : Answer)
-          → x ≡ judgement here (map standingOf (take (r .to - r .from) (drop (r .from) w))) h
+          (figures .close ≡ 0 → ⊥) → (start stop : ℕ) → Lent (r .from) (r .at) (r .to) start stop → (x : Answer)
+          → x ≡ judgement here (map standingOf (take (stop - start) (drop start w))) h
           → x ≡ foundAnswer c m h (factsOf w)
       unfolding foundAnswer
-      found-judged n x k =
-          k
-          ∙ (λ i. judgement (is-here i) (standing-here i) h)
+      found-judged n start stop part x y =
+          let absent = sym (ap (λ (z : StrikeSearch). z .standing) e) ∙ s in
+          y
+          ∙ judged-near w book c m o (r .from) (r .to) (ap (λ (z : StrikeSearch). z .from) e) (ap (λ (z : StrikeSearch). z .to) e)
+          h absent here (r .at) start stop (ap (λ (z : StrikeSearch). z .at) e) part
+          ∙ ap (λ (t : Setting). judgement t (standingIn (factsOf w) c m) h) is-here
           ∙ rw (
             sym (ap isOutside is-here) ∙ t,
-            sym (ap (λ (y : StrikeSearch). y .standing) e) ∙ s,
+            absent,
             ne-eqb (class (factsOf w) c .figures .close) 0 (λ z. n (close-is ∙ z)),
           )
 
@@ -114,13 +120,17 @@ module _ (w : List ℕ) (book : T (isBook w)) (c m h : ℕ) where
           let good = class-good (length w) (factsOf w) c b (x .0) in
           let limits = passed (isWritten (callJ c m h)) l in
           let close : class (factsOf w) c .figures .close ≤ 999999 = leb→le (class (factsOf w) c .figures .close) 999999 (search ands) in
+          let here = ap (λ (y : StrikeSearch). y .class) (x .1) in
           let from = ap (λ (y : StrikeSearch). y .from) (x .1) in
+          let at = ap (λ (y : StrikeSearch). y .at) (x .1) in
           let to = ap (λ (y : StrikeSearch). y .to) (x .1) in
           record {
             book = book;
             strike = leb→le h 19999 (search ands);
-            close = rw (ap (λ (y : StrikeSearch). y .figures .close) (x .1)) close;
-            order = omega arith;
+            room = omega (arith, here, class-room w book c (x .0), used-within (length w) (factsOf w) b);
+            close = subst (λ (y : ClassRecord). y .close ≤ 999999) (sym (figures-found w book c (x .0) (r .class) here)) close;
+            start = omega arith;
+            stop = omega (arith, length-only (λ s. ltb (s .strike) h) (inMonth m (class (factsOf w) c .series)));
             within =
                 omega (
                   arith,

@@ -1,5 +1,5 @@
 -- One law for each way out of `X` and `I`, which ask for a strike that stands: the number by the tests on the way, the words by what the inner function leaves. Assumes nothing.
-use Prim.Native.Nat.{ℕ, _<_}
+use Prim.Native.Nat.{ℕ, _+_, _≤_, _<_}
 use mathlib.Core.Path.{_≡_, refl, sym, ap, _∙_}
 use mathlib.Core.Bool.{Bool, true, false, cond, not, _&&_}
 use mathlib.Core.List.{List, []}
@@ -12,10 +12,10 @@ use Rattle.word.specs.declared.answer.Refusal.the-variants.{BeyondLimits, NotOp
 use Rattle.word.specs.Field.{field}
 use Rattle.word.specs.Limits.{isStrike, isMonth, isClassNumber, isMark}
 use Rattle.book.specs.Facts.{isOpen}
-use Rattle.book.specs.Layout.{layout, factsOf}
+use Rattle.book.specs.Layout.{used, layout, factsOf}
 use Rattle.book.specs.Books.{isBook}
 use Rattle.book.specs.Calls.{callJ, callX, callI, Call, isWritten, isNotOpen, isStanding, hasOpenInterest, changed, conditions, numberOf, listed, acceptedValue}
-use Rattle.book.specs.Places.{strikePlace}
+use Rattle.book.specs.Places.{strikesPlace, strikesEnd, strikePlace}
 use Rattle.book.specs.Made.{Made}
 use Rattle.book.proofs.Tests.{true-T, T-true}
 use Rattle.book.proofs.Layouts.{book-facts}
@@ -23,7 +23,7 @@ use Rattle.book.proofs.Runs.{strikes-within, strike-stands, interest-says, used
 use Rattle.book.proofs.Answered.{made-refused, made-accepted}
 use Rattle.place.specs.declared.lookup.StrikeSearch.{StrikeSearch}
 use Rattle.place.specs.declared.lookup.StrikeLookup.the-variants.{NotOpen as NoStrike, Open as OpenStrike}
-use Rattle.place.specs.Lookups.{strikeLookupOf}
+use Rattle.place.specs.Lookups.{strikeSearchOf, strikeLookupOf}
 use Rattle.place.proofs.Answers.{strike-open, strike-not-open}
 
 pub passed : (b : Bool) → not b ≡ false → T b
@@ -35,27 +35,36 @@ module _ (w : List ℕ) (book : T (isBook w)) (c m h : ℕ) (r : StrikeSearch) (
   pub class-open : T (isOpen c (factsOf w .classes))
   class-open = strike-open c (factsOf w) m h r e .0
 
+  found : r ≡ strikeSearchOf c m h (factsOf w)
+  found = strike-open c (factsOf w) m h r e .1
+
   said : r .standing ≡ isStanding (factsOf w) c m h
-  said = ap (λ (x : StrikeSearch). x .standing) (strike-open c (factsOf w) m h r e .1)
+  said = ap (λ (x : StrikeSearch). x .standing) found
 
   pub found-place : r .at ≡ strikePlace c m h (factsOf w)
-  found-place = ap (λ (x : StrikeSearch). x .at) (strike-open c (factsOf w) m h r e .1)
+  found-place = ap (λ (x : StrikeSearch). x .at) found
+
+  pub found-alone : eqb (r .to) (r .from + 1) ≡ eqb (strikesEnd c m (factsOf w)) (strikesPlace c m (factsOf w) + 1)
+  found-alone = ap (λ (x : StrikeSearch). eqb (x .to) (x .from + 1)) found
 
   module _ (s : not (r .standing) ≡ false) where
     pub strike-standing : T (isStanding (factsOf w) c m h)
     strike-standing = passed (isStanding (factsOf w) c m h) (ap not (sym said) ∙ s)
 
-    pub place-within : r .at < length w
-    place-within =
+    pub place-used : (2 ≤ r .at) × ((r .from ≤ r .at) × (r .at < used (factsOf w)))
+    place-used =
         let b = book-facts w book .0 in
         let x = strike-stands (length w) (factsOf w) c m h b class-open strike-standing in
         omega (
           arith,
           x .1 .within,
+          ap (λ (y : StrikeSearch). y .from) found,
           found-place,
           strikes-within (length w) (factsOf w) c m b class-open,
-          used-within (length w) (factsOf w) b,
         )
+
+    pub place-within : r .at < length w
+    place-within = omega (arith, place-used, used-within (length w) (factsOf w) (book-facts w book .0))
 
 -- ---- the ways out
 

@@ -1,5 +1,5 @@
 -- Document 01, "Who draws which number": what `J` answers, as a value, and where `L` puts the strike. Assumes nothing.
-use Prim.Native.Nat.{ℕ, _≤_}
+use Prim.Native.Nat.{ℕ, _+_, _≤_, _<_}
 use mathlib.Core.Path.{_≡_}
 use mathlib.Core.Bool.{cond, not}
 use mathlib.Core.List.{List}
@@ -15,14 +15,17 @@ use Rattle.book.specs.Books.{isBook}
 use Rattle.book.specs.Calls.{callJ, isWritten, setting, standingIn, isNotOpen, isStanding, hasNoClose}
 use Rattle.book.specs.Places.{hasExpiration, strikePlace}
 use Rattle.place.specs.declared.lookup.StrikeSearch.{StrikeSearch}
+use Rattle.place.specs.Search.{figuresAt}
 use Rattle.strike_call.specs.declared.Judged.{Judged}
 
--- what can be judged: a strike within its limits, among strikes of the run ws
+-- what can be judged: a strike within its limits, and its place among strikes of the run ws
 pub record Sought (h : ℕ) (ws : List ℕ) (found : StrikeSearch) : Type 0 where
   pub book : T (isBook ws)
   pub strike : h ≤ 19999
-  pub close : found .figures .close ≤ 999999
-  pub order : found .from ≤ found .to
+  pub room : found .class + 2 < length ws
+  pub close : figuresAt (found .class) ws .close ≤ 999999
+  pub start : found .from ≤ found .at
+  pub stop : found .at ≤ found .to
   pub within : found .to ≤ length ws
 
 -- of an open class: the first of the refusals before the rules that applies, else the judgement

@@ -6,22 +6,20 @@ ghost use lib.Dec.{T};
 ghost use lib.ListN.{length};
 ghost use Rattle.place.specs.Lookups.{strikeSearchOf};
 ghost use Rattle.book.specs.Books.{isBook};
-ghost use Rattle.book.specs.Calls.{callA, callI, callJ, callL, callX, changed, isWritten};
+ghost use Rattle.book.specs.Calls.{callA, callI, callJ, callL, callX, isWritten};
 ghost use Rattle.book.specs.Facts.{isOpen};
-ghost use Rattle.book.specs.Layout.{factsOf, layout};
+ghost use Rattle.book.specs.Layout.{factsOf};
 ghost use Rattle.book.specs.Made.{Made};
 ghost use Rattle.strike_call.specs.Judging.{Judges, Sought, foundAnswer};
 use edit::insert_strike;
 use edit::store_marks;
 use place::head;
 use place::lookup::ExpirationLookup;
-use place::lookup::Lookup;
 use place::lookup::StrikeLookup;
 use place::lookup::StrikeSearch;
-use place::lookup::look_up;
+use place::lookup::figures_at;
 use place::lookup::look_up_expiration;
 use place::lookup::look_up_strike;
-use place::lookup::next_class;
 use removal::delist;
 use rule::judgement::judge;
 use rule::terms::Setting;
@@ -49,13 +47,14 @@ fn is_written(c: u32, m: u32, h: u32) -> bool
     is_class_number(c) & (is_month(m) & is_strike(h))
 }
 
-// What the conditions before the rules and then the rules say of a strike that was looked up: 5, 6, 8, 11, 12, 13 or its ground.
+// What the conditions before the rules and then the rules say of a strike that was looked up: 5, 6, 8, 11, 12, 13 or its ground. Of the standing strikes only those within $1 bear on it:
+// they are among the two below it and the two above.
 fn judge_found(run: &[u32], found: StrikeSearch, m: u32, h: u32) -> Answer
     requires { ⌜ Sought h (now run) found ⌝ }
     ensures { λ r. ⌜ (let f = factsOf (now (run .entry)) in
         (c : ℕ) → T (isOpen c (f .classes)) → found ≡ strikeSearchOf c m h f → r ≡ foundAnswer c m h f) ⌝ }
 {
-    let class = found.figures;
+    let class = figures_at(run, found.class);
     let setting = Setting {
         class,
         current: head::current(run),
@@ -70,8 +69,13 @@ fn judge_found(run: &[u32], found: StrikeSearch, m: u32, h: u32) -> Answer
     if class.close == 0 {
         return Answer::Refused(Refusal::NoClose);
     }
-    let from = found.from;
-    let to = found.to;
+    let at = found.at;
+    let from = if at - found.from < 2 {
+        found.from
+    } else {
+        at - 2
+    };
+    let to = if found.to - at < 2 { found.to } else { at + 2 };
     judge(setting, Strike(h), &run[from..to])
 }
 
@@ -128,19 +132,6 @@ pub fn list_strike(run: &mut [u32], c: u32, m: u32, h: u32) -> Answer
     answer
 }
 
-// The strike h of the month m goes from the open class c.
-fn remove_strike(run: &mut [u32], c: u32, m: u32, h: u32)
-    requires { ⌜ T (isBook (now run)) × T (isOpen c (factsOf (now run) .classes)) ⌝ }
-    ensures { λ _. ⌜ now (run .exit) ≡ layout (length (now (run .entry))) (changed (callX c m h) (factsOf (now (run .entry)))) ⌝ }
-{
-    let search = look_up(run, c);
-    if let Lookup::Open(at, _) = search {
-        let from = at + 3;
-        let to = next_class(run, from);
-        delist(run, from, to, m, h);
-    }
-}
-
 // `X`: delists a strike.
 pub fn delist_strike(run: &mut [u32], c: u32, m: u32, h: u32) -> Answer
     requires { ⌜ T (isBook (now run)) ⌝ }
@@ -160,7 +151,7 @@ pub fn delist_strike(run: &mut [u32], c: u32, m: u32, h: u32) -> Answer
     if field_of(run[at], 18, 2) != 0 {
         return Answer::Refused(Refusal::OpenInterest);
     }
-    remove_strike(run, c, m, h);
+    delist(run, at, found.to == found.from + 1);
     Answer::Done
 }
 
@@ -195,7 +186,7 @@ pub fn list_permitted(run: &[u32], second: &mut [u32], c: u32, m: u32) -> Answer
     let ExpirationLookup::Open(found) = search else {
         return Answer::Refused(Refusal::NotOpen);
     };
-    let class = found.figures;
+    let class = figures_at(run, found.class);
     let setting = Setting {
         class,
         current: head::current(run),

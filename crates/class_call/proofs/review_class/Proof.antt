@@ -56,7 +56,7 @@ next-class-requires c κs =
     let k = c .before .before .before .before in
     let l = k .before .before in
     let book = l .before .before .before .before .before .pre in
-    (book, found-within _ book _ _ _ (sym (l .look-up .ensures) ∙ k .found .given .1))
+    (book, (omega arith, found-within _ book _ _ _ (sym (l .look-up .ensures) ∙ k .found .given .1)))
 
 review-requires : tie.Need-review-requires
 review-requires c κs = search needs

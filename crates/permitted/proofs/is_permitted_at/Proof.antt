@@ -1,6 +1,7 @@
 -- `is_permitted_at` meets its contract: only the words near the strike bear on it, which the search parts from the rest. Assumes nothing.
+use mathlib.Core.Path.{_∙_, sym}
 use borrow.Author.Needs.{needs}
-use Rattle.permitted.proofs.Strikes.{near-start, near-end, near-permits}
+use Rattle.permitted.proofs.Strikes.{ahead-found, near-permits}
 use Rattle.permitted.proofs.is_permitted_at.Statement.{statement}
 use Rattle.permitted.proofs.is_permitted_at.Tie as tie
 
@@ -14,13 +15,13 @@ mul-near : tie.Need-mul-near
 mul-near c = search needs
 
 sub-near : tie.Need-sub-near
-sub-near c = near-start _ _ _ _ _ (c .before .before .pre) (c .strike-from .ensures)
+sub-near c = ahead-found (c .before .before .pre) _ (c .strike-from .ensures) .start
 
 part-near-start : tie.Need-part-near-start
-part-near-start c = near-start _ _ _ _ _ (c .before .before .pre) (c .strike-from .ensures)
+part-near-start c = ahead-found (c .before .before .pre) _ (c .strike-from .ensures) .start
 
 part-near-end : tie.Need-part-near-end
-part-near-end c = near-end _ _ _ _ _ (c .before .before .pre) (c .strike-from .ensures)
+part-near-end c = ahead-found (c .before .before .pre) _ (c .strike-from .ensures) .end
 
 is-absent-requires : tie.Need-is-absent-requires
 is-absent-requires c κs = search needs
@@ -30,10 +31,17 @@ is-accepted-requires c κs = search needs
 
 returns : tie.Need-returns
 returns c =
-    let l = c .before .before .before in
-    rw
-    (c .before .is-absent .ensures, c .is-accepted .ensures)
-    (near-permits _ _ _ _ _ (l .before .before .pre) (l .strike-from .ensures))
+    let found = c .before .before .before .before in
+    let absent = sym (c .before .before .is-absent .ensures) ∙ c .before .if1 .taken in
+    let triable = found .before .before .pre in
+    c .is-accepted .ensures ∙ (rw absent at (near-permits triable (ahead-found triable _ (found .strike-from .ensures))))
+
+returns-2 : tie.Need-returns-2
+returns-2 c =
+    let found = c .before .before .before in
+    let absent = sym (c .before .is-absent .ensures) ∙ c .if1 .left in
+    let triable = found .before .before .pre in
+    c .if1 .left ∙ (rw absent at (near-permits triable (ahead-found triable _ (found .strike-from .ensures))))
 
 pub is-permitted-at-spec : {M : Type 1} → statement M
 is-permitted-at-spec =
@@ -47,4 +55,5 @@ is-permitted-at-spec =
     part-near-end
     is-absent-requires
     is-accepted-requires
-    returns)
+    returns
+    returns-2)

@@ -1,90 +1,140 @@
--- `write_permitted` meets its contract: below the strike that is tried all permitted ones are written (`Trying`). Assumes nothing.
-use mathlib.Core.Path.{_∙_, sym}
-use mathlib.Core.Logic.{⊎-elim}
-use Prim.Native.Nat.{_-_}
+-- `write_permitted` meets its contract: the four parts that it writes are all permitted strikes (`written-all`). Assumes nothing.
+use mathlib.Core.Path.{ap, ap₂, _∙_}
+use mathlib.Core.Bool.{Bool, not, _&&_}
+use lib.ListN.{length}
+use lib.Seq.{length-sets}
 use borrow.Author.Needs.{needs}
-use Rattle.permitted.proofs.Trying.{Trying, trying-start, trying-here, trying-taken, trying-skipped, trying-done}
+use Rattle.rule.proofs.Bound.{high-strike, half-within}
+use Rattle.rule.proofs.Steps.{end-most}
+use Rattle.permitted.proofs.Parts.{Ends, written-all, can-halves, can-fine, can-fives, can-tens}
 use Rattle.permitted.proofs.write_permitted.Statement.{statement}
 use Rattle.permitted.proofs.write_permitted.Tie as tie
 
-abbrev Inv-loop : tie.InvT-loop
-Inv-loop s standing out₀ high step from₀ count₀ h₀ out from count h = Trying s standing out₀ high step out from count h
-
-abbrev μ-loop : tie.MeasureT-loop
-μ-loop s standing out₀ high step from₀ count₀ h₀ out from count h = 20000 - h
-
-highest-permitted-requires : tie.Need-highest-permitted-requires Inv-loop μ-loop
-highest-permitted-requires c κs = search needs
-
-stride-requires : tie.Need-stride-requires Inv-loop μ-loop
-stride-requires c κs = search needs
-
-lowest-permitted-requires : tie.Need-lowest-permitted-requires Inv-loop μ-loop
-lowest-permitted-requires c κs = search needs
-
-loop-holds : tie.Need-loop-holds Inv-loop μ-loop
-loop-holds c =
-    trying-start _ _ _ _ _ _ (c .before .before .highest-permitted .ensures) (c .before .stride .ensures) (c .lowest-permitted .ensures)
-
-is-permitted-at-requires : tie.Need-is-permitted-at-requires Inv-loop μ-loop
-is-permitted-at-requires c κs =
-    trying-here _ _ (c .before .loop .inv) (c .before .before .before .before .before .before .before .before .pre) (c .loop-test .taken)
-
-cast-put : tie.Need-cast-put Inv-loop μ-loop
-cast-put c = search needs
-
-put-requires : tie.Need-put-requires Inv-loop μ-loop
-put-requires c κs = search needs
-
-add-count : tie.Need-add-count Inv-loop μ-loop
-add-count c = search needs
-
-add-h : tie.Need-add-h Inv-loop μ-loop
-add-h c = search needs
-
-sub-strike-from : tie.Need-sub-strike-from Inv-loop μ-loop
-sub-strike-from c = search needs
-
-strike-from-requires : tie.Need-strike-from-requires Inv-loop μ-loop
-strike-from-requires c κs = search needs
-
-loop-less : tie.Need-loop-less Inv-loop μ-loop
-loop-less c = search needs
-
-loop-again : tie.Need-loop-again Inv-loop μ-loop
-loop-again c =
+ends : (c : tie.After-fine-end) →
+    Ends (c .before .before .before .before .before .before .before .before .args .s) (c .before .before .before .before .half-end .result) (c .before .before .higher-of .result)
+    (c .before .high-end .result) (c .fine-end .result)
+ends c =
     let l = c .before .before .before in
-    let answer = sym (c .before .before .is-permitted-at .ensures) in
-    ⊎-elim
-    (λ w.
-    rw (w .5, w .6, w .2 .ensures) (trying-taken _ _ (l .before .loop .inv) (l .loop-test .taken) (answer ∙ w .0 .taken) _ (c .strike-from .ensures)))
-    (λ w. rw (w .1, w .2) (trying-skipped _ _ (l .before .loop .inv) (l .loop-test .taken) (answer ∙ w .0 .left) _ (c .strike-from .ensures)))
-    (c .before .if1 .came)
+    record {
+      half-is = l .before .half-end .ensures;
+      low-is = c .before .before .higher-of .ensures ∙ rw (l .low-end .ensures);
+      high-is = c .before .high-end .ensures;
+      end-is = c .fine-end .ensures;
+    }
 
-same-length : tie.Need-same-length Inv-loop μ-loop
-same-length c = search needs
+half-end-requires : tie.Need-half-end-requires
+half-end-requires c κs = search needs
 
-returns : tie.Need-returns Inv-loop μ-loop
-returns c = trying-done _ _ (c .before .loop .inv) (c .loop-test .left)
+low-end-requires : tie.Need-low-end-requires
+low-end-requires c κs = search needs
+
+add-higher-of : tie.Need-add-higher-of
+add-higher-of c =
+    let s = c .before .before .before .before .before .args .s in
+    let half = half-within s in
+    let most = high-strike s in
+    search needs
+
+higher-of-requires : tie.Need-higher-of-requires
+higher-of-requires c κs = search needs
+
+high-end-requires : tie.Need-high-end-requires
+high-end-requires c κs = search needs
+
+fine-end-requires : tie.Need-fine-end-requires
+fine-end-requires c κs = search needs
+
+is-long-requires : tie.Need-is-long-requires
+is-long-requires c κs = search needs
+
+is-program-class-requires : tie.Need-is-program-class-requires
+is-program-class-requires c κs = search needs
+
+write-multiples-requires : tie.Need-write-multiples-requires
+write-multiples-requires c κs =
+    let f = c .before .before .before in
+    can-halves _ (ends f) (f .before .before .before .before .before .before .before .before .pre)
+
+lower-of-requires : tie.Need-lower-of-requires
+lower-of-requires c κs = search needs
+
+fine-step-requires : tie.Need-fine-step-requires
+fine-step-requires c κs = search needs
+
+write-multiples-requires-2 : tie.Need-write-multiples-requires-2
+write-multiples-requires-2 c κs =
+    let m = c .before .before .before .before .before in
+    let p = m .before .before in
+    let f = p .before .before in
+    can-fine _ (ends f) (f .before .before .before .before .before .before .before .before .pre)
+    (ap₂ (λ (t u : Bool). not (t && u)) (p .before .is-long .ensures) (p .is-program-class .ensures))
+    (c .before .before .lower-of .ensures) (c .before .fine-step .ensures) (m .write-multiples .ensures)
+
+add-higher-of-2 : tie.Need-add-higher-of-2
+add-higher-of-2 c =
+    let f = c .before .before .before .before .before .before .before .before .before .before .before .before in
+    let most = end-most (f .before .before .before .before .before .before .before .before .args .s .class) in
+    search needs
+
+higher-of-requires-2 : tie.Need-higher-of-requires-2
+higher-of-requires-2 c κs = search needs
+
+lower-of-requires-2 : tie.Need-lower-of-requires-2
+lower-of-requires-2 c κs = search needs
+
+write-multiples-requires-3 : tie.Need-write-multiples-requires-3
+write-multiples-requires-3 c κs =
+    let m = c .before .before .before .before .before in
+    let t = m .before .before .before in
+    let f = t .before .before .before .before .before .before .before in
+    can-fives _ (ends f) (f .before .before .before .before .before .before .before .before .pre) (t .lower-of .ensures) (c .before .before .higher-of2 .ensures) (c .before .lower-of2 .ensures)
+    (m .write-multiples2 .ensures)
+
+higher-of-requires-3 : tie.Need-higher-of-requires-3
+higher-of-requires-3 c κs = search needs
+
+write-multiples-requires-4 : tie.Need-write-multiples-requires-4
+write-multiples-requires-4 c κs =
+    let m = c .before .before .before .before in
+    let t = m .before .before in
+    let f = t .before .before .before .before .before .before .before .before .before .before .before .before .before .before in
+    can-tens _ (ends f) (f .before .before .before .before .before .before .before .before .pre) (t .before .higher-of2 .ensures) (t .lower-of2 .ensures) (c .before .higher-of3 .ensures)
+    (m .write-multiples3 .ensures)
+
+returns : tie.Need-returns
+returns c =
+    let tens = c .before .before in
+    let fives = tens .before .before .before .before .before in
+    let fine = fives .before .before .before .before .before .before in
+    let halves = fine .before .before .before .before .before .before in
+    written-all _ (ends (halves .before .before .before .before)) (fine .before .before .before .lower-of .ensures) (fives .before .before .before .higher-of2 .ensures)
+    (fives .before .before .lower-of2 .ensures) (tens .before .before .higher-of3 .ensures)
+    (halves .write-multiples .ensures) (fine .write-multiples2 .ensures) (fives .write-multiples3 .ensures) (tens .write-multiples4 .ensures)
+
+same-length : tie.Need-same-length
+same-length c = ap length (returns c .1) ∙ simp length-sets
 
 pub write-permitted-spec : {M : Type 1} → statement M
 write-permitted-spec =
     tie.close
     (tie.spec
-    Inv-loop
-    μ-loop
-    highest-permitted-requires
-    stride-requires
-    lowest-permitted-requires
-    loop-holds
-    is-permitted-at-requires
-    cast-put
-    put-requires
-    add-count
-    add-h
-    sub-strike-from
-    strike-from-requires
-    loop-less
-    loop-again
+    half-end-requires
+    low-end-requires
+    add-higher-of
+    higher-of-requires
+    high-end-requires
+    fine-end-requires
+    is-long-requires
+    is-program-class-requires
+    write-multiples-requires
+    lower-of-requires
+    fine-step-requires
+    write-multiples-requires-2
+    add-higher-of-2
+    higher-of-requires-2
+    lower-of-requires-2
+    write-multiples-requires-3
+    higher-of-requires-3
+    write-multiples-requires-4
     same-length
     returns)

@@ -64,7 +64,7 @@ returns c = λ head a b d e P.
     let closing = c .before .before .before .close-gap in
     let x = s .args in
     rw (c .head-word .ensures)
-    (removed-parts (x .rule) (x .month) (x .run .now) (x .from) (x .to) (x .end) head a b d e P (kept .last .0)
+    (removed-parts (x .close) (x .month) (x .run .now) (x .from) (x .to) (x .end) head a b d e P (kept .last .0)
     (closing .last .0) _ _ (kept .ensures) (closing .ensures))
 
 pub remove-spec : {M : Type 1} → statement M

@@ -3,9 +3,10 @@ use mathlib.Core.Path.{sym, ap, _∙_}
 use mathlib.Core.Bool.{not}
 use native.Mathlib.Omega.{arith}
 use borrow.Author.Needs.{needs}
-use Rattle.book.specs.Calls.{callX}
-use Rattle.place.proofs.Heads.{book-long}
-use Rattle.strike_call.proofs.Standing.{class-open, place-within, beyond, not-open, not-standing, delist-number, delist-marked, delist-done}
+use Rattle.book.specs.Calls.{callX, isWritten}
+use Rattle.book.proofs.Tests.{ands}
+use Rattle.place.proofs.Heads.{book-room, book-long}
+use Rattle.strike_call.proofs.Standing.{passed, class-open, found-place, found-alone, strike-standing, place-used, place-within, beyond, not-open, not-standing, delist-number, delist-marked, delist-done}
 use Rattle.strike_call.proofs.delist_strike.Statement.{statement}
 use Rattle.strike_call.proofs.delist_strike.Tie as tie
 
@@ -23,7 +24,12 @@ returns c =
     (delist-number w (s .pre) (a .c) (a .m) (a .h)) limits
 
 look-up-strike-requires : tie.Need-look-up-strike-requires
-look-up-strike-requires c κs = search needs
+look-up-strike-requires c κs =
+    let k = c .before .before in
+    let s = k .before .before in
+    let a = s .args in
+    let limits = passed (isWritten (callX (a .c) (a .m) (a .h))) (ap not (sym (k .is-written .ensures)) ∙ c .before .if1 .left) in
+    (s .pre, search ands)
 
 enum-known-search : tie.Need-enum-known-search
 enum-known-search c = search needs
@@ -104,20 +110,38 @@ returns-4 c =
     delist-marked w (s .pre) (a .c) (a .m) (a .h) _ (sym (l .look-up-strike .ensures) ∙ q .search .given .1) (t .if2 .left) limits
     (λ z. c .if3 .taken (i .field-of .ensures ∙ z))
 
-remove-strike-requires : tie.Need-remove-strike-requires
-remove-strike-requires c κs =
-    let q = c .before .before .before .before .before .before .before in
+add-delist : tie.Need-add-delist
+add-delist c =
+    let t = c .before .before .before .before .before in
+    let q = t .before .before .before in
     let l = q .before .before in
     let s = l .before .before .before .before .before in
     let a = s .args in
-    (s .pre, class-open (a .run .now) (s .pre) (a .c) (a .m) (a .h) _ (sym (l .look-up-strike .ensures) ∙ q .search .given .1))
+    let w = a .run .now in
+    omega (
+      arith,
+      place-used w (s .pre) (a .c) (a .m) (a .h) _ (sym (l .look-up-strike .ensures) ∙ q .search .given .1) (t .if2 .left),
+      book-room w (s .pre),
+      book-long w (s .pre),
+    )
+
+delist-requires : tie.Need-delist-requires
+delist-requires c κs =
+    let t = c .before .before .before .before .before .before in
+    let q = t .before .before .before in
+    let l = q .before .before in
+    let s = l .before .before .before .before .before in
+    let a = s .args in
+    let p = place-used (a .run .now) (s .pre) (a .c) (a .m) (a .h) _ (sym (l .look-up-strike .ensures) ∙ q .search .given .1) (t .if2 .left) in
+    (s .pre, (p .0, p .1 .1))
 
 same-length-4 : tie.Need-same-length-4
 same-length-4 c = search needs
 
 returns-5 : tie.Need-returns-5
 returns-5 c =
-    let u = c .before .before .before .before in
+    let d = c .before .before in
+    let u = d .before .before .before .before in
     let i = u .before in
     let t = i .before .before in
     let q = t .before .before .before in
@@ -127,8 +151,11 @@ returns-5 c =
     let a = s .args in
     let w = a .run .now in
     let limits = ap not (sym (k .is-written .ensures)) ∙ l .before .before .if1 .left in
-    delist-done w (s .pre) (a .c) (a .m) (a .h) _ (sym (l .look-up-strike .ensures) ∙ q .search .given .1) (t .if2 .left) limits
-    (sym (i .field-of .ensures) ∙ u .if3 .left) _ (c .before .before .remove-strike .ensures)
+    let e = sym (l .look-up-strike .ensures) ∙ q .search .given .1 in
+    delist-done w (s .pre) (a .c) (a .m) (a .h) _ e (t .if2 .left) limits (sym (i .field-of .ensures) ∙ u .if3 .left) _
+    (d .delist .ensures (a .c) (a .m) (a .h) (class-open w (s .pre) (a .c) (a .m) (a .h) _ e)
+    (strike-standing w (s .pre) (a .c) (a .m) (a .h) _ e (t .if2 .left))
+    (found-place w (s .pre) (a .c) (a .m) (a .h) _ e) (found-alone w (s .pre) (a .c) (a .m) (a .h) _ e))
 
 pub delist-strike-spec : {M : Type 1} → statement M
 delist-strike-spec =
@@ -148,6 +175,7 @@ delist-strike-spec =
     field-of-requires
     same-length-3
     returns-4
-    remove-strike-requires
+    add-delist
+    delist-requires
     same-length-4
     returns-5)

@@ -2,8 +2,11 @@
 use mathlib.Core.Path.{sym, ap, _∙_}
 use mathlib.Core.Bool.{not}
 use borrow.Author.Needs.{needs}
+use Rattle.book.specs.Calls.{callJ, isWritten}
 use Rattle.book.specs.Layout.{factsOf}
+use Rattle.book.proofs.Tests.{ands}
 use Rattle.place.proofs.Answers.{strike-open}
+use Rattle.strike_call.proofs.Standing.{passed}
 use Rattle.strike_call.proofs.Judgements.{judges-beyond, judges-not-open, sought, judges-found}
 use Rattle.strike_call.proofs.judge_at.Statement.{statement}
 use Rattle.strike_call.proofs.judge_at.Tie as tie
@@ -19,7 +22,12 @@ returns c =
     judges-beyond (a .run .now) (s .pre) (a .c) (a .m) (a .h) (ap not (sym (k .is-written .ensures)) ∙ c .if1 .taken)
 
 look-up-strike-requires : tie.Need-look-up-strike-requires
-look-up-strike-requires c κs = search needs
+look-up-strike-requires c κs =
+    let k = c .before in
+    let s = k .before .before in
+    let a = s .args in
+    let limits = passed (isWritten (callJ (a .c) (a .m) (a .h))) (ap not (sym (k .is-written .ensures)) ∙ c .if1 .left) in
+    (s .pre, search ands)
 
 enum-known-search : tie.Need-enum-known-search
 enum-known-search c = search needs

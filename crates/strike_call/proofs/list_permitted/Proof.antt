@@ -2,9 +2,12 @@
 use mathlib.Core.Path.{sym, _∙_}
 use mathlib.Core.Bool.{not, _&&_}
 use native.Mathlib.Omega.{arith}
+use Rattle.word.specs.Limits.{isMonth, isClassNumber}
+use Rattle.book.proofs.Tests.{ands}
 use Rattle.place.proofs.Heads.{book-long, book-month}
 use Rattle.place.proofs.Answers.{strikes-room}
-use Rattle.strike_call.proofs.Permitting.{permitting-beyond, permitting-not-open, permitting-outside, permitting-no-close, permitting-listable, permitting-filled}
+use Rattle.strike_call.proofs.Standing.{passed}
+use Rattle.strike_call.proofs.Permitting.{permitting-beyond, permitting-not-open, permitting-room, permitting-outside, permitting-no-close, permitting-listable, permitting-filled}
 use borrow.Author.Needs.{needs}
 use Rattle.strike_call.proofs.list_permitted.Statement.{statement}
 use Rattle.strike_call.proofs.list_permitted.Tie as tie
@@ -24,7 +27,14 @@ returns c =
     ((λ i. not (sym (k .before .is-class-number .ensures) i && sym (k .is-month .ensures) i)) ∙ c .if1 .taken)
 
 look-up-expiration-requires : tie.Need-look-up-expiration-requires
-look-up-expiration-requires c κs = search needs
+look-up-expiration-requires c κs =
+    let k = c .before in
+    let s = k .before .before .before .before in
+    let a = s .args in
+    let limits =
+    passed (isClassNumber (a .c) && isMonth (a .m))
+    ((λ i. not (sym (k .before .is-class-number .ensures) i && sym (k .is-month .ensures) i)) ∙ c .if1 .left) in
+    (s .pre, search ands)
 
 enum-known-search : tie.Need-enum-known-search
 enum-known-search c = search needs
@@ -40,6 +50,17 @@ returns-2 c =
     let a = s .args in
     permitting-not-open (a .run .now) (a .second .now) (s .pre) (a .c) (a .m)
     ((λ i. not (sym (k .before .is-class-number .ensures) i && sym (k .is-month .ensures) i)) ∙ l .before .if1 .left) (sym (l .look-up-expiration .ensures) ∙ c .enum-told .given .1)
+
+figures-at-requires : tie.Need-figures-at-requires
+figures-at-requires c κs =
+    let q = c .before in
+    let l = q .before .before in
+    let k = l .before .before in
+    let s = k .before .before .before .before in
+    let a = s .args in
+    let look = sym (l .look-up-expiration .ensures) ∙ q .search .given .1 in
+    permitting-room (a .run .now) (a .second .now) (s .pre) (a .c) (a .m)
+    ((λ i. not (sym (k .before .is-class-number .ensures) i && sym (k .is-month .ensures) i)) ∙ l .before .if1 .left) _ look
 
 current-requires : tie.Need-current-requires
 current-requires c κs = search needs
@@ -58,7 +79,7 @@ returns-3 c =
     let a = s .args in
     let look = sym (l .look-up-expiration .ensures) ∙ q .search .given .1 in
     permitting-outside (a .run .now) (a .second .now) (s .pre) (a .c) (a .m)
-    ((λ i. not (sym (k .before .is-class-number .ensures) i && sym (k .is-month .ensures) i)) ∙ l .before .if1 .left) _ look _ (c .before .before .current .ensures)
+    ((λ i. not (sym (k .before .is-class-number .ensures) i && sym (k .is-month .ensures) i)) ∙ l .before .if1 .left) _ look _ (c .before .before .before .figures-at .ensures) _ (c .before .before .current .ensures)
     (sym (c .before .is-outside .ensures) ∙ c .if2 .taken)
 
 returns-4 : tie.Need-returns-4
@@ -70,7 +91,7 @@ returns-4 c =
     let a = s .args in
     let look = sym (l .look-up-expiration .ensures) ∙ q .search .given .1 in
     permitting-no-close (a .run .now) (a .second .now) (s .pre) (a .c) (a .m)
-    ((λ i. not (sym (k .before .is-class-number .ensures) i && sym (k .is-month .ensures) i)) ∙ l .before .if1 .left) _ look _ (c .before .before .before .before .current .ensures)
+    ((λ i. not (sym (k .before .is-class-number .ensures) i && sym (k .is-month .ensures) i)) ∙ l .before .if1 .left) _ look _ (c .before .before .before .before .before .figures-at .ensures) _ (c .before .before .before .before .current .ensures)
     (sym (c .before .before .before .is-outside .ensures) ∙ c .before .before .if2 .left) (c .if3 .taken)
 
 mul-list-permitted : tie.Need-mul-list-permitted
@@ -122,7 +143,7 @@ list-permitted-requires c κs =
     let a = s .args in
     let look = sym (l .look-up-expiration .ensures) ∙ q .search .given .1 in
     permitting-listable (a .run .now) (a .second .now) (s .pre) (a .c) (a .m)
-    ((λ i. not (sym (k .before .is-class-number .ensures) i && sym (k .is-month .ensures) i)) ∙ l .before .if1 .left) _ look _ (c .before .before .before .before .before .before .current .ensures)
+    ((λ i. not (sym (k .before .is-class-number .ensures) i && sym (k .is-month .ensures) i)) ∙ l .before .if1 .left) _ look _ (c .before .before .before .before .before .before .before .figures-at .ensures) _ (c .before .before .before .before .before .before .current .ensures)
     (sym (c .before .before .before .before .before .is-outside .ensures) ∙ c .before .before .before .before .if2 .left)
 
 same-length : tie.Need-same-length
@@ -137,7 +158,7 @@ returns-5 c =
     let a = s .args in
     let look = sym (l .look-up-expiration .ensures) ∙ q .search .given .1 in
     permitting-filled (a .run .now) (a .second .now) (s .pre) (a .c) (a .m)
-    ((λ i. not (sym (k .before .is-class-number .ensures) i && sym (k .is-month .ensures) i)) ∙ l .before .if1 .left) _ look _ (c .before .before .before .before .before .before .before .before .before .current .ensures)
+    ((λ i. not (sym (k .before .is-class-number .ensures) i && sym (k .is-month .ensures) i)) ∙ l .before .if1 .left) _ look _ (c .before .before .before .before .before .before .before .before .before .before .figures-at .ensures) _ (c .before .before .before .before .before .before .before .before .before .current .ensures)
     (sym (c .before .before .before .before .before .before .before .before .is-outside .ensures) ∙ c .before .before .before .before .before .before .before .if2 .left) (c .before .before .before .before .before .if3 .left) (c .before .before .list-permitted .ensures)
 
 pub list-permitted-spec : {M : Type 1} → statement M
@@ -151,6 +172,7 @@ list-permitted-spec =
     enum-known-search
     enum-told
     returns-2
+    figures-at-requires
     current-requires
     is-outside-requires
     returns-3

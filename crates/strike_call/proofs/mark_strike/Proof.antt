@@ -29,7 +29,16 @@ returns c =
     (mark-number w (s .pre) (a .c) (a .m) (a .h) (a .a) (a .b)) (limits ∙ c .if1 .taken)
 
 look-up-strike-requires : tie.Need-look-up-strike-requires
-look-up-strike-requires c κs = search needs
+look-up-strike-requires c κs =
+    let k = c .before .before in
+    let s = k .before .before .before .before in
+    let a = s .args in
+    let w = a .run .now in
+    let limits =
+    passed (isWritten (callI (a .c) (a .m) (a .h) (a .a) (a .b)))
+    (mark-limits w (s .pre) (a .c) (a .m) (a .h) (a .a) (a .b) _ _ _ (k .before .before .is-written .ensures)
+    (k .before .is-mark .ensures) (k .is-mark2 .ensures) ∙ c .before .if1 .left) in
+    (s .pre, search ands)
 
 enum-known-search : tie.Need-enum-known-search
 enum-known-search c = search needs

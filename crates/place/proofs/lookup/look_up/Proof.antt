@@ -5,7 +5,7 @@ use native.Mathlib.Omega.{arith}
 use borrow.Author.Needs.{needs}
 use Rattle.place.specs.declared.lookup.Lookup.the-variants.{Open}
 use Rattle.place.proofs.Answers.{answer-not-open, answer-within, answer-open}
-use Rattle.place.proofs.Found.{body-short, class-rises}
+use Rattle.place.proofs.Found.{body-short, body-kinds, class-rises}
 use Rattle.place.proofs.Heads.{book-room}
 use Rattle.place.proofs.lookup.look_up.Statement.{statement}
 use Rattle.place.proofs.lookup.look_up.Tie as tie
@@ -26,7 +26,7 @@ find-rising-requires : tie.Need-find-rising-requires
 find-rising-requires c κs =
     let b = c .before .before .before .pre in
     let e = c .before .used .ensures in
-    (omega arith, (body-short _ b _ e, class-rises _ b _ _ e))
+    (omega arith, (omega arith, body-kinds _ b _ e), (body-short _ b _ e, class-rises _ b _ _ e))
 
 add-at : tie.Need-add-at
 add-at c = search needs

@@ -1,4 +1,4 @@
--- `look_up_expiration` finds the strikes of an expiration: between the three words of the class and the next class word.
+-- `look_up_expiration` finds the strikes of an expiration: among the words after the three of the class.
 use mathlib.Core.Path.{sym, _∙_}
 use native.Mathlib.Omega.{arith}
 use borrow.Author.Needs.{needs}
@@ -20,49 +20,52 @@ add-begin : tie.Need-add-begin
 add-begin c =
     let k = c .before in
     let s = k .before .before .before .before in
-    omega (arith, series-within _ (s .pre) _ _ _ (sym (k .before .before .look-up .ensures) ∙ k .at .given .1), book-room _ (s .pre))
+    omega (arith, series-within _ (s .pre .0) _ _ _ (sym (k .before .before .look-up .ensures) ∙ k .at .given .1), book-room _ (s .pre .0))
 
-next-class-requires : tie.Need-next-class-requires
-next-class-requires c κs =
-    let k = c .before in
-    let s = k .before .before .before .before in
-    (s .pre, series-within _ (s .pre) _ _ _ (sym (k .before .before .look-up .ensures) ∙ k .at .given .1))
+used-requires : tie.Need-used-requires
+used-requires c κs = search needs
 
 mul-strikes-in : tie.Need-mul-strikes-in
 mul-strikes-in c =
     let k = c .before .before in
     let s = k .before .before .before .before in
-    omega (arith, series-within _ (s .pre) _ _ _ (sym (k .before .before .look-up .ensures) ∙ k .at .given .1), book-room _ (s .pre))
+    omega (arith, series-within _ (s .pre .0) _ _ _ (sym (k .before .before .look-up .ensures) ∙ k .at .given .1), book-room _ (s .pre .0))
 
 sub-strikes-in : tie.Need-sub-strikes-in
-sub-strikes-in c = search needs
+sub-strikes-in c =
+    let k = c .before .before in
+    let s = k .before .before .before .before in
+    omega (arith, series-within _ (s .pre .0) _ _ _ (sym (k .before .before .look-up .ensures) ∙ k .at .given .1), book-room _ (s .pre .0))
 
 part-strikes-in-start : tie.Need-part-strikes-in-start
-part-strikes-in-start c = search needs
+part-strikes-in-start c =
+    let k = c .before .before in
+    let s = k .before .before .before .before in
+    omega (arith, series-within _ (s .pre .0) _ _ _ (sym (k .before .before .look-up .ensures) ∙ k .at .given .1), book-room _ (s .pre .0))
 
 part-strikes-in-end : tie.Need-part-strikes-in-end
-part-strikes-in-end c = omega (arith, book-room _ (c .before .before .before .before .before .before .pre))
+part-strikes-in-end c = omega (arith, book-room _ (c .before .before .before .before .before .before .pre .0))
 
 strikes-in-requires : tie.Need-strikes-in-requires
 strikes-in-requires c κs = search needs
 
-add-t11 : tie.Need-add-t11
-add-t11 c =
+add-t10 : tie.Need-add-t10
+add-t10 c =
     let p = c .before in
     let n = p .before .before in
     let k = n .before .before in
     let s = k .before .before .before .before in
     let l = sym (k .before .before .look-up .ensures) ∙ k .at .given .1 in
-    omega (arith, places-within _ (s .pre) _ _ _ l (s .args .m) _ _ (n .next-class .ensures .0) (p .strikes-in .ensures) .0)
+    omega (arith, places-within _ (s .pre .0) _ _ _ l (s .args .m) _ _ (s .pre .1) (n .used .ensures) (p .strikes-in .ensures) .0)
 
-add-t13 : tie.Need-add-t13
-add-t13 c =
+add-t12 : tie.Need-add-t12
+add-t12 c =
     let p = c .before .before in
     let n = p .before .before in
     let k = n .before .before in
     let s = k .before .before .before .before in
     let l = sym (k .before .before .look-up .ensures) ∙ k .at .given .1 in
-    omega (arith, places-within _ (s .pre) _ _ _ l (s .args .m) _ _ (n .next-class .ensures .0) (p .strikes-in .ensures) .1)
+    omega (arith, places-within _ (s .pre .0) _ _ _ l (s .args .m) _ _ (s .pre .1) (n .used .ensures) (p .strikes-in .ensures) .1)
 
 returns : tie.Need-returns
 returns c = no-expiration _ _ _ _ (sym (c .before .before .look-up .ensures) ∙ c .enum-told .given .1)
@@ -74,7 +77,7 @@ returns-2 c =
     let k = n .before .before in
     let s = k .before .before .before .before in
     let l = sym (k .before .before .look-up .ensures) ∙ k .at .given .1 in
-    answer-expiration _ (s .pre) _ _ _ l (s .args .m) _ _ (n .next-class .ensures .0) (p .strikes-in .ensures)
+    answer-expiration _ (s .pre .0) _ _ _ l (s .args .m) _ _ (s .pre .1) (n .used .ensures) (p .strikes-in .ensures)
 
 pub look-up-expiration-spec : {M : Type 1} → statement M
 look-up-expiration-spec =
@@ -84,13 +87,13 @@ look-up-expiration-spec =
     enum-told
     enum-known-at
     add-begin
-    next-class-requires
+    used-requires
     mul-strikes-in
     sub-strikes-in
     part-strikes-in-start
     part-strikes-in-end
     strikes-in-requires
-    add-t11
-    add-t13
+    add-t10
+    add-t12
     returns
     returns-2)

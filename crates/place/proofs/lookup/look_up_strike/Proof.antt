@@ -17,38 +17,38 @@ enum-known-e c = search needs
 
 mul-find-plainly : tie.Need-mul-find-plainly
 mul-find-plainly c =
-    let k = c .before .before in
+    let k = c .before in
     let s = k .before .before .before .before in
-    omega (arith, strikes-room _ (s .pre) _ _ _ (sym (k .before .before .look-up-expiration .ensures) ∙ k .e .given .1))
+    omega (arith, strikes-room _ (s .pre .0) _ _ _ (sym (k .before .before .look-up-expiration .ensures) ∙ k .e .given .1))
 
 sub-find-plainly : tie.Need-sub-find-plainly
 sub-find-plainly c =
-    let k = c .before .before in
+    let k = c .before in
     let s = k .before .before .before .before in
-    omega (arith, strikes-room _ (s .pre) _ _ _ (sym (k .before .before .look-up-expiration .ensures) ∙ k .e .given .1))
+    omega (arith, strikes-room _ (s .pre .0) _ _ _ (sym (k .before .before .look-up-expiration .ensures) ∙ k .e .given .1))
 
 part-find-plainly-start : tie.Need-part-find-plainly-start
 part-find-plainly-start c =
-    let k = c .before .before in
+    let k = c .before in
     let s = k .before .before .before .before in
-    omega (arith, strikes-room _ (s .pre) _ _ _ (sym (k .before .before .look-up-expiration .ensures) ∙ k .e .given .1))
+    omega (arith, strikes-room _ (s .pre .0) _ _ _ (sym (k .before .before .look-up-expiration .ensures) ∙ k .e .given .1))
 
 part-find-plainly-end : tie.Need-part-find-plainly-end
 part-find-plainly-end c =
-    let k = c .before .before in
+    let k = c .before in
     let s = k .before .before .before .before in
-    omega (arith, strikes-room _ (s .pre) _ _ _ (sym (k .before .before .look-up-expiration .ensures) ∙ k .e .given .1))
+    omega (arith, strikes-room _ (s .pre .0) _ _ _ (sym (k .before .before .look-up-expiration .ensures) ∙ k .e .given .1))
 
 find-plainly-requires : tie.Need-find-plainly-requires
 find-plainly-requires c κs = search needs
 
 add-t12 : tie.Need-add-t12
 add-t12 c =
-    let k = c .before .before .before .before .before in
+    let k = c .before .before .before .before in
     let s = k .before .before .before .before in
     omega (
       arith,
-      strike-within _ (s .pre) _ _ _ (sym (k .before .before .look-up-expiration .ensures) ∙ k .e .given .1) (s .args .h) _
+      strike-within _ (s .pre .0) _ _ _ (sym (k .before .before .look-up-expiration .ensures) ∙ k .e .given .1) (s .args .h) _
           (c .before .find-plainly .ensures),
     )
 
@@ -57,9 +57,9 @@ returns c = no-strike _ _ _ _ (sym (c .before .before .look-up-expiration .ensur
 
 returns-2 : tie.Need-returns-2
 returns-2 c =
-    let k = c .before .before .before .before .before in
+    let k = c .before .before .before .before in
     let s = k .before .before .before .before in
-    answer-strike _ (s .pre) _ _ _ (sym (k .before .before .look-up-expiration .ensures) ∙ k .e .given .1) (s .args .h) _
+    answer-strike _ (s .pre .0) _ _ _ (sym (k .before .before .look-up-expiration .ensures) ∙ k .e .given .1) (s .args .h) _
     (c .before .find-plainly .ensures)
 
 pub look-up-strike-spec : {M : Type 1} → statement M

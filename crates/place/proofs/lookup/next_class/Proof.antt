@@ -1,8 +1,8 @@
--- `next_class` finds the next class word: it is lent the words to the last one used.
+-- `next_class` finds the next class word: it is lent the words to the last one used, and none of them is of a lower kind.
 use native.Mathlib.Omega.{arith}
 use borrow.Author.Needs.{needs}
 use Rattle.place.proofs.Heads.{book-room}
-use Rattle.place.proofs.Words.{first-of-kind}
+use Rattle.place.proofs.Found.{next-class-word}
 use Rattle.place.proofs.lookup.next_class.Statement.{statement}
 use Rattle.place.proofs.lookup.next_class.Tie as tie
 
@@ -21,6 +21,9 @@ part-first-start c = search needs
 part-first-end : tie.Need-part-first-end
 part-first-end c = omega (arith, book-room _ (c .before .before .pre .0))
 
+class-word-requires : tie.Need-class-word-requires
+class-word-requires c κs = search needs
+
 first-requires : tie.Need-first-requires
 first-requires c κs = search needs
 
@@ -28,7 +31,17 @@ add-result : tie.Need-add-result
 add-result c = search needs
 
 returns : tie.Need-returns
-returns c = (rw (← c .before .before .used .ensures, c .first .ensures .0, first-of-kind 2 14), omega arith)
+returns c =
+    let u = c .before .before .before in
+    let p = u .before .before .pre in (
+      rw (
+        ← u .used .ensures,
+        c .first .ensures .0,
+        c .before .class-word .ensures,
+        next-class-word _ (p .0) _ _ (p .1 .0) (omega arith) (u .used .ensures),
+      ),
+      omega arith,
+    )
 
 pub next-class-spec : {M : Type 1} → statement M
 next-class-spec =
@@ -39,6 +52,7 @@ next-class-spec =
     sub-first
     part-first-start
     part-first-end
+    class-word-requires
     first-requires
     add-result
     returns)

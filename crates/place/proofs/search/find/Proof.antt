@@ -1,10 +1,12 @@
 -- `find` finds the first word from the key on: what is left of the words has it, at the next word of the kind or after it.
 use Prim.Native.Nat.{_+_, _-_, _<_}
+use mathlib.Core.Path.{_≡_, _∙_}
 use native.Mathlib.Omega.{arith}
-use lib.ListN.{length}
+use lib.ListN.{length, take, drop}
 use borrow.Author.Needs.{needs}
-use Rattle.place.specs.Search.{isOfKind, isFrom}
+use Rattle.place.specs.Search.{firstAt, isOfKind, isFrom}
 use Rattle.place.proofs.Firsts.{part-passes, Seeking, seek-start}
+use Rattle.place.proofs.Words.{part-up-to}
 use Rattle.place.proofs.Searches.{seek-kind, find-none, find-word, find-later}
 use Rattle.place.proofs.search.find.Statement.{statement}
 use Rattle.place.proofs.search.find.Tie as tie
@@ -15,13 +17,25 @@ Inv-loop words kind width key i₀ i = Seeking (isFrom kind width key) words i
 abbrev μ-loop : tie.MeasureT-loop
 μ-loop words kind width key i₀ i = length words - i
 
--- the search has come to the next word of the kind
+-- the next word of the kind, where none is of a lower kind
+next :
+    (c : tie.After-first Inv-loop μ-loop)
+    → let s = c .before .before .before in
+    let a = s .before .before .args in
+    c .first .result ≡ firstAt (isOfKind (a .kind)) (take (length (a .words .now) - s .loop .i) (drop (s .loop .i) (a .words .now)))
+next c =
+    let s = c .before .before .before in
+    let a = s .before .before .args in
+    c .first .ensures .0
+    ∙ part-up-to (a .kind) (a .words .now) (length (a .words .now) - s .loop .i) (s .loop .i) (s .before .before .pre .1 .1)
+
+-- the search has come to that word
 come :
     (c : tie.After-first Inv-loop μ-loop)
     → let s = c .before .before .before in
     let a = s .before .before .args in
     Seeking (isFrom (a .kind) (a .width) (a .key)) (a .words .now) (s .loop .i + c .first .result)
-come c = seek-kind _ _ _ _ _ (c .before .before .before .loop .inv) _ (c .first .ensures .0)
+come c = seek-kind _ _ _ _ _ (c .before .before .before .loop .inv) _ (next c)
 
 loop-holds : tie.Need-loop-holds Inv-loop μ-loop
 loop-holds c = seek-start _ _
@@ -37,6 +51,9 @@ part-first-start c = search needs
 
 part-first-end : tie.Need-part-first-end Inv-loop μ-loop
 part-first-end c = search needs
+
+mul-first-2 : tie.Need-mul-first-2 Inv-loop μ-loop
+mul-first-2 c = search needs
 
 first-requires : tie.Need-first-requires Inv-loop μ-loop
 first-requires c κs = search needs
@@ -62,7 +79,7 @@ returns-2 c =
     let a = f .before .before .before .before .before .args in
     let l : f .before .before .before .loop .i + f .first .result < length (a .words .now) = omega arith in
     find-word _ _ _ _ _ (come f) l _ (c .before .field-of .ensures)
-    (part-passes (a .words .now) _ _ (omega arith) (isOfKind (a .kind)) 0 _ (f .first .ensures .0) l) (c .if2 .taken)
+    (part-passes (a .words .now) _ _ (omega arith) (isOfKind (a .kind)) 0 _ (next f) l) (c .if2 .taken)
 
 add-i : tie.Need-add-i Inv-loop μ-loop
 add-i c = search needs
@@ -88,6 +105,7 @@ find-spec =
     sub-first
     part-first-start
     part-first-end
+    mul-first-2
     first-requires
     add-at
     returns

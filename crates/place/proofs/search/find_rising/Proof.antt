@@ -6,18 +6,19 @@ use mathlib.Core.Logic.{⊎-elim}
 use native.Mathlib.Omega.{arith}
 use lib.ListN.{length, getD}
 use borrow.Author.Needs.{needs}
-use Rattle.place.specs.Search.{isOfKind, isFrom}
-use Rattle.place.proofs.Firsts.{part-passes, Seeking, seek-start, seek-before}
+use Rattle.place.specs.Search.{isOfKind, isNoLower, isFrom}
+use Rattle.place.proofs.Firsts.{every-part, part-passes, Seeking, seek-start, seek-before}
+use Rattle.place.proofs.Words.{part-up-to}
 use Rattle.place.proofs.Searches.{find-rest, find-equal}
 use Rattle.place.proofs.search.find_rising.Statement.{statement}
 use Rattle.place.proofs.search.find_rising.Tie as tie
 
 abbrev Inv-loop : tie.InvT-loop
-Inv-loop words kind width key low₀ high₀ below₀ above₀ halves₀ low high below above halves =
-    (low ≤ high) × (high ≤ length words) × Seeking (isFrom kind width key) words low
+Inv-loop words kind width key low₀ high₀ below₀ above₀ turn₀ low high below above turn =
+    (low ≤ high) × (high ≤ length words) × Seeking (isFrom kind width key) words low × (turn < 3)
 
 abbrev μ-loop : tie.MeasureT-loop
-μ-loop words kind width key low₀ high₀ below₀ above₀ halves₀ low high below above halves = high - low
+μ-loop words kind width key low₀ high₀ below₀ above₀ turn₀ low high below above turn = high - low
 
 -- the guess is within the words left
 guess-within : (c : tie.Joined1 Inv-loop μ-loop) → let l = c .before .before .loop in l .low + c .if1 .guess < l .high
@@ -38,11 +39,15 @@ of-kind c =
     let j = f .before .before .before in
     let l = j .before .before in
     let a = l .before .before .args in
+    let middle = l .loop .low + j .if1 .guess in
+    let next =
+    f .first .ensures .0
+    ∙ part-up-to (a .kind) (a .words .now) (l .loop .high - middle) middle (l .before .before .pre .1 .1) in
     let less : l .loop .low + j .if1 .guess + f .first .result < l .loop .high = omega (arith, guess-within j) in
-    (less, part-passes (a .words .now) _ _ (l .loop .inv .1) (isOfKind (a .kind)) 0 _ (f .first .ensures .0) less)
+    (less, part-passes (a .words .now) _ _ (l .loop .inv .1) (isOfKind (a .kind)) 0 _ next less)
 
 loop-holds : tie.Need-loop-holds Inv-loop μ-loop
-loop-holds c = (omega arith, omega arith, seek-start _ _)
+loop-holds c = (omega arith, omega arith, seek-start _ _, omega arith)
 
 sub-loop : tie.Need-sub-loop Inv-loop μ-loop
 sub-loop c = search needs
@@ -56,6 +61,9 @@ expected-requires c κs = search needs
 add-middle : tie.Need-add-middle Inv-loop μ-loop
 add-middle c = omega (arith, guess-within (c .before))
 
+add-turn : tie.Need-add-turn Inv-loop μ-loop
+add-turn c = search needs
+
 mul-first : tie.Need-mul-first Inv-loop μ-loop
 mul-first c = omega (arith, guess-within (c .before))
 
@@ -67,6 +75,9 @@ part-first-start c = omega (arith, guess-within (c .before))
 
 part-first-end : tie.Need-part-first-end Inv-loop μ-loop
 part-first-end c = omega (arith, guess-within (c .before))
+
+mul-first-2 : tie.Need-mul-first-2 Inv-loop μ-loop
+mul-first-2 c = search needs
 
 first-requires : tie.Need-first-requires Inv-loop μ-loop
 first-requires c κs = search needs
@@ -80,7 +91,7 @@ loop-less c = omega (arith, guess-within (c .before .before .before .before))
 loop-again : tie.Need-loop-again Inv-loop μ-loop
 loop-again c =
     let j = c .before .before .before .before in
-    (omega arith, omega (arith, guess-within j), j .before .before .loop .inv .2)
+    (omega arith, omega (arith, guess-within j), j .before .before .loop .inv .2, omega arith)
 
 mul-field-of : tie.Need-mul-field-of Inv-loop μ-loop
 mul-field-of c = omega (arith, guess-within (c .before .before .before .before))
@@ -95,7 +106,7 @@ returns : tie.Need-returns Inv-loop μ-loop
 returns c =
     let t = c .before .before .before in
     let a = t .before .before .before .before .before .before .before .before in
-    find-equal _ _ _ _ (a .pre .1 .1) _ (omega (arith, of-kind t .0)) (of-kind t .1) (sym (c .before .field-of .ensures) ∙ c .if3 .taken)
+    find-equal _ _ _ _ (a .pre .2 .1) _ (omega (arith, of-kind t .0)) (of-kind t .1) (sym (c .before .field-of .ensures) ∙ c .if3 .taken)
 
 add-low : tie.Need-add-low Inv-loop μ-loop
 add-low c = omega (arith, of-kind (c .before .before .before .before) .0)
@@ -111,7 +122,8 @@ loop-again-2 c =
       omega (arith, k .0),
       omega arith,
       seek-before _ _ _
-          (omega (arith, a .pre .1 .1 .below _ (omega (arith, k .0)) (k .1) (omega (arith, c .before .before .field-of .ensures)))),
+          (omega (arith, a .pre .2 .1 .below _ (omega (arith, k .0)) (k .1) (omega (arith, c .before .before .field-of .ensures)))),
+      omega arith,
     )
 
 loop-less-3 : tie.Need-loop-less-3 Inv-loop μ-loop
@@ -120,7 +132,7 @@ loop-less-3 c = omega (arith, guess-within (c .before .before .before .before .b
 loop-again-3 : tie.Need-loop-again-3 Inv-loop μ-loop
 loop-again-3 c =
     let j = c .before .before .before .before .before .before .before .before in
-    (omega arith, omega (arith, guess-within j), j .before .before .loop .inv .2)
+    (omega arith, omega (arith, guess-within j), j .before .before .loop .inv .2, omega arith)
 
 mul-find : tie.Need-mul-find Inv-loop μ-loop
 mul-find c = search needs
@@ -135,10 +147,15 @@ part-find-end : tie.Need-part-find-end Inv-loop μ-loop
 part-find-end c = search needs
 
 find-requires : tie.Need-find-requires Inv-loop μ-loop
-find-requires c κs = search needs
+find-requires c κs =
+    let l = c .before .before in
+    let s = l .before .before in
+    let a = s .args in
+    let low = l .loop .low in
+    (s .pre .0, (s .pre .1 .0, every-part (isNoLower (a .kind)) (a .words .now) (length (a .words .now) - low) low (s .pre .1 .1)))
 
-add-t28 : tie.Need-add-t28 Inv-loop μ-loop
-add-t28 c = search needs
+add-t29 : tie.Need-add-t29 Inv-loop μ-loop
+add-t29 c = search needs
 
 returns-2 : tie.Need-returns-2 Inv-loop μ-loop
 returns-2 c = find-rest _ _ _ _ _ (c .before .before .before .before .loop .inv .2) _ (c .before .find .ensures)
@@ -154,10 +171,12 @@ find-rising-spec =
     sub-span
     expected-requires
     add-middle
+    add-turn
     mul-first
     sub-first
     part-first-start
     part-first-end
+    mul-first-2
     first-requires
     add-next
     loop-less
@@ -176,5 +195,5 @@ find-rising-spec =
     part-find-start
     part-find-end
     find-requires
-    add-t28
+    add-t29
     returns-2)

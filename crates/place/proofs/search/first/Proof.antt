@@ -1,19 +1,31 @@
 -- `first` finds the first word by blocks: what is left of the words has it, until the block at the index has it or fewer than 32 words are left.
-use Prim.Native.Nat.{_-_}
+use Prim.Native.Nat.{ℕ, _-_}
+use mathlib.Core.Path.{_≡_, ap, _∙_}
 use native.Mathlib.Omega.{arith}
 use lib.Count.{trailing-le}
+use lib.Dec.{leb}
 use lib.ListN.{length}
 use borrow.Author.Needs.{needs}
-use Rattle.place.specs.Search.{isOfKind}
+use Rattle.place.specs.Search.{firstAt, rankOf, isUpTo}
 use Rattle.place.proofs.Firsts.{Seeking, seek-start, seek-rest, seek-digit, seek-no-digit}
 use Rattle.place.proofs.search.first.Statement.{statement}
 use Rattle.place.proofs.search.first.Tie as tie
 
 abbrev Inv-loop : tie.InvT-loop
-Inv-loop words kind i₀ i = Seeking (isOfKind kind) words i
+Inv-loop words sought most i₀ i = Seeking (λ w. leb (rankOf w) most) words i
 
 abbrev μ-loop : tie.MeasureT-loop
-μ-loop words kind i₀ i = length words - i
+μ-loop words sought most i₀ i = length words - i
+
+-- the words of a rank up to that of `sought`
+up-to-sought :
+    (c : tie.After-rank Inv-loop μ-loop)
+    → let a = c .before .before .args in
+    firstAt (λ w. leb (rankOf w) (c .rank .result)) (a .words .now) ≡ firstAt (isUpTo (a .sought)) (a .words .now)
+up-to-sought c = ap (λ (k : ℕ). firstAt (λ w. leb (rankOf w) k) (c .before .before .args .words .now)) (c .rank .ensures)
+
+rank-requires : tie.Need-rank-requires Inv-loop μ-loop
+rank-requires c κs = search needs
 
 loop-holds : tie.Need-loop-holds Inv-loop μ-loop
 loop-holds c = seek-start _ _
@@ -21,35 +33,35 @@ loop-holds c = seek-start _ _
 sub-loop : tie.Need-sub-loop Inv-loop μ-loop
 sub-loop c = search needs
 
-add-kinds-of-32 : tie.Need-add-kinds-of-32 Inv-loop μ-loop
-add-kinds-of-32 c = search needs
+add-ranked-of-32 : tie.Need-add-ranked-of-32 Inv-loop μ-loop
+add-ranked-of-32 c = search needs
 
-mul-kinds-of-32 : tie.Need-mul-kinds-of-32 Inv-loop μ-loop
-mul-kinds-of-32 c = search needs
+mul-ranked-of-32 : tie.Need-mul-ranked-of-32 Inv-loop μ-loop
+mul-ranked-of-32 c = search needs
 
-sub-kinds-of-32 : tie.Need-sub-kinds-of-32 Inv-loop μ-loop
-sub-kinds-of-32 c = search needs
+sub-ranked-of-32 : tie.Need-sub-ranked-of-32 Inv-loop μ-loop
+sub-ranked-of-32 c = search needs
 
-part-kinds-of-32-start : tie.Need-part-kinds-of-32-start Inv-loop μ-loop
-part-kinds-of-32-start c = search needs
+part-ranked-of-32-start : tie.Need-part-ranked-of-32-start Inv-loop μ-loop
+part-ranked-of-32-start c = search needs
 
-part-kinds-of-32-end : tie.Need-part-kinds-of-32-end Inv-loop μ-loop
-part-kinds-of-32-end c = search needs
+part-ranked-of-32-end : tie.Need-part-ranked-of-32-end Inv-loop μ-loop
+part-ranked-of-32-end c = search needs
 
-kinds-of-32-requires : tie.Need-kinds-of-32-requires Inv-loop μ-loop
-kinds-of-32-requires c κs = search needs
+ranked-of-32-requires : tie.Need-ranked-of-32-requires Inv-loop μ-loop
+ranked-of-32-requires c κs = search needs
 
 cast-result : tie.Need-cast-result Inv-loop μ-loop
-cast-result c = omega (arith, trailing-le 32 (c .before .kinds-of-32 .result))
+cast-result c = omega (arith, trailing-le 32 (c .before .ranked-of-32 .result))
 
 add-result : tie.Need-add-result Inv-loop μ-loop
-add-result c = omega (arith, trailing-le 32 (c .before .kinds-of-32 .result))
+add-result c = omega (arith, trailing-le 32 (c .before .ranked-of-32 .result))
 
 returns : tie.Need-returns Inv-loop μ-loop
 returns c =
     let l = c .before .before .before .before .loop in
-    let e = seek-digit _ _ (l .i) (l .inv) 32 _ (omega arith) (c .before .kinds-of-32 .ensures) (c .if1 .taken) in
-    (e .0, omega arith)
+    let e = seek-digit _ _ (l .i) (l .inv) 32 _ (omega arith) (c .before .ranked-of-32 .ensures) (c .if1 .taken) in
+    (e .0 ∙ up-to-sought (c .before .before .before .before .before), omega arith)
 
 add-i : tie.Need-add-i Inv-loop μ-loop
 add-i c = search needs
@@ -60,7 +72,7 @@ loop-less c = search needs
 loop-again : tie.Need-loop-again Inv-loop μ-loop
 loop-again c =
     let l = c .before .before .before .before .loop in
-    seek-no-digit _ _ (l .i) (l .inv) 32 _ (omega arith) (c .before .kinds-of-32 .ensures) (c .if1 .left)
+    seek-no-digit _ _ (l .i) (l .inv) 32 _ (omega arith) (c .before .ranked-of-32 .ensures) (c .if1 .left)
 
 mul-first-plainly : tie.Need-mul-first-plainly Inv-loop μ-loop
 mul-first-plainly c = search needs
@@ -81,7 +93,9 @@ add-result-2 : tie.Need-add-result-2 Inv-loop μ-loop
 add-result-2 c = search needs
 
 returns-2 : tie.Need-returns-2 Inv-loop μ-loop
-returns-2 c = seek-rest _ _ _ (c .before .before .before .loop .inv) _ (c .first-plainly .ensures .0)
+returns-2 c =
+    let r = seek-rest _ _ _ (c .before .before .before .loop .inv) _ (c .first-plainly .ensures .0) in
+    (r .0 ∙ up-to-sought (c .before .before .before .before), r .1)
 
 pub first-spec : {M : Type 1} → statement M
 first-spec =
@@ -89,14 +103,15 @@ first-spec =
     (tie.spec
     Inv-loop
     μ-loop
+    rank-requires
     loop-holds
     sub-loop
-    add-kinds-of-32
-    mul-kinds-of-32
-    sub-kinds-of-32
-    part-kinds-of-32-start
-    part-kinds-of-32-end
-    kinds-of-32-requires
+    add-ranked-of-32
+    mul-ranked-of-32
+    sub-ranked-of-32
+    part-ranked-of-32-start
+    part-ranked-of-32-end
+    ranked-of-32-requires
     cast-result
     add-result
     returns

@@ -1,37 +1,39 @@
 -- `first_plainly` finds the first word: what is left of the words has it, until the word at the index is it or none is left.
-use Prim.Native.Nat.{_-_}
-use mathlib.Core.Path.{sym, _∙_}
+use Prim.Native.Nat.{ℕ, _-_}
+use mathlib.Core.Path.{sym, ap, _∙_}
 use native.Mathlib.Omega.{arith}
+use lib.Dec.{leb}
 use lib.ListN.{length}
 use borrow.Author.Needs.{needs}
-use borrow.Author.Tests.{eq-eqb, ne-eqb}
-use Rattle.place.specs.Search.{isOfKind}
+use borrow.Author.Tests.{le-leb, lt-leb}
+use Rattle.place.specs.Search.{rankOf}
 use Rattle.place.proofs.Firsts.{Seeking, seek-start, seek-hit, seek-miss, seek-end}
 use Rattle.place.proofs.search.first_plainly.Statement.{statement}
 use Rattle.place.proofs.search.first_plainly.Tie as tie
 
 abbrev Inv-loop : tie.InvT-loop
-Inv-loop words kind i₀ i = Seeking (isOfKind kind) words i
+Inv-loop words most i₀ i = Seeking (λ w. leb (rankOf w) most) words i
 
 abbrev μ-loop : tie.MeasureT-loop
-μ-loop words kind i₀ i = length words - i
+μ-loop words most i₀ i = length words - i
 
 loop-holds : tie.Need-loop-holds Inv-loop μ-loop
 loop-holds c = seek-start _ _
 
-mul-kind : tie.Need-mul-kind Inv-loop μ-loop
-mul-kind c = search needs
+mul-rank : tie.Need-mul-rank Inv-loop μ-loop
+mul-rank c = search needs
 
-shared-slice-read-kind : tie.Need-shared-slice-read-kind Inv-loop μ-loop
-shared-slice-read-kind c = search needs
+shared-slice-read-rank : tie.Need-shared-slice-read-rank Inv-loop μ-loop
+shared-slice-read-rank c = search needs
 
-kind-requires : tie.Need-kind-requires Inv-loop μ-loop
-kind-requires c κs = search needs
+rank-requires : tie.Need-rank-requires Inv-loop μ-loop
+rank-requires c κs = search needs
 
 returns : tie.Need-returns Inv-loop μ-loop
 returns c =
-    let l = c .before .before .before in (
-      seek-hit _ _ 0 _ (l .before .loop .inv) (l .loop-test .taken) (eq-eqb _ _ (sym (c .before .kind .ensures) ∙ c .if1 .taken)),
+    let l = c .before .before .before in
+    let most = l .before .before .before .args .most in (
+      seek-hit _ _ 0 _ (l .before .loop .inv) (l .loop-test .taken) (ap (λ (k : ℕ). leb k most) (sym (c .before .rank .ensures)) ∙ le-leb _ _ (c .if1 .taken)),
       omega arith,
     )
 
@@ -44,8 +46,9 @@ loop-less c = search needs
 loop-again : tie.Need-loop-again Inv-loop μ-loop
 loop-again c =
     let l = c .before .before .before in
+    let most = l .before .before .before .args .most in
     seek-miss _ _ 0 _ (l .before .loop .inv) (l .loop-test .taken)
-    (ne-eqb _ _ (λ e. c .if1 .left (c .before .kind .ensures ∙ e)))
+    (ap (λ (k : ℕ). leb k most) (sym (c .before .rank .ensures)) ∙ lt-leb _ _ (c .if1 .left))
 
 returns-2 : tie.Need-returns-2 Inv-loop μ-loop
 returns-2 c = (seek-end _ _ _ (c .before .loop .inv) (c .loop-test .left), omega arith)
@@ -57,9 +60,9 @@ first-plainly-spec =
     Inv-loop
     μ-loop
     loop-holds
-    mul-kind
-    shared-slice-read-kind
-    kind-requires
+    mul-rank
+    shared-slice-read-rank
+    rank-requires
     returns
     add-i
     loop-less

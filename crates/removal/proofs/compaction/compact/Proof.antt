@@ -7,10 +7,10 @@ use Rattle.removal.proofs.compaction.compact.Statement.{statement}
 use Rattle.removal.proofs.compaction.compact.Tie as tie
 
 abbrev Inv-loop : tie.InvT-loop
-Inv-loop part₀ rule k₀ read₀ written₀ part k read written = Compacting rule part₀ part k read written
+Inv-loop part₀ close k₀ read₀ written₀ part k read written = Compacting close part₀ part k read written
 
 abbrev μ-loop : tie.MeasureT-loop
-μ-loop part₀ rule k₀ read₀ written₀ part k read written = length part₀ - read
+μ-loop part₀ close k₀ read₀ written₀ part k read written = length part₀ - read
 
 none-marked-requires : tie.Need-none-marked-requires Inv-loop μ-loop
 none-marked-requires c κs = tt

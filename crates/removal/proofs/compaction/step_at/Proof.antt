@@ -34,16 +34,12 @@ returns c = rw (
 bounds-after-requires : tie.Need-bounds-after-requires
 bounds-after-requires c κs = search needs
 
-field-of-requires : tie.Need-field-of-requires
-field-of-requires c κs = search needs
-
 returns-2 : tie.Need-returns-2
 unfolding stepAt said
 returns-2 c = rw (
-  ← c .before .before .before .before .kind .ensures,
-  c .before .before .if2 .taken,
-  ← c .before .bounds-after .ensures,
-  ← c .field-of .ensures,
+  ← c .before .before .before .kind .ensures,
+  c .before .if2 .taken,
+  ← c .bounds-after .ensures,
 )
 
 settle-requires : tie.Need-settle-requires
@@ -67,7 +63,6 @@ step-at-spec =
     strike-step-requires
     returns
     bounds-after-requires
-    field-of-requires
     returns-2
     settle-requires
     returns-3)

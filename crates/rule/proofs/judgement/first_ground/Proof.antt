@@ -1,51 +1,65 @@
 -- `first_ground` meets its contract: no ground below this one passes (`Passed`), and the strike is clear of the words before this one (`Cleared`). Assumes nothing.
-use mathlib.Core.Path.{_≡_, _∙_, sym, ap₂}
+use mathlib.Core.Path.{_≡_, _∙_, sym, ap, ap₂}
 use mathlib.Core.Bool.{Bool, true, false, _&&_}
-use mathlib.Core.List.{map}
+use mathlib.Core.List.{List, [], map}
 use mathlib.Core.Logic.{⊎-elim}
 use Prim.Native.Nat.{_-_}
 use native.Mathlib.Omega.{arith}
 use borrow.Author.Needs.{needs}
 use borrow.Author.Tests.{not-true, not-false}
-use lib.ListN.{length}
+use lib.ListN.{length, getD}
 use Rattle.rule.specs.Lists.{every}
 use Rattle.rule.specs.Spacing.{clears, standingIn}
-use Rattle.rule.specs.Judgement.{passes, rowOf}
+use Rattle.rule.specs.Judgement.{passes, passesRange, rowOf}
+use Rattle.rule.proofs.Rows.{open-range}
 use Rattle.rule.proofs.Walks.{every-map, Passed, passed-none, passed-here, passed-next, passed-all, Cleared, cleared-none, cleared-next, cleared-not, cleared-all}
 use Rattle.rule.proofs.judgement.first_ground.Statement.{statement}
 use Rattle.rule.proofs.judgement.first_ground.Tie as tie
 
 abbrev Inv-standing : tie.InvT-standing
-Inv-standing s strike standing g i₀ i = Cleared (λ w. clears s g (strike .0) (standingIn w)) standing i
+Inv-standing s strike standing rows g i₀ i = Cleared (λ w. clears s g (strike .0) (standingIn w)) standing i
 
 abbrev μ-standing : tie.MeasureT-standing
-μ-standing s strike standing g i₀ i = length standing - i
+μ-standing s strike standing rows g i₀ i = length standing - i
 
 abbrev Inv-grounds : tie.InvT-grounds
-Inv-grounds s strike standing g₀ g = Passed (λ x. passes (rowOf s (map standingIn standing) (strike .0) x)) 0 4 g
+Inv-grounds s strike standing rows g₀ g = Passed (λ x. passes (rowOf s (map standingIn standing) (strike .0) x)) 0 4 g
 
 abbrev μ-grounds : tie.MeasureT-grounds
-μ-grounds s strike standing g₀ g = 4 - g
+μ-grounds s strike standing rows g₀ g = 4 - g
 
--- whether the row of the ground passes, from the two calls and the standing words
-row-at : (c : tie.After-in-range Inv-standing μ-standing Inv-grounds μ-grounds) (t : Bool) → (c .before .on-grid .result && c .in-range .result) ≡ t →
-    let args = c .before .before .before .before .before .args in
-    let g = c .before .before .before .grounds .g in
+-- whether the row of the ground passes, from its grid and range and the standing words
+row-at : (c : tie.Else1 Inv-standing μ-standing Inv-grounds μ-grounds) (t : Bool) →
+    let args = c .before .before .before .args in
+    let g = c .before .grounds .g in
+    passesRange (getD (args .t3) g []) ≡ t →
     passes (rowOf (args .s) (map standingIn (args .standing .now)) (args .strike .0) g)
     ≡ (t && every (λ w. clears (args .s) g (args .strike .0) (standingIn w)) (args .standing .now))
 row-at c t e =
-    let args = c .before .before .before .before .before .args in
-    ap₂ _&&_ (sym (ap₂ _&&_ (c .before .on-grid .ensures) (c .in-range .ensures)) ∙ e)
-    (every-map (clears (args .s) (c .before .before .before .grounds .g) (args .strike .0)) standingIn (args .standing .now))
+    let start = c .before .before .before in
+    let args = start .args in
+    let g = c .before .grounds .g in
+    let both = ap (λ (rows : List (List Bool)). passesRange (getD rows g [])) (start .pre .1) ∙ open-range (args .s) (args .strike .0) g (omega arith) in
+    ap₂ _&&_ (sym both ∙ e)
+    (every-map (clears (args .s) g (args .strike .0)) standingIn (args .standing .now))
 
 grounds-holds : tie.Need-grounds-holds Inv-standing μ-standing Inv-grounds μ-grounds
 grounds-holds c = passed-none _ 0 4 (omega arith)
 
-on-grid-requires : tie.Need-on-grid-requires Inv-standing μ-standing Inv-grounds μ-grounds
-on-grid-requires c κs = search needs
+cast-row : tie.Need-cast-row Inv-standing μ-standing Inv-grounds μ-grounds
+cast-row c = search needs
 
-in-range-requires : tie.Need-in-range-requires Inv-standing μ-standing Inv-grounds μ-grounds
-in-range-requires c κs = search needs
+mul-row : tie.Need-mul-row Inv-standing μ-standing Inv-grounds μ-grounds
+mul-row c = search needs
+
+array-copy-out-row : tie.Need-array-copy-out-row Inv-standing μ-standing Inv-grounds μ-grounds
+array-copy-out-row c = search needs
+
+array-read-if2 : tie.Need-array-read-if2 Inv-standing μ-standing Inv-grounds μ-grounds
+array-read-if2 c = search needs
+
+array-read-if2-2 : tie.Need-array-read-if2-2 Inv-standing μ-standing Inv-grounds μ-grounds
+array-read-if2-2 c = search needs
 
 standing-holds : tie.Need-standing-holds Inv-standing μ-standing Inv-grounds μ-grounds
 standing-holds c = cleared-none _ _
@@ -78,10 +92,10 @@ grounds-less c = search needs
 
 grounds-again : tie.Need-grounds-again Inv-standing μ-standing Inv-grounds μ-grounds
 grounds-again c =
-    passed-next (c .before .before .before .before .grounds .inv) (omega arith)
+    passed-next (c .before .before .before .grounds .inv) (omega arith)
     (⊎-elim
-    (λ w. row-at (c .before) true (w .0 .taken) ∙ cleared-not 0 (w .1 .inv) (omega arith) (sym (w .4 .ensures) ∙ not-true _ (w .5 .taken)))
-    (λ w. row-at (c .before) false (w .left))
+    (λ w. row-at (c .before .before) true (w .0 .taken) ∙ cleared-not 0 (w .1 .inv) (omega arith) (sym (w .4 .ensures) ∙ not-true _ (w .5 .taken)))
+    (λ w. row-at (c .before .before) false (w .left))
     (c .if2 .came))
 
 returns : tie.Need-returns Inv-standing μ-standing Inv-grounds μ-grounds
@@ -91,8 +105,8 @@ returns c =
 
 returns-2 : tie.Need-returns-2 Inv-standing μ-standing Inv-grounds μ-grounds
 returns-2 c =
-    passed-here (c .before .before .before .before .before .before .grounds .inv) (omega arith)
-    (row-at (c .before .before .before) true (c .before .before .if2 .taken) ∙ cleared-all 0 (c .before .standing .inv) (omega arith))
+    passed-here (c .before .before .before .before .before .grounds .inv) (omega arith)
+    (row-at (c .before .before .before .before) true (c .before .before .if2 .taken) ∙ cleared-all 0 (c .before .standing .inv) (omega arith))
 
 pub first-ground-spec : {M : Type 1} → statement M
 first-ground-spec =
@@ -103,8 +117,11 @@ first-ground-spec =
     Inv-grounds
     μ-grounds
     grounds-holds
-    on-grid-requires
-    in-range-requires
+    cast-row
+    mul-row
+    array-copy-out-row
+    array-read-if2
+    array-read-if2-2
     standing-holds
     mul-is-clear
     shared-slice-read-is-clear

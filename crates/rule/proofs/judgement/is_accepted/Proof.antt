@@ -1,18 +1,16 @@
--- `is_accepted` meets its contract: a strike is accepted exactly when a ground passes. Assumes nothing.
-use mathlib.Core.List.{map}
+-- `is_accepted` meets its contract: the number of the judgement says whether it accepts. Assumes nothing.
 use borrow.Author.Needs.{needs}
-use Rattle.rule.specs.Spacing.{standingIn}
-use Rattle.rule.proofs.Walks.{accepted-first}
 use Rattle.rule.proofs.judgement.is_accepted.Statement.{statement}
 use Rattle.rule.proofs.judgement.is_accepted.Tie as tie
 
-first-ground-requires : tie.Need-first-ground-requires
-first-ground-requires c κs = search needs
+judge-requires : tie.Need-judge-requires
+judge-requires c κs = search needs
+
+number-requires : tie.Need-number-requires
+number-requires c κs = search needs
 
 returns : tie.Need-returns
-returns c =
-    let args = c .before .before .args in
-    rw (c .first-ground .ensures) (accepted-first (args .s) (map standingIn (args .standing .now)) (args .strike .0))
+returns c = rw (c .number .ensures, c .before .judge .ensures)
 
 pub is-accepted-spec : {M : Type 1} → statement M
-is-accepted-spec = tie.close (tie.spec first-ground-requires returns)
+is-accepted-spec = tie.close (tie.spec judge-requires number-requires returns)

@@ -1,0 +1,53 @@
+-- The run of a book before and after an edit of its facts: the words that stay, those of before or the new ones between them, and the zeros. By the words of both. Assumes nothing.
+use Prim.Native.Nat.{ℕ, suc, _-_}
+use mathlib.Core.Path.{_≡_, sym, ap, _∙_}
+use mathlib.Core.List.{List, _∷_, _++_, map}
+use lib.Dec.{T}
+use lib.ListN.{length, replicate, length-map}
+use Rattle.word.specs.declared.codec.Word.{Word}
+use Rattle.word.specs.declared.codec.Word.the-variants.{Head}
+use Rattle.word.specs.Codec.{packed}
+use Rattle.book.specs.Facts.{Facts}
+use Rattle.book.specs.Layout.{used, layout, factsOf}
+use Rattle.book.specs.Books.{isBook}
+use Rattle.book.proofs.Layouts.{book-facts}
+use Rattle.book.proofs.Splices.{Spliced}
+use Rattle.book.proofs.Runs.{run-parts}
+
+module _
+    (ws : List ℕ) (t : T (isBook ws)) {at : ℕ} {old new : List Word} {g : Facts}
+    (s : Spliced at old new (factsOf ws) g) where
+  abbrev f : Facts
+  f = factsOf ws
+
+  abbrev pub front : List ℕ
+  front = map packed (Head (f .now) (used f) ∷ s .front)
+
+  abbrev pub back : List ℕ
+  back = map packed (s .back)
+
+  abbrev pub zeros : List ℕ
+  zeros = replicate (length ws - used f) 0
+
+  pub place-is : at ≡ length front
+  place-is = s .place ∙ ap suc (sym (length-map (s .front) packed))
+
+  pub run-was : ws ≡ front ++ (map packed old ++ (back ++ zeros))
+  run-was =
+      sym (book-facts ws t .1)
+      ∙ run-parts (length ws) f (Head (f .now) (used f) ∷ s .front) old (s .back)
+      (ap (λ (l : List Word). Head (f .now) (used f) ∷ l) (s .was))
+
+  -- the run after an edit that leaves `count` words used
+  pub run-is :
+      (count : ℕ) → used g ≡ count
+      → packed (Head (f .now) count)
+      ∷ (map packed (s .front) ++ (map packed new ++ (back ++ replicate (length ws - count) 0)))
+      ≡ layout (length ws) g
+  run-is count e =
+      sym
+      (run-parts (length ws) g (Head (g .now) (used g) ∷ s .front) new (s .back)
+      (ap (λ (l : List Word). Head (g .now) (used g) ∷ l) (s .is))
+      ∙ (λ i.
+      map packed (Head (s .month i) (e i) ∷ s .front)
+      ++ (map packed new ++ (back ++ replicate (length ws - e i) 0))))

@@ -1,0 +1,95 @@
+-- `ranked_of_32` says which words are of a rank up to `most`: the bits are the digits of the words before i. Assumes nothing.
+use Prim.Native.Nat.{ℕ, _-_, _^_, _≤_}
+use mathlib.Core.Path.{_≡_, refl, sym, ap, ap₂, _∙_}
+use mathlib.Core.Bool.{cond}
+use mathlib.Core.List.{List, map}
+use mathlib.Core.Logic.{⊎-elim}
+use native.Mathlib.Omega.{arith}
+use lib.Bits.{bitOr}
+use lib.Dec.{leb}
+use lib.ListN.{take, getD}
+use lib.Seq.{take-all}
+use borrow.Author.Needs.{needs}
+use borrow.Author.Tests.{le-leb, lt-leb}
+use Rattle.word.specs.Digits.{binary}
+use Rattle.word.proofs.Fields.{one-shifted}
+use Rattle.word.proofs.Digits.{digits-more}
+use Rattle.place.specs.Search.{rankOf}
+use Rattle.place.proofs.search.ranked_of_32.Statement.{statement}
+use Rattle.place.proofs.search.ranked_of_32.Tie as tie
+
+abbrev Inv-loop : tie.InvT-loop
+Inv-loop block most bits₀ i₀ bits i = (i ≤ 32) × (bits ≡ binary (map (λ w. leb (rankOf w) most) (take i block)))
+
+abbrev μ-loop : tie.MeasureT-loop
+μ-loop block most bits₀ i₀ bits i = 32 - i
+
+-- the bit of the word at i
+word-bit :
+    (c : tie.Joined1 Inv-loop μ-loop)
+    → let l = c .before .before .before .before .loop in
+    let a = c .before .before .before .before .before .before .args in
+    c .if1 .bit ≡ cond {A = ℕ} (leb (rankOf (getD (a .block .now) (l .i) 0)) (a .most)) (2 ^ l .i) 0
+word-bit c =
+    let k = c .before in
+    let i = k .before .before .before .loop .i in
+    ⊎-elim
+    (λ x. x .1 ∙ one-shifted i (omega arith) ∙ rw (sym (k .rank .ensures), le-leb _ _ (x .0 .taken)))
+    (λ x. x .1 ∙ rw (sym (k .rank .ensures), lt-leb _ _ (x .0 .left)))
+    (c .if1 .came)
+
+loop-holds : tie.Need-loop-holds Inv-loop μ-loop
+loop-holds c = (omega arith, refl)
+
+mul-rank : tie.Need-mul-rank Inv-loop μ-loop
+mul-rank c = search needs
+
+shared-slice-read-rank : tie.Need-shared-slice-read-rank Inv-loop μ-loop
+shared-slice-read-rank c = search needs
+
+rank-requires : tie.Need-rank-requires Inv-loop μ-loop
+rank-requires c κs = search needs
+
+cast-bit : tie.Need-cast-bit Inv-loop μ-loop
+cast-bit c = search needs
+
+shl-bit : tie.Need-shl-bit Inv-loop μ-loop
+shl-bit c = search needs
+
+add-i : tie.Need-add-i Inv-loop μ-loop
+add-i c = search needs
+
+loop-less : tie.Need-loop-less Inv-loop μ-loop
+loop-less c = search needs
+
+loop-again : tie.Need-loop-again Inv-loop μ-loop
+loop-again c =
+    let s = c .before .before .before .before .before in
+    let a = s .before .before .args in (
+      omega arith,
+      ap₂ bitOr (s .loop .inv .1) (word-bit (c .before))
+          ∙ digits-more (λ w. leb (rankOf w) (a .most)) 0 (a .block .now) (s .loop .i) (omega arith),
+    )
+
+returns : tie.Need-returns Inv-loop μ-loop
+returns c =
+    let s = c .before in
+    let a = s .before .before .args in
+    s .loop .inv .1 ∙ ap (λ (l : List ℕ). binary (map (λ w. leb (rankOf w) (a .most)) l)) (take-all (s .loop .i) (a .block .now) (omega arith))
+
+pub ranked-of-32-spec : {M : Type 1} → statement M
+ranked-of-32-spec =
+    tie.close
+    (tie.spec
+    Inv-loop
+    μ-loop
+    loop-holds
+    mul-rank
+    shared-slice-read-rank
+    rank-requires
+    cast-bit
+    shl-bit
+    add-i
+    loop-less
+    loop-again
+    returns)

@@ -1,0 +1,107 @@
+-- Words taken out of the run of a book: those after them move down, and the run is the layout of the facts whose words are left. On the run's parts. Assumes nothing.
+use Prim.Native.Nat.{ℕ, _+_, _-_}
+use mathlib.Core.Path.{_≡_, refl, sym, ap, _∙_}
+use mathlib.Core.Bool.{Bool, true, false, cond, not}
+use mathlib.Core.List.{List, [], _∷_, _++_, map, append-assoc}
+use native.Mathlib.Omega.{arith}
+use lib.Dec.{T, eqb}
+use lib.ListN.{length, set, replicate, length-append, length-map}
+use lib.Seq.{drop-at}
+use borrow.Rule.Slice.PartMut.{midOf, putMid}
+use Rattle.word.specs.declared.codec.Word.{Word}
+use Rattle.word.specs.declared.codec.Word.the-variants.{Head}
+use Rattle.word.specs.Codec.{packed}
+use Rattle.book.specs.Facts.{Facts, isOpen}
+use Rattle.book.specs.Layout.{strikeWord, expirationUnless, used, layout, factsOf}
+use Rattle.book.specs.Books.{isBook}
+use Rattle.book.specs.Calls.{callX, isStanding, changed}
+use Rattle.book.specs.Places.{strikesPlace, strikesEnd, strikePlace}
+use Rattle.book.proofs.Splices.{Spliced, used-spliced, place-inside, delisting}
+use Rattle.book.proofs.SplicedRuns.{front, back, zeros, place-is, run-was, run-is}
+use Rattle.place.proofs.Heads.{book-good, book-room}
+use Rattle.removal.specs.Runs.{closed}
+use Rattle.removal.proofs.Parts.{zeros-joined, part-is, put-part}
+
+-- ---- k words less from `at` on
+
+module _
+    (ws : List ℕ) (t : T (isBook ws)) {at : ℕ} {old : List Word} {g : Facts} (s : Spliced at old [] (factsOf ws) g)
+    (k : ℕ) (e : length old ≡ k) where
+  abbrev f : Facts
+  f = factsOf ws
+
+  abbrev a : List ℕ
+  a = front ws t s
+
+  abbrev b : List ℕ
+  b = map packed old
+
+  abbrev c : List ℕ
+  c = back ws t s
+
+  abbrev d : List ℕ
+  d = zeros ws t s
+
+  abbrev freed : List ℕ
+  freed = replicate k 0
+
+  abbrev head : ℕ
+  head = packed (Head (f .now) (used f - k))
+
+  was : ws ≡ a ++ ((b ++ c) ++ d)
+  was = run-was ws t s ∙ ap (λ (l : List ℕ). a ++ l) (sym (append-assoc b c d))
+
+  place : length a ≡ at
+  place = sym (place-is ws t s)
+
+  long : length (b ++ c) ≡ used f - at
+  long =
+      omega (
+        arith,
+        length-append b c,
+        length-map old packed,
+        length-map (s .back) packed,
+        s .place,
+        ap length (s .was) ∙ length-append (s .front) (old ++ s .back),
+        length-append old (s .back),
+      )
+
+  moved : closed k (midOf at (used f - at) ws) ≡ c ++ freed
+  moved =
+      (λ i. closed k (midOf at (used f - at) (was i)))
+      ∙ ap (closed k) (part-is a (b ++ c) d at (used f - at) place long)
+      ∙ ap (λ (l : List ℕ). l ++ freed) (drop-at b c k (length-map old packed ∙ e))
+
+  past : freed ++ d ≡ replicate (length ws - (used f - k)) 0
+  past = zeros-joined k (length ws - used f) (length ws - (used f - k)) (omega (arith, book-room ws t, place-inside s))
+
+  taken-out :
+      set (putMid at (used f - at) ws (closed k (midOf at (used f - at) ws))) 0 head ≡ layout (length ws) g
+  taken-out =
+      (λ i. set (putMid at (used f - at) (was i) (moved i)) 0 head)
+      ∙ ap (λ (l : List ℕ). set l 0 head) (put-part a (b ++ c) d at (used f - at) place long (c ++ freed))
+      ∙ ap (λ (l : List ℕ). head ∷ (map packed (s .front) ++ l))
+      (append-assoc c freed d ∙ ap (λ (l : List ℕ). c ++ l) past)
+      ∙ run-is ws t s (used f - k) (omega (arith, used-spliced s))
+
+-- a strike that stands, and its expiration's word where it is alone behind that
+pub delisted :
+    (ws : List ℕ) → T (isBook ws) → (alone : Bool) (from end month head : ℕ) (part : List ℕ)
+    → end ≡ used (factsOf ws) → month ≡ factsOf ws .now
+    → part ≡ closed (cond {A = ℕ} alone 2 1) (midOf from (end - from) ws)
+    → head ≡ packed (Head month (end - cond {A = ℕ} alone 2 1))
+    → (c m h : ℕ) → T (isOpen c (factsOf ws .classes)) → T (isStanding (factsOf ws) c m h)
+    → from ≡ strikePlace c m h (factsOf ws) - cond {A = ℕ} alone 1 0
+    → alone ≡ eqb (strikesEnd c m (factsOf ws)) (strikesPlace c m (factsOf ws) + 1)
+    → set (putMid from (end - from) ws part) 0 head ≡ layout (length ws) (changed (callX c m h) (factsOf ws))
+delisted ws t alone from end month head part all now moved counted c m h o s e e′ =
+    let d = delisting (length ws) (factsOf ws) c (book-good ws t) o m h alone s e′ in
+    let k = cond {A = ℕ} alone 2 1 in
+    (λ i. set (putMid from (end - from) ws (moved i)) 0 (counted i))
+    ∙ (λ i.
+    set (putMid (e i) (all i - e i) ws (closed k (midOf (e i) (all i - e i) ws))) 0 (packed (Head (now i) (all i - k))))
+    ∙ taken-out ws t (d .spliced) k (gone alone (strikeWord (d .it)))
+  where
+    gone : (b : Bool) (w : Word) → length (expirationUnless (not b) m (w ∷ [])) ≡ cond {A = ℕ} b 2 1
+    gone true w = refl
+    gone false w = refl

@@ -1,0 +1,291 @@
+-- The loop of an expiry, class by class: what is written, what is still to be moved and what the classes ahead will leave are together the words that stay. Assumes nothing.
+use Prim.Native.Nat.{ℕ, suc, _+_, _-_, _≤_, _<_}
+use mathlib.Core.Path.{_≡_, refl, sym, ap, _∙_}
+use mathlib.Core.List.{List, [], _∷_, _++_, map, map-append, append-assoc, append-nil}
+use native.Mathlib.Omega.{arith}
+use lib.Dec.{T}
+use lib.ListN.{length, take, drop, set, replicate, length-append, length-map}
+use lib.Seq.{drop-drop, drop-at, length-take-le}
+use borrow.Rule.Slice.PartMut.{putMid, mid-len}
+use Rattle.word.specs.declared.codec.Word.{Word}
+use Rattle.word.specs.declared.codec.Word.the-variants.{Head}
+use Rattle.word.specs.Codec.{packed}
+use Rattle.rule.specs.Lists.{every}
+use Rattle.book.specs.Facts.{OpenClass, Facts}
+use Rattle.book.specs.Layout.{figuresWords, classesWords, used, layout, factsOf}
+use Rattle.book.specs.Books.{isClass, isBook}
+use Rattle.book.specs.Calls.{callM, changed}
+use Rattle.book.proofs.Tests.{ands}
+use Rattle.book.proofs.Runs.{run-parts}
+use Rattle.place.specs.Search.{firstAt}
+use Rattle.place.proofs.Heads.{book-form, book-is, book-room}
+use Rattle.place.proofs.Found.{body}
+use Rattle.removal.specs.Expiry.{staysIn, MovedTo}
+use Rattle.removal.proofs.Parts.{zeros-joined}
+use Rattle.removal.proofs.Stretches.{stretch, drop-later, stretch-parts, stretch-known}
+use Rattle.removal.proofs.Expired.{isClassWord, keptFrom, class-parts}
+
+module _ (m : ℕ) (ws : List ℕ) where
+  abbrev facts : Facts
+  facts = factsOf ws
+
+  -- the words that the classes xs leave
+  abbrev left : List OpenClass → List ℕ
+  left xs = map packed (classesWords (map (keptFrom m) xs) [])
+
+  -- the old head, and the words that stay
+  abbrev whole : List ℕ
+  whole = packed (Head (facts .now) (used facts)) ∷ left (facts .classes)
+
+  pub record Expiring (run : List ℕ) (written kept at : ℕ) : Type 0 where
+    pub long : length run ≡ length ws
+    pub begun : 1 ≤ written
+    pub behind : written ≤ kept
+    pub passed : kept ≤ at
+    pub within : at ≤ used facts
+    pub room : used facts ≤ length ws
+    pub unread : drop kept run ≡ drop kept ws
+    pub classes : List OpenClass
+    pub good : T (every (isClass (facts .now)) classes)
+    pub ahead : stretch at (used facts) ws ≡ map packed (classesWords classes [])
+    pub made : take written run ++ (stretch kept at ws ++ left classes) ≡ whole
+
+  pub expire-start : T (isBook ws) → Expiring ws 1 1 1
+  expire-start book =
+      let words = classesWords (facts .classes) [] in
+      let first : take 1 ws ≡ packed (Head (facts .now) (used facts)) ∷ [] =
+      ap (take 1)
+      (sym (book-is ws book)
+      ∙ run-parts (length ws) facts (Head (facts .now) (used facts) ∷ []) words []
+      (ap (λ (l : List Word). Head (facts .now) (used facts) ∷ l) (sym (append-nil words)))) in
+      record {
+        long = refl;
+        begun = omega arith;
+        behind = omega arith;
+        passed = omega arith;
+        within = omega arith;
+        room = book-room ws book;
+        unread = refl;
+        classes = facts .classes;
+        good = book-form ws book .limits;
+        ahead = body ws book (used facts) refl;
+        made = ap (λ (l : List ℕ). l ++ left (facts .classes)) first;
+      }
+
+  -- ---- at a class
+
+  -- the words of the class at `at`, by what goes and what stays, and those of the classes after it
+  pub record AtClass (run : List ℕ) (written kept at : ℕ) : Type 0 where
+    pub three : at + 3 ≤ used facts
+    pub going : List Word
+    pub staying : List Word
+    pub after : List OpenClass
+    pub good : T (every (isClass (facts .now)) after)
+    pub words : stretch (at + 3) (used facts) ws ≡ map packed going ++ (map packed staying ++ map packed (classesWords after []))
+    pub stays : firstAt (staysIn m) (stretch (at + 3) (used facts) ws) ≡ length going
+    pub next : firstAt isClassWord (map packed staying ++ map packed (classesWords after [])) ≡ length staying
+    pub made : take written run ++ (stretch kept (at + 3) ws ++ (map packed staying ++ left after)) ≡ whole
+
+  module _ {run : List ℕ} {written kept at : ℕ} (E : Expiring run written kept at) where
+    pub at-class : at < used facts → AtClass run written kept at
+    at-class l = go (E .classes) (E .good) (E .ahead) (E .made)
+      where
+        go :
+            (xs : List OpenClass) → T (every (isClass (facts .now)) xs)
+            → stretch at (used facts) ws ≡ map packed (classesWords xs [])
+            → take written run ++ (stretch kept at ws ++ left xs) ≡ whole → AtClass run written kept at
+        go [] good ahead made = absurd (omega (arith, mid-len at (used facts) ws (E .room), ap length ahead))
+        go (x ∷ xs) good ahead made =
+            let p = class-parts m (facts .now) x xs good in
+            let figures = figuresWords (x .figures) [] in
+            let rest = p .going ++ (p .staying ++ classesWords xs []) in
+            let words : stretch at (used facts) ws ≡ map packed figures ++ map packed rest =
+            ahead ∙ ap (map packed) (p .are) ∙ map-append packed figures rest in
+            let three : at + 3 ≤ used facts =
+            omega (
+              arith,
+              mid-len at (used facts) ws (E .room),
+              ap length words,
+              length-append (map packed figures) (map packed rest),
+            ) in
+            let known =
+            stretch-known at (at + 3) (used facts) ws (omega arith) three (E .room) (map packed figures) (map packed rest) words
+            (omega arith) in
+            let apart : map packed rest ≡ map packed (p .going) ++ (map packed (p .staying) ++ map packed (classesWords xs [])) =
+            simp map-append in
+            record {
+              three = three;
+              going = p .going;
+              staying = p .staying;
+              after = xs;
+              good = search ands;
+              words = known .1 ∙ apart;
+              stays = ap (firstAt (staysIn m)) (known .1) ∙ p .stays;
+              next =
+                  ap (firstAt isClassWord) (sym (map-append packed (p .staying) (classesWords xs []))) ∙ p .next;
+              made =
+                  ap (λ (l : List ℕ). take written run ++ (l ++ (map packed (p .staying) ++ left xs)))
+                  (stretch-parts kept at (at + 3) ws (E .passed) (omega arith)
+                  ∙ ap (λ (l : List ℕ). stretch kept at ws ++ l) (known .0))
+                  ∙ regroup (take written run) (stretch kept at ws) figures (p .staying) (classesWords (map (keptFrom m) xs) [])
+                  ∙ ap (λ (l : List Word). take written run ++ (stretch kept at ws ++ map packed l)) (sym (p .left))
+                  ∙ made;
+            }
+          where
+            regroup :
+                (a b : List ℕ) (f s r : List Word)
+                → a ++ ((b ++ map packed f) ++ (map packed s ++ map packed r)) ≡ a ++ (b ++ map packed (f ++ (s ++ r)))
+            regroup a b f s r = simp (map-append, append-assoc)
+
+    -- where what stays begins
+    module _
+        (C : AtClass run written kept at) (stays : ℕ)
+        (e : stays ≡ at + 3 + firstAt (staysIn m) (stretch (at + 3) (used facts) run)) where
+      there : stays ≡ at + 3 + length (C .going)
+      there =
+          let l = E .passed in
+          e
+          ∙ ap (λ (l : List ℕ). at + 3 + firstAt (staysIn m) (take (used facts - (at + 3)) l))
+          (drop-later kept (at + 3) run ws (omega arith) (E .unread))
+          ∙ ap (λ (k : ℕ). at + 3 + k) (C .stays)
+
+      -- the turn is done: what is written now, and what is still to be moved
+      expire-next :
+          (run′ : List ℕ) (written′ kept′ next : ℕ) → length run′ ≡ length ws → 1 ≤ written′ → written′ ≤ kept′
+          → kept′ ≤ stays → drop kept′ run′ ≡ drop kept′ ws
+          → take written′ run′ ++ stretch kept′ stays ws ≡ take written run ++ stretch kept (at + 3) ws
+          → next ≡ stays + firstAt isClassWord (stretch stays (used facts) run′)
+          → Expiring run′ written′ kept′ next
+      expire-next run′ written′ kept′ next long begun behind passed unread same n =
+          let staying = map packed (C .staying) in
+          let rest = map packed (classesWords (C .after) []) in
+          let parts : length (stretch (at + 3) (used facts) ws) ≡ length (C .going) + (length (C .staying) + length rest) =
+          ap length (C .words) ∙ simp (length-append, length-map) in
+          let size : length (stretch (at + 3) (used facts) ws) ≡ used facts - (at + 3) =
+          mid-len (at + 3) (used facts) ws (E .room) in
+          let three = C .three in
+          let gone = length-map (C .going) packed in
+          let stood = length-map (C .staying) packed in
+          let from-stays =
+          stretch-known (at + 3) stays (used facts) ws (omega (arith, there)) (omega (arith, there)) (E .room)
+          (map packed (C .going)) (staying ++ rest) (C .words) (omega (arith, there)) .1 in
+          let to : next ≡ stays + length (C .staying) =
+          n
+          ∙ ap (λ (l : List ℕ). stays + firstAt isClassWord (take (used facts - stays) l))
+          (drop-later kept′ stays run′ ws passed unread)
+          ∙ ap (λ (l : List ℕ). stays + firstAt isClassWord l) from-stays
+          ∙ ap (λ (k : ℕ). stays + k) (C .next) in
+          let known =
+          stretch-known stays next (used facts) ws (omega arith) (omega (arith, there)) (E .room) staying rest from-stays
+          (omega arith) in
+          record {
+            long = long;
+            begun = begun;
+            behind = behind;
+            passed = omega arith;
+            within = omega (arith, there);
+            room = E .room;
+            unread = unread;
+            classes = C .after;
+            good = C .good;
+            ahead = known .1;
+            made =
+                ap (λ (l : List ℕ). take written′ run′ ++ (l ++ left (C .after)))
+                (stretch-parts kept′ stays next ws passed (omega arith)
+                ∙ ap (λ (l : List ℕ). stretch kept′ stays ws ++ l) (known .0))
+                ∙ regroup (take written′ run′) (stretch kept′ stays ws) staying (left (C .after))
+                ∙ ap (λ (l : List ℕ). l ++ (staying ++ left (C .after))) same
+                ∙ append-assoc (take written run) (stretch kept (at + 3) ws) (staying ++ left (C .after))
+                ∙ C .made;
+          }
+        where
+          regroup : (a b c d : List ℕ) → a ++ ((b ++ c) ++ d) ≡ (a ++ b) ++ (c ++ d)
+          regroup a b c d = simp append-assoc
+
+      -- no month goes
+      pub expire-stay :
+          (next : ℕ) → stays ≤ at + 3 → next ≡ stays + firstAt isClassWord (stretch stays (used facts) run)
+          → Expiring run written kept next
+      expire-stay next l n =
+          let p = E .passed in
+          let q : stays ≡ at + 3 = omega (arith, there) in
+          expire-next run written kept next (E .long) (E .begun) (E .behind) (omega arith) (E .unread)
+          (ap (λ (k : ℕ). take written run ++ stretch kept k ws) q) n
+
+      -- the words before those that go are moved
+      pub expire-move :
+          (run′ : List ℕ) (written′ next : ℕ) → length run′ ≡ length run → stays ≤ used facts
+          → MovedTo written kept (at + 3) run run′ → written′ ≡ written + (at + 3 - kept)
+          → next ≡ stays + firstAt isClassWord (stretch stays (used facts) run′)
+          → Expiring run′ written′ stays next
+      expire-move run′ written′ next long l M w n =
+          let p = E .passed in
+          let b = E .begun in
+          let d = E .behind in
+          let none : stays - stays ≡ 0 = omega arith in
+          expire-next run′ written′ stays next (long ∙ E .long) (omega arith) (omega (arith, there)) (omega arith)
+          (drop-later (at + 3) stays run′ ws (omega (arith, there))
+          (M .past ∙ drop-later kept (at + 3) run ws (omega arith) (E .unread)))
+          (ap (λ (k : ℕ). take written′ run′ ++ take k (drop stays ws)) none
+          ∙ append-nil (take written′ run′)
+          ∙ ap (λ (k : ℕ). take k run′) w
+          ∙ M .front
+          ∙ ap (λ (l : List ℕ). take written run ++ take (at + 3 - kept) l) (E .unread))
+          n
+
+    -- ---- no class is left
+
+    none-left : (xs : List OpenClass) → length (classesWords xs []) ≡ 0 → left xs ≡ []
+    none-left [] e = refl
+    none-left (x ∷ xs) e = absurd (omega arith)
+
+    -- what is left is moved, the words after it are zeroed, and the head is written
+    pub expire-done :
+        T (isBook ws) → used facts ≤ at → (run′ : List ℕ) (r : ℕ) → length run′ ≡ length run
+        → MovedTo written kept (used facts) run run′ → r ≡ written + (used facts - kept)
+        → (zs : List ℕ) → zs ≡ replicate (length (stretch r (used facts) run′)) 0
+        → set (putMid r (used facts - r) run′ zs) 0 (packed (Head m r)) ≡ layout (length ws) (changed (callM m) facts)
+    unfolding changed layout
+    expire-done book l run′ r long M count zs z =
+        let n = length ws in
+        let end = used facts in
+        let g = changed (callM m) facts in
+        let passed = E .passed in
+        let within = E .within in
+        let behind = E .behind in
+        let room = E .room in
+        let same = E .long in
+        let last : end ≡ at = omega arith in
+        let empty : length (classesWords (E .classes) []) ≡ 0 =
+        omega (
+          arith,
+          mid-len at end ws room,
+          ap length (E .ahead),
+          length-map (classesWords (E .classes) []) packed,
+        ) in
+        let front : take r run′ ≡ whole =
+        ap (λ (k : ℕ). take k run′) count
+        ∙ M .front
+        ∙ ap (λ (l : List ℕ). take written run ++ take (end - kept) l) (E .unread)
+        ∙ ap (λ (k : ℕ). take written run ++ stretch kept k ws) last
+        ∙ ap (λ (l : List ℕ). take written run ++ l) (sym (append-nil (stretch kept at ws)))
+        ∙ ap (λ (l : List ℕ). take written run ++ (stretch kept at ws ++ l)) (sym (none-left (E .classes) empty))
+        ∙ E .made in
+        let all : r ≡ used g =
+        sym (length-take-le r run′ (omega arith))
+        ∙ ap length front
+        ∙ ap suc (length-map (classesWords (g .classes) []) packed) in
+        let past : drop end run′ ≡ replicate (n - end) 0 =
+        M .past
+        ∙ drop-later kept end run ws (omega arith) (E .unread)
+        ∙ ap (drop end) (sym (book-is ws book))
+        ∙ drop-at (map packed (Head (facts .now) end ∷ classesWords (facts .classes) [])) (replicate (n - end) 0) end
+        (length-map (Head (facts .now) end ∷ classesWords (facts .classes) []) packed) in
+        let to : r + (end - r) ≡ end = omega arith in
+        let rest : drop (end - r) (drop r run′) ≡ replicate (n - end) 0 =
+        drop-drop (end - r) r run′ ∙ ap (λ (k : ℕ). drop k run′) to ∙ past in
+        let zeros : zs ≡ replicate (end - r) 0 =
+        z ∙ ap (λ (k : ℕ). replicate k 0) (mid-len r end run′ (omega arith)) in
+        let freed = zeros-joined (end - r) (n - end) (n - used g) (omega arith) in
+        (λ i. set (front i ++ (zeros i ++ rest i)) 0 (packed (Head m (all i))))
+        ∙ ap (λ (l : List ℕ). packed (Head m (used g)) ∷ (left (facts .classes) ++ l)) freed

@@ -1,0 +1,70 @@
+// Expiry: in each class the months before the new one stand first, so that what stays moves down in stretches.
+ghost use mathlib.Core.Path.{_≡_};
+ghost use Prim.Native.Nat.{_+_, _-_, _≤_};
+ghost use lib.Dec.{T};
+ghost use lib.ListN.{length, take, drop};
+ghost use Rattle.book.specs.Layout.{layout, factsOf};
+ghost use Rattle.book.specs.Books.{isBook};
+ghost use Rattle.book.specs.Calls.{callM, changed};
+ghost use Rattle.place.specs.Search.{firstAt};
+ghost use Rattle.removal.specs.Expiry.{staysIn, MovedTo};
+use crate::gap::move_down_by;
+use place::head;
+use place::search::first;
+use word::codec::class_word;
+use word::codec::head_word;
+use word::codec::kind;
+use word::field::field_of;
+use word::zeros::zero_all;
+
+// Moves the words from `from` to `end` down to `to`, and returns the index after them.
+fn move_to(run: &mut [u32], to: usize, from: usize, end: usize) -> usize
+    requires { ⌜ (to ≤ from) × ((from ≤ end) × (end ≤ length (now run))) ⌝ }
+    ensures { λ r. ⌜ (r ≡ to + (end - from)) × MovedTo to from end (now (run .entry)) (now (run .exit)) ⌝ }
+{
+    let gap = from - to;
+    if gap == 0 {
+        return end;
+    }
+    move_down_by(&mut run[to..end], gap);
+    end - gap
+}
+
+// The index of the first word from `from` on that stays in the month m: an expiration of that month or a later one, or the next class; or `end`.
+fn stays_from(run: &[u32], from: usize, end: usize, m: u32) -> usize
+    requires { ⌜ (from ≤ end) × (end ≤ length (now run)) ⌝ }
+    ensures { λ r. ⌜ (r ≡ from + firstAt (staysIn m) (take (end - from) (drop from (now (run .entry))))) × (r ≤ end) ⌝ }
+{
+    let mut i = from;
+    while i < end {
+        let w = run[i];
+        if (kind(w) == 2) | (kind(w) == 5) & (m <= field_of(w, 0, 10)) {
+            return i;
+        }
+        i += 1;
+    }
+    i
+}
+
+// `M`: the months before m go, and m is the month.
+pub fn expire(run: &mut [u32], m: u32)
+    requires { ⌜ T (isBook (now run)) × (m ≤ 1023) ⌝ }
+    ensures { λ _. ⌜ now (run .exit) ≡ layout (length (now (run .entry))) (changed (callM m) (factsOf (now (run .entry)))) ⌝ }
+{
+    let end = head::used(run);
+    let mut written = 1;
+    let mut kept = 1;
+    let mut at = 1;
+    while at < end {
+        let start = at + 3;
+        let stays = stays_from(run, start, end, m);
+        if start < stays {
+            written = move_to(run, written, kept, start);
+            kept = stays;
+        }
+        at = stays + first(&run[stays..end], class_word(0, 0, 0));
+    }
+    written = move_to(run, written, kept, end);
+    zero_all(&mut run[written..end]);
+    run[0] = head_word(m, written as u32);
+}
