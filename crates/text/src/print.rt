@@ -5,7 +5,22 @@ ghost use lib.ListN.{length};
 ghost use lib.Seq.{sets};
 ghost use Rattle.text.specs.Printing.{decimal, spacedNumber, spacedNumbers, valueOrNone, afterNumber, answerText};
 
-// The digits of a number.
+// The digits of a number, of any length.
+fn put_digits(out: &mut [u8], at: usize, number: u32) -> usize
+    requires { ⌜ at + length (decimal number) ≤ length (now out) ⌝ }
+    ensures { λ r. ⌜ r ≡ at + length (decimal number) ⌝ }
+    ensures { λ _. ⌜ now (out .exit) ≡ sets (now (out .entry)) at (decimal number) ⌝ }
+{
+    if number < 10 {
+        out[at] = 48 + (number % 10) as u8;
+        return at + 1;
+    }
+    let last = put_digits(out, at, number / 10);
+    out[last] = 48 + (number % 10) as u8;
+    last + 1
+}
+
+// The digits of a number. Most are below 10, and are put without a call.
 pub fn put_decimal(out: &mut [u8], at: usize, number: u32) -> usize
     requires { ⌜ at + length (decimal number) ≤ length (now out) ⌝ }
     ensures { λ r. ⌜ r ≡ at + length (decimal number) ⌝ }
@@ -15,9 +30,7 @@ pub fn put_decimal(out: &mut [u8], at: usize, number: u32) -> usize
         out[at] = 48 + (number % 10) as u8;
         return at + 1;
     }
-    let last = put_decimal(out, at, number / 10);
-    out[last] = 48 + (number % 10) as u8;
-    last + 1
+    put_digits(out, at, number)
 }
 
 // A space and a number.
