@@ -88,6 +88,16 @@ module _ {s : Setting} {ws : List ℕ} {all : Bool} {low high step : ℕ} {done 
             ∙ ap (left test (high + 1)) sum);
       }
 
+  pub trying-none : (o : List ℕ) → high < low → Continued s ws low high done o done o
+  trying-none o l =
+      let written = filling-done (filling-start (left-none test (high + 1) low (omega arith))) in
+      record {
+        count = written .0;
+        written = written .1;
+        behind = behind-more (omega arith) (p .behind);
+        fewer = omega (arith, p .fewer);
+      }
+
   module _ {o b : List ℕ} {at reach from n h : ℕ} (t : Trying s ws o low high step at reach b from n h) where
     pub trying-reach : h ≤ high → reach ≤ h
     trying-reach l = go (ltb h step) refl

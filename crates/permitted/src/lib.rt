@@ -113,6 +113,9 @@ fn write_multiples(
     requires { ⌜ Continuable s (now standing) all low high step done ⌝ }
     ensures { λ r. ⌜ Continued s (now (standing .entry)) low high done (now (out .entry)) r (now (out .exit)) ⌝ }
 {
+    if high < low {
+        return done;
+    }
     let reach = if is_long(s) { 2 } else { 1 };
     let mut from = done.from;
     let mut count = done.count;
