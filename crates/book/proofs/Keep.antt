@@ -1,4 +1,4 @@
--- Every accepted call keeps the facts well formed, and so does a list of calls: one class put in its place, its series or its figures changed, by the conditions that the call has passed. Assumes nothing.
+-- Every accepted call keeps the facts well formed, and so does a list of calls: one class put in its place, its series or its figures changed, by the conditions that the call has passed. The current month again changes nothing. Assumes nothing.
 use Prim.Native.Nat.{ℕ, _+_, _≤_, zero-le}
 use mathlib.Core.Path.{_≡_, refl, sym, ap, _∙_, subst}
 use mathlib.Core.Bool.{Bool, true, false, cond, not, _&&_}
@@ -27,7 +27,8 @@ use Rattle.book.specs.Books.{isListed, isSeries, areFigures, isClass, is
 use Rattle.book.specs.Calls.{Call, callM, callO, callC, callV, callD, callL, callJ, callX, callI, callR, callA, malformed, isWritten, isReviewed, class, isNotOpen, isStanding, isNewlyOurs, isCapReached, setting, standingIn, groundOf, update, changed, conditions, numberOf, step, steps, after}
 use Rattle.book.proofs.Tests.{and-intro, ands}
 use Rattle.book.proofs.Alternatives.{nor-left, nor-right, not-not}
-use Rattle.book.proofs.Lists.{every-map, length-only, sum-map, same-keys, every-inserted, rises-inserted, sum-inserted}
+use Rattle.book.proofs.Lists.{every-imply, every-map, length-only, sum-map, same-keys, every-inserted, rises-inserted, sum-inserted}
+use Rattle.book.proofs.Parts.{only-all, map-same}
 use Rattle.book.proofs.Forms.{areSeries, Well, well, well-formed}
 use Rattle.book.proofs.Layouts.{fresh-well-formed}
 use Rattle.book.proofs.SeriesLaws.{expirations-only, series-only, markedAt, series-marked, expirations-marked, series-inserted}
@@ -205,34 +206,48 @@ leb-shifted a b c k l t = le→leb a (c + k) (omega (arith, leb→le a (b + k) t
 abbrev isFrom : ℕ → Series → Bool
 isFrom m s = leb m (s .month)
 
+abbrev expired : ℕ → OpenClass → OpenClass
+expired m x = withSeries (only (isFrom m) (x .series)) x
+
 module _ (n : ℕ) (f : Facts) (m : ℕ) (w : Well n f) (l : f .now ≤ m) where
   later-limits : (s : Series) → T (isFrom m s) → T (isSeries (f .now) s) → T (isSeries m s)
   later-limits s k t = search (ands, and-intro, leb-shifted) depth 12
 
-  abbrev expired : OpenClass → OpenClass
-  expired x = withSeries (only (isFrom m) (x .series)) x
-
-  class-expired : (x : OpenClass) → T (isClass (f .now) x) → T (isClass m (expired x))
+  class-expired : (x : OpenClass) → T (isClass (f .now) x) → T (isClass m (expired m x))
   class-expired x t =
       let a : T (areFigures (x .figures)) = search ands in
       let b : T (areSeries m (only (isFrom m) (x .series))) =
       series-only (f .now) m (isFrom m) later-limits (x .series) (search ands) in
       search and-intro
 
-  words-expired : (x : OpenClass) → wordsOf (expired x) ≤ wordsOf x
+  words-expired : (x : OpenClass) → wordsOf (expired m x) ≤ wordsOf x
   words-expired x = omega (arith, expirations-only (isFrom m) (x .series), length-only (isFrom m) (x .series))
 
-  keep-month : T (isMonth m) → Well n (record { now = m; classes = map expired (f .classes) })
+  keep-month : T (isMonth m) → Well n (record { now = m; classes = map (expired m) (f .classes) })
   keep-month t =
       record {
         run = w .run;
-        room = omega (arith, sum-map wordsOf expired words-expired (f .classes), w .room);
+        room = omega (arith, sum-map wordsOf (expired m) words-expired (f .classes), w .room);
         month = t;
-        limits = every-map (isClass (f .now)) (isClass m) expired class-expired (f .classes) (w .limits);
-        order = same-keys number ltb (map expired (f .classes)) (f .classes) (map-map number expired (f .classes)) (w .order);
+        limits = every-map (isClass (f .now)) (isClass m) (expired m) class-expired (f .classes) (w .limits);
+        order = same-keys number ltb (map (expired m) (f .classes)) (f .classes) (map-map number (expired m) (f .classes)) (w .order);
         caps = λ p.
-            omega (arith, sum-map (λ x. own (designation p (x .figures))) expired (λ x. omega arith) (f .classes), w .caps p);
+            omega (arith, sum-map (λ x. own (designation p (x .figures))) (expired m) (λ x. omega arith) (f .classes), w .caps p);
       }
+
+-- the current month again: no expiration is earlier
+pub month-again : (n : ℕ) (f : Facts) → Well n f → changed (callM (f .now)) f ≡ f
+unfolding changed
+month-again n f w =
+    let classes = map-same (isClass (f .now)) (expired (f .now)) none-expires (f .classes) (w .limits) in
+    λ i. record { now = f .now; classes = classes i }
+  where
+    none-expires : (x : OpenClass) → T (isClass (f .now) x) → expired (f .now) x ≡ x
+    none-expires x t =
+        let series =
+        only-all (isFrom (f .now)) (x .series)
+        (every-imply (isSeries (f .now)) (isFrom (f .now)) (λ s u. search ands) (x .series) (search ands)) in
+        λ i. record { figures = x .figures; series = series i }
 
 -- ---- a new class
 

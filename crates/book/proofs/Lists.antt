@@ -17,6 +17,10 @@ use Rattle.book.proofs.Alternatives.{or-cases}
 -- ---- a test of each element
 
 module _ {A : Type 0} where
+  pub every-true : (xs : List A) → T (every (λ x. true) xs)
+  every-true [] = tt
+  every-true (x ∷ xs) = every-true xs
+
   pub every-imply : (p q : A → Bool) → ((x : A) → T (p x) → T (q x)) → (xs : List A) → T (every p xs) → T (every q xs)
   every-imply p q f [] t = tt
   every-imply p q f (x ∷ xs) t =

@@ -34,15 +34,15 @@ module _ {A : Type 0} where
       go true e t = let a : T (p x) = rw e tt in search and-intro
       go false e t = t
 
+  pub only-all : (p : A → Bool) (xs : List A) → T (every p xs) → only p xs ≡ xs
+  only-all p [] t = refl
+  only-all p (x ∷ xs) t = rw (T-true (p x) (search ands)) (ap (λ (l : List A). x ∷ l) (only-all p xs (search ands)))
+
   -- all but one, which does not pass
   pub only-others :
       (p : A → Bool) (xs : List A) (y : A) (zs : List A) → T (every p xs) → p y ≡ false → T (every p zs)
       → only p (xs ++ (y ∷ zs)) ≡ xs ++ zs
-  only-others p [] y zs t e u = rw e (all zs u)
-    where
-      all : (ys : List A) → T (every p ys) → only p ys ≡ ys
-      all [] a = refl
-      all (x ∷ ys) a = rw (T-true (p x) (search ands)) (ap (λ (l : List A). x ∷ l) (all ys (search ands)))
+  only-others p [] y zs t e u = rw e (only-all p zs u)
   only-others p (x ∷ xs) y zs t e u =
       rw (T-true (p x) (search ands)) (ap (λ (l : List A). x ∷ l) (only-others p xs y zs (search ands) e u))
 

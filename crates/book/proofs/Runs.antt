@@ -101,7 +101,7 @@ marks-say now s t =
 
 -- ---- the places of an open class
 
-expiration-length : (b : Bool) (m : ℕ) → length (expirationUnless (not b) m []) ≡ cond {A = ℕ} b 1 0
+pub expiration-length : (b : Bool) (m : ℕ) → length (expirationUnless (not b) m []) ≡ cond {A = ℕ} b 1 0
 expiration-length true m = refl
 expiration-length false m = refl
 

@@ -13,7 +13,7 @@ use Rattle.book.specs.Books.{rises, isWellFormed}
 use Rattle.book.specs.Points.{StrikeFact, absent, standing, ClassFact, notOpen, opened, strikeAt, classAt, SameFacts}
 use Rattle.book.proofs.Tests.{and-intro, ands, T-true}
 use Rattle.book.proofs.Alternatives.{or-cases, nor-left, nor-right}
-use Rattle.book.proofs.Lists.{StrictOrder, ordered, before-every, rises-ordered}
+use Rattle.book.proofs.Lists.{every-true, StrictOrder, ordered, before-every, rises-ordered}
 use Rattle.book.proofs.Forms.{Well, well}
 use Rattle.book.proofs.SeriesLaws.{isWith, series-order}
 use Rattle.book.proofs.ClassLaws.{isNumbered, class-order, series-of}
@@ -90,10 +90,6 @@ module _
   equal-rising xs ys rx ry e =
       equal-lists (λ k. true) (λ x k b t. tt) xs ys (every-true xs) (every-true ys)
       (rises-ordered same before order xs rx) (rises-ordered same before order ys ry) (λ k t. e k)
-    where
-      every-true : (zs : List A) → T (every (λ z. true) zs)
-      every-true [] = tt
-      every-true (z ∷ zs) = every-true zs
 
 -- ---- the series of a class
 

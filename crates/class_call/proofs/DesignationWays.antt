@@ -5,7 +5,6 @@ use mathlib.Core.Bool.{Bool, true, false, cond, not, _&&_}
 use mathlib.Core.List.{List, [], _∷_}
 use lib.ListN.{length}
 use lib.Dec.{T, eqb}
-use borrow.Author.Tests.{not-false}
 use Rattle.word.specs.declared.class.ClassRecord.{ClassRecord}
 use Rattle.word.specs.declared.answer.Answer.{Answer}
 use Rattle.word.specs.declared.answer.Answer.the-variants.{Done, Refused}
@@ -14,19 +13,17 @@ use Rattle.word.specs.declared.answer.Refusal.the-variants.{NotOpen, NoClose, N
 use Rattle.word.specs.Limits.{isDesignation}
 use Rattle.word.specs.Class.{withDollar, withHalf}
 use Rattle.word.specs.Answers.{refusalNumber, answerNumber, answerValue}
-use Rattle.book.specs.Facts.{isOpen, withDesignation}
+use Rattle.book.specs.Facts.{withDesignation}
 use Rattle.book.specs.Layout.{factsOf}
 use Rattle.book.specs.Books.{areFigures, isBook}
-use Rattle.book.specs.Calls.{callD, isWritten, isCapReached, Condition, draws, first, conditions, changed, listed, acceptedValue, isQualified, isNew}
+use Rattle.book.specs.Calls.{callD, isWritten, isNotOpen, isCapReached, Condition, draws, first, conditions, changed, listed, acceptedValue, isQualified, isNew}
 use Rattle.book.specs.Made.{Made}
-use Rattle.book.proofs.Tests.{ands, and-intro, T-true, true-T}
+use Rattle.book.proofs.Tests.{ands, and-intro}
 use Rattle.book.proofs.Answered.{made-refused}
-use Rattle.place.specs.declared.lookup.Lookup.the-variants.{NotOpen as NoClass, Open}
-use Rattle.place.specs.Lookups.{lookupOf}
 use Rattle.class_call.specs.declared.programs.Claim.{Claim}
 use Rattle.class_call.specs.declared.programs.Claim.the-variants.{Granted, Refused as NotGranted}
 use Rattle.class_call.specs.Claims.{claimOf}
-use Rattle.class_call.proofs.Ways.{decided, not-open, found-open, found-figures, found-limits}
+use Rattle.class_call.proofs.Ways.{within-limits, decided, not-open, Found, found-figures, found-limits}
 use Rattle.class_call.proofs.FigureWays.{Storable, Stored, storable, figures-stored}
 
 -- the answer that a claim makes
@@ -72,11 +69,11 @@ module _ (d : ℕ) (r : ClassRecord) where
   in-limits false old given = search (ands, and-intro) depth 12
 
 module _ (c p d : ℕ) (w : List ℕ) (book : T (isBook w)) (within : not (isWritten (callD c p d)) ≡ false) where
-  pub designation-not-open : (at : ℕ) → lookupOf c (factsOf w) ≡ NoClass at → Made (callD c p d) w [] (Refused NotOpen) w []
+  pub designation-not-open : isNotOpen (factsOf w) c ≡ true → Made (callD c p d) w [] (Refused NotOpen) w []
   unfolding conditions
-  designation-not-open at look = not-open (callD c p d) w book within c at _ refl look
+  designation-not-open closed = not-open (callD c p d) w book within c _ refl closed
 
-  module _ (at : ℕ) (r : ClassRecord) (look : lookupOf c (factsOf w) ≡ Open at r) where
+  module _ (at : ℕ) (r : ClassRecord) (found : Found w c at r) where
     drawn :
         (claim : Claim) → claim ≡ claimOf (factsOf w) r p d
         → (first (conditions (length w) (callD c p d) (factsOf w)) ≡ answerNumber (answerOf claim)) × (0 ≡ answerValue (answerOf claim))
@@ -84,7 +81,7 @@ module _ (c p d : ℕ) (w : List ℕ) (book : T (isBook w)) (within : not (isWri
     drawn claim e =
         let f = factsOf w in
         let k = claim-draws (isNew p d r) (eqb (r .close) 0) (isQualified p r) (isCapReached f p) in (
-          rw (T-true (isOpen c (f .classes)) (found-open w book c at r look), ← found-figures w book c at r look)
+          rw (found .is-open, ← found-figures w book c at r found)
               (k .0 ∙ ap (λ (x : Claim). answerNumber (answerOf x)) (sym e)),
           k .1 ∙ ap (λ (x : Claim). answerValue (answerOf x)) (sym e),
         )
@@ -102,14 +99,14 @@ module _ (c p d : ℕ) (w : List ℕ) (book : T (isBook w)) (within : not (isWri
     module _ (new : ClassRecord) (e : new ≡ withDesignation p d r) where
       pub designation-storable : Storable w at new
       designation-storable =
-          let given = true-T (isWritten (callD c p d)) (not-false (isWritten (callD c p d)) within) in
-          storable w book c at r look new (withDesignation p d r) e
-          (in-limits d r (eqb p 1) (found-limits w book c at r look) (search ands))
+          let given = within-limits (callD c p d) within in
+          storable w book c at r found new (withDesignation p d r) e
+          (in-limits d r (eqb p 1) (found-limits w book c at r found) (search ands))
 
       pub designation-set :
           (w′ : List ℕ) (claim : Claim) → claim ≡ claimOf (factsOf w) r p d → claim ≡ Granted → Stored w at new w′
           → Made (callD c p d) w [] Done w′ []
       unfolding changed listed acceptedValue
       designation-set w′ claim drew granted stored =
-          figures-stored (callD c p d) w book within c at r look (withDesignation p d) (number-kept d r (eqb p 1)) refl new e w′
+          figures-stored (callD c p d) w book within c at r found (withDesignation p d) (number-kept d r (eqb p 1)) refl new e w′
           (drawn Granted (sym granted ∙ drew) .0) refl stored

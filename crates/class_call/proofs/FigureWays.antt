@@ -1,11 +1,10 @@
 -- The ways out of `C` and `V`, over plain variables: by one law of calls that store the figures of an open class. Assumes nothing.
 use Prim.Native.Nat.{ℕ, _+_, _≤_}
 use mathlib.Core.Path.{_≡_, refl, sym, ap, _∙_}
-use mathlib.Core.Bool.{false, not}
+use mathlib.Core.Bool.{true, false, not}
 use mathlib.Core.List.{List, []}
 use lib.ListN.{length}
 use lib.Dec.{T}
-use borrow.Author.Tests.{not-false}
 use Rattle.word.specs.declared.class.ClassRecord.{ClassRecord}
 use Rattle.word.specs.declared.answer.Answer.the-variants.{Done, Refused}
 use Rattle.word.specs.declared.answer.Refusal.the-variants.{NotOpen}
@@ -13,14 +12,12 @@ use Rattle.word.specs.Class.{withClose, withVolume}
 use Rattle.book.specs.Facts.{isOpen, withFigures}
 use Rattle.book.specs.Layout.{layout, factsOf}
 use Rattle.book.specs.Books.{areFigures, isBook}
-use Rattle.book.specs.Calls.{Call, callC, callV, isWritten, class, update, first, conditions, changed, listed, acceptedValue}
+use Rattle.book.specs.Calls.{Call, callC, callV, isWritten, class, isNotOpen, update, first, conditions, changed, listed, acceptedValue}
 use Rattle.book.specs.Places.{classPlace}
 use Rattle.book.specs.Made.{over, Made}
-use Rattle.book.proofs.Tests.{ands, and-intro, T-true, true-T}
+use Rattle.book.proofs.Tests.{ands, and-intro}
 use Rattle.book.proofs.Answered.{made-accepted}
-use Rattle.place.specs.declared.lookup.Lookup.the-variants.{NotOpen as NoClass, Open}
-use Rattle.place.specs.Lookups.{lookupOf}
-use Rattle.class_call.proofs.Ways.{decided, not-open, found-open, found-at, found-figures, found-number, found-limits, found-room}
+use Rattle.class_call.proofs.Ways.{within-limits, decided, not-open, open-room, Found, found-open, found-figures, found-number, found-limits}
 
 -- what `store_figures` asks
 abbrev pub Storable : List ℕ → ℕ → ClassRecord → Type 0
@@ -33,14 +30,14 @@ Stored w at new w′ =
     → w′ ≡ layout (length w) (update (withFigures new (class (factsOf w) c)) (factsOf w))
 
 pub storable :
-    (w : List ℕ) → T (isBook w) → (c at : ℕ) (r : ClassRecord) → lookupOf c (factsOf w) ≡ Open at r
+    (w : List ℕ) → T (isBook w) → (c at : ℕ) (r : ClassRecord) → Found w c at r
     → (new good : ClassRecord) → new ≡ good → T (areFigures good) → Storable w at new
-storable w book c at r look new good e limits = (book, (rw e limits, found-room w book c at r look))
+storable w book c at r found new good e limits = (book, (rw e limits, open-room w book c at (found .is-open) (found .place)))
 
 -- a call that changes the figures of the class c
 module _
     (x : Call) (w : List ℕ) (book : T (isBook w)) (within : not (isWritten x) ≡ false) (c at : ℕ) (r : ClassRecord)
-    (look : lookupOf c (factsOf w) ≡ Open at r) (change : ClassRecord → ClassRecord)
+    (found : Found w c at r) (change : ClassRecord → ClassRecord)
     (keeps : change r .number ≡ r .number)
     (changes : changed x (factsOf w) ≡ update (withFigures (change (class (factsOf w) c .figures)) (class (factsOf w) c)) (factsOf w))
     (new : ClassRecord) (e : new ≡ change r) where
@@ -49,54 +46,52 @@ module _
       → Made x w [] Done w′ (over (listed x (factsOf w)) [])
   figures-stored w′ none value stored =
       made-accepted x w [] book Done w′ refl (decided (length w) x (factsOf w) within ∙ none) value
-      (stored c (found-open w book c at r look) (found-at w book c at r look)
-      (ap (λ (y : ClassRecord). y .number) e ∙ keeps ∙ found-number w book c at r look)
+      (stored c (found-open w book c at r found) (found .place)
+      (ap (λ (y : ClassRecord). y .number) e ∙ keeps ∙ found-number w book c at r found)
       ∙ ap (λ (y : ClassRecord). layout (length w) (update (withFigures y (class (factsOf w) c)) (factsOf w)))
-      (e ∙ ap change (found-figures w book c at r look))
+      (e ∙ ap change (found-figures w book c at r found))
       ∙ ap (layout (length w)) (sym changes))
 
 -- ---- `C`
 
 module _ (c p : ℕ) (w : List ℕ) (book : T (isBook w)) (within : not (isWritten (callC c p)) ≡ false) where
-  pub close-not-open : (at : ℕ) → lookupOf c (factsOf w) ≡ NoClass at → Made (callC c p) w [] (Refused NotOpen) w []
+  pub close-not-open : isNotOpen (factsOf w) c ≡ true → Made (callC c p) w [] (Refused NotOpen) w []
   unfolding conditions
-  close-not-open at look = not-open (callC c p) w book within c at [] refl look
+  close-not-open closed = not-open (callC c p) w book within c [] refl closed
 
   module _
-      (at : ℕ) (r : ClassRecord) (look : lookupOf c (factsOf w) ≡ Open at r) (new : ClassRecord)
+      (at : ℕ) (r : ClassRecord) (found : Found w c at r) (new : ClassRecord)
       (e : new ≡ withClose p r) where
     pub close-storable : Storable w at new
     close-storable =
-        let old = found-limits w book c at r look in
-        let given = true-T (isWritten (callC c p)) (not-false (isWritten (callC c p)) within) in
-        storable w book c at r look new (withClose p r) e (search (ands, and-intro) depth 12)
+        let old = found-limits w book c at r found in
+        let given = within-limits (callC c p) within in
+        storable w book c at r found new (withClose p r) e (search (ands, and-intro) depth 12)
 
     pub close-set : (w′ : List ℕ) → Stored w at new w′ → Made (callC c p) w [] Done w′ []
     unfolding changed conditions listed acceptedValue
     close-set w′ stored =
-        figures-stored (callC c p) w book within c at r look (withClose p) refl refl new e w′
-        (rw (T-true (isOpen c (factsOf w .classes)) (found-open w book c at r look)))
-        refl stored
+        figures-stored (callC c p) w book within c at r found (withClose p) refl refl new e w′
+        (rw (found .is-open)) refl stored
 
 -- ---- `V`
 
 module _ (c n : ℕ) (w : List ℕ) (book : T (isBook w)) (within : not (isWritten (callV c n)) ≡ false) where
-  pub volume-not-open : (at : ℕ) → lookupOf c (factsOf w) ≡ NoClass at → Made (callV c n) w [] (Refused NotOpen) w []
+  pub volume-not-open : isNotOpen (factsOf w) c ≡ true → Made (callV c n) w [] (Refused NotOpen) w []
   unfolding conditions
-  volume-not-open at look = not-open (callV c n) w book within c at [] refl look
+  volume-not-open closed = not-open (callV c n) w book within c [] refl closed
 
   module _
-      (at : ℕ) (r : ClassRecord) (look : lookupOf c (factsOf w) ≡ Open at r) (new : ClassRecord)
+      (at : ℕ) (r : ClassRecord) (found : Found w c at r) (new : ClassRecord)
       (e : new ≡ withVolume n r) where
     pub volume-storable : Storable w at new
     volume-storable =
-        let old = found-limits w book c at r look in
-        let given = true-T (isWritten (callV c n)) (not-false (isWritten (callV c n)) within) in
-        storable w book c at r look new (withVolume n r) e (search (ands, and-intro) depth 12)
+        let old = found-limits w book c at r found in
+        let given = within-limits (callV c n) within in
+        storable w book c at r found new (withVolume n r) e (search (ands, and-intro) depth 12)
 
     pub volume-set : (w′ : List ℕ) → Stored w at new w′ → Made (callV c n) w [] Done w′ []
     unfolding changed conditions listed acceptedValue
     volume-set w′ stored =
-        figures-stored (callV c n) w book within c at r look (withVolume n) refl refl new e w′
-        (rw (T-true (isOpen c (factsOf w .classes)) (found-open w book c at r look)))
-        refl stored
+        figures-stored (callV c n) w book within c at r found (withVolume n) refl refl new e w′
+        (rw (found .is-open)) refl stored

@@ -1,6 +1,6 @@
 -- The ways out of `M`, `O` and `R`, and those that calls share, over plain variables: by the law of each way out and the number of the call's conditions. Assumes nothing.
 use Prim.Native.Nat.{ℕ, _+_, _-_, _≤_, _<_}
-use mathlib.Core.Path.{_≡_, refl, ap, _∙_}
+use mathlib.Core.Path.{_≡_, refl, sym, ap, _∙_}
 use mathlib.Core.Bool.{true, false, not}
 use mathlib.Core.List.{List, [], _∷_}
 use native.Mathlib.Omega.{arith}
@@ -17,25 +17,26 @@ use Rattle.book.specs.Books.{areFigures, isBook}
 use Rattle.book.specs.Calls.{Call, callM, callO, callR, isWritten, class, isNotOpen, isReviewed, Condition, draws, first, conditions, changed, numberOf, listed, acceptedValue}
 use Rattle.book.specs.Places.{classPlace}
 use Rattle.book.specs.Made.{Made}
-use Rattle.book.proofs.Tests.{ands, T-true, true-T}
+use Rattle.book.proofs.Tests.{ands, true-T}
 use Rattle.book.proofs.Lists.{length-only}
+use Rattle.book.proofs.Keep.{month-again}
 use Rattle.book.proofs.ClassLaws.{number-of, sum-put}
 use Rattle.book.proofs.Layouts.{used-taken}
 use Rattle.book.proofs.Splices.{words-opened}
 use Rattle.book.proofs.ClassWords.{class-good}
 use Rattle.book.proofs.Answered.{made-refused, made-accepted}
-use Rattle.place.specs.declared.lookup.Lookup.the-variants.{NotOpen as NoClass, Open}
-use Rattle.place.specs.Lookups.{lookupOf}
-use Rattle.place.specs.Search.{firstAt, isFrom}
-use Rattle.place.proofs.Heads.{book-good, book-form, book-room, book-long}
-use Rattle.place.proofs.Found.{class-ended}
-use Rattle.place.proofs.Answers.{lookup-open, lookup-not-open, series-within}
+use Rattle.place.specs.Search.{firstAt, isFrom, figuresAt}
+use Rattle.place.proofs.Heads.{book-good, book-form, book-is, book-room, book-long}
+use Rattle.place.proofs.Found.{class-room, figures-found, class-ended}
 
 -- ---- any call
 
 pub beyond-limits : (x : Call) (w : List ℕ) → T (isBook w) → not (isWritten x) ≡ true → Made x w [] (Refused BeyondLimits) w []
 unfolding numberOf
 beyond-limits x w book e = made-refused x w [] book BeyondLimits (rw e) refl
+
+pub within-limits : (x : Call) → not (isWritten x) ≡ false → T (isWritten x)
+within-limits x e = true-T (isWritten x) (not-false (isWritten x) e)
 
 -- within its limits the conditions decide
 pub decided : (n : ℕ) (x : Call) (f : Facts) → not (isWritten x) ≡ false → numberOf n x f ≡ first (conditions n x f)
@@ -44,26 +45,38 @@ decided n x f e = rw e
 
 -- a call that asks first for the class c
 pub not-open :
-    (x : Call) (w : List ℕ) → T (isBook w) → not (isWritten x) ≡ false → (c at : ℕ) (rest : List Condition)
+    (x : Call) (w : List ℕ) → T (isBook w) → not (isWritten x) ≡ false → (c : ℕ) (rest : List Condition)
     → conditions (length w) x (factsOf w) ≡ draws 4 (isNotOpen (factsOf w) c) ∷ rest
-    → lookupOf c (factsOf w) ≡ NoClass at → Made x w [] (Refused NotOpen) w []
-not-open x w book within c at rest asks look =
-    made-refused x w [] book NotOpen
-    (decided (length w) x (factsOf w) within ∙ ap first asks ∙ rw (lookup-not-open c (factsOf w) at look .0))
-    refl
+    → isNotOpen (factsOf w) c ≡ true → Made x w [] (Refused NotOpen) w []
+not-open x w book within c rest asks closed =
+    made-refused x w [] book NotOpen (decided (length w) x (factsOf w) within ∙ ap first asks ∙ rw closed) refl
 
--- ---- a class that is found
+-- ---- an open class
+
+class-open : (f : Facts) (c : ℕ) → isNotOpen f c ≡ false → T (isOpen c (f .classes))
+class-open f c e = true-T (isOpen c (f .classes)) (not-false (isOpen c (f .classes)) e)
 
 module _
-    (w : List ℕ) (book : T (isBook w)) (c at : ℕ) (r : ClassRecord) (look : lookupOf c (factsOf w) ≡ Open at r) where
-  pub found-open : T (isOpen c (factsOf w .classes))
-  found-open = lookup-open c (factsOf w) at r look .0
+    (w : List ℕ) (book : T (isBook w)) (c at : ℕ) (is-open : isNotOpen (factsOf w) c ≡ false)
+    (place : at ≡ classPlace c (factsOf w)) where
+  pub open-within : at + 3 ≤ used (factsOf w)
+  open-within = omega (arith, class-room w book c (class-open (factsOf w) c is-open))
 
-  pub found-at : at ≡ classPlace c (factsOf w)
-  found-at = lookup-open c (factsOf w) at r look .1 .0
+  pub open-room : at + 3 ≤ length w
+  open-room = omega (arith, open-within, book-room w book)
+
+-- an open class, where it stands and what its words say
+pub record Found (w : List ℕ) (c at : ℕ) (r : ClassRecord) : Type 0 where
+  pub is-open : isNotOpen (factsOf w) c ≡ false
+  pub place : at ≡ classPlace c (factsOf w)
+  pub said : r ≡ figuresAt at w
+
+module _ (w : List ℕ) (book : T (isBook w)) (c at : ℕ) (r : ClassRecord) (found : Found w c at r) where
+  pub found-open : T (isOpen c (factsOf w .classes))
+  found-open = class-open (factsOf w) c (found .is-open)
 
   pub found-figures : r ≡ class (factsOf w) c .figures
-  found-figures = lookup-open c (factsOf w) at r look .1 .1
+  found-figures = found .said ∙ figures-found w book c found-open at (found .place)
 
   pub found-number : r .number ≡ c
   found-number = ap (λ (x : ClassRecord). x .number) found-figures ∙ number-of c (factsOf w .classes)
@@ -73,17 +86,11 @@ module _
       let g = class-good (length w) (factsOf w) c (book-good w book) found-open in
       rw found-figures (search ands)
 
-  pub found-within : at + 3 ≤ used (factsOf w)
-  found-within = series-within w book c at r look
-
-  pub found-room : at + 3 ≤ length w
-  found-room = omega (arith, found-within, book-room w book, book-long w book)
-
 -- ---- `M`
 
 module _ (m : ℕ) (w : List ℕ) (book : T (isBook w)) (within : not (isWritten (callM m)) ≡ false) where
   pub month-limit : m ≤ 1023
-  month-limit = leb→le m 1023 (true-T (isWritten (callM m)) (not-false (isWritten (callM m)) within))
+  month-limit = leb→le m 1023 (within-limits (callM m) within)
 
   pub month-outside : m < factsOf w .now → Made (callM m) w [] (Refused MonthOutside) w []
   unfolding conditions
@@ -101,19 +108,22 @@ module _ (m : ℕ) (w : List ℕ) (book : T (isBook w)) (within : not (isWritten
       (decided (length w) (callM m) (factsOf w) within ∙ rw (le-ltb m (factsOf w .now) l))
       refl words
 
+  pub month-kept : m ≡ factsOf w .now → Made (callM m) w [] Done w []
+  month-kept e =
+      let f = factsOf w in
+      month-set w (omega arith)
+      (sym (book-is w book)
+      ∙ ap (layout (length w)) (sym (ap (λ (k : ℕ). changed (callM k) f) e ∙ month-again (length w) f (book-form w book))))
+
 -- ---- `O`
 
 module _ (c : ℕ) (w : List ℕ) (book : T (isBook w)) (within : not (isWritten (callO c)) ≡ false) where
-  pub already-open :
-      (at : ℕ) (r : ClassRecord) → lookupOf c (factsOf w) ≡ Open at r → Made (callO c) w [] (Refused AlreadyOpen) w []
+  pub already-open : isOpen c (factsOf w .classes) ≡ true → Made (callO c) w [] (Refused AlreadyOpen) w []
   unfolding conditions
-  already-open at r look =
-      made-refused (callO c) w [] book AlreadyOpen
-      (decided (length w) (callO c) (factsOf w) within
-      ∙ rw (T-true (isOpen c (factsOf w .classes)) (found-open w book c at r look)))
-      refl
+  already-open e =
+      made-refused (callO c) w [] book AlreadyOpen (decided (length w) (callO c) (factsOf w) within ∙ rw e) refl
 
-  module _ (at : ℕ) (look : lookupOf c (factsOf w) ≡ NoClass at) (end : ℕ) (e : end ≡ used (factsOf w)) where
+  module _ (closed : isOpen c (factsOf w .classes) ≡ false) (end : ℕ) (e : end ≡ used (factsOf w)) where
     pub out-of-words : length w < end + 3 → Made (callO c) w [] (Refused (OutOfWords 0)) w []
     unfolding conditions listed
     out-of-words l =
@@ -121,22 +131,16 @@ module _ (c : ℕ) (w : List ℕ) (book : T (isBook w)) (within : not (isWritten
         omega (arith, words-opened c (factsOf w), used-taken (factsOf w)) in
         made-refused (callO c) w [] book (OutOfWords 0)
         (decided (length w) (callO c) (factsOf w) within
-        ∙ rw (lookup-not-open c (factsOf w) at look .0, lt-ltb (length w) _ k))
+        ∙ rw (closed, lt-ltb (length w) _ k))
         refl
 
     module _ (room : end + 3 ≤ length w) where
       pub class-insertable :
-          T (isBook w)
+          (at : ℕ) → at ≡ classPlace c (factsOf w)
+          → T (isBook w)
           × (T (isClassNumber c)
           × (T (not (isOpen c (factsOf w .classes))) × ((at ≡ classPlace c (factsOf w)) × (used (factsOf w) + 3 ≤ length w))))
-      class-insertable =
-          let x = lookup-not-open c (factsOf w) at look in (
-            book,
-            (
-              true-T (isClassNumber c) (not-false (isClassNumber c) within),
-              (rw (x .0) tt, (x .1, omega arith)),
-            ),
-          )
+      class-insertable at place = (book, (within-limits (callO c) within, (rw closed tt, (place, omega arith))))
 
       pub class-opened :
           (w′ : List ℕ) → w′ ≡ layout (length w) (changed (callO c) (factsOf w)) → Made (callO c) w [] Done w′ []
@@ -146,25 +150,25 @@ module _ (c : ℕ) (w : List ℕ) (book : T (isBook w)) (within : not (isWritten
           omega (arith, words-opened c (factsOf w), used-taken (factsOf w)) in
           made-accepted (callO c) w [] book Done w′ refl
           (decided (length w) (callO c) (factsOf w) within
-          ∙ rw (lookup-not-open c (factsOf w) at look .0, le-ltb (length w) _ k))
+          ∙ rw (closed, le-ltb (length w) _ k))
           refl words
 
 -- ---- `R`
 
 module _ (c : ℕ) (w : List ℕ) (book : T (isBook w)) (within : not (isWritten (callR c)) ≡ false) where
-  pub review-not-open : (at : ℕ) → lookupOf c (factsOf w) ≡ NoClass at → Made (callR c) w [] (Refused NotOpen) w []
+  pub review-not-open : isNotOpen (factsOf w) c ≡ true → Made (callR c) w [] (Refused NotOpen) w []
   unfolding conditions
-  review-not-open at look = not-open (callR c) w book within c at _ refl look
+  review-not-open closed = not-open (callR c) w book within c _ refl closed
 
-  module _ (at : ℕ) (r : ClassRecord) (look : lookupOf c (factsOf w) ≡ Open at r) where
+  module _ (at : ℕ) (r : ClassRecord) (found : Found w c at r) where
     pub review-no-close : r .close ≡ 0 → Made (callR c) w [] (Refused NoClose) w []
     unfolding conditions
     review-no-close e =
         made-refused (callR c) w [] book NoClose
         (decided (length w) (callR c) (factsOf w) within
         ∙ rw (
-          T-true (isOpen c (factsOf w .classes)) (found-open w book c at r look),
-          ← found-figures w book c at r look,
+          found .is-open,
+          ← found-figures w book c at r found,
           eq-eqb (r .close) 0 e,
         ))
         refl
@@ -179,9 +183,9 @@ module _ (c : ℕ) (w : List ℕ) (book : T (isBook w)) (within : not (isWritten
         → (k ≡ acceptedValue (callR c) (factsOf w)) × (w′ ≡ layout (length w) (changed (callR c) (factsOf w)))) where
       reviewed : (k ≡ acceptedValue (callR c) (factsOf w)) × (w′ ≡ layout (length w) (changed (callR c) (factsOf w)))
       reviewed =
-          let o = found-open w book c at r look in
-          let p : at + 3 ≡ classPlace c (factsOf w) + 3 = omega (arith, found-at w book c at r look) in
-          done c o p (class-ended w book c o (at + 3) to p e) (ap (λ (x : ClassRecord). x .close) (found-figures w book c at r look))
+          let o = found-open w book c at r found in
+          let p : at + 3 ≡ classPlace c (factsOf w) + 3 = omega arith in
+          done c o p (class-ended w book c o (at + 3) to p e) (ap (λ (x : ClassRecord). x .close) (found-figures w book c at r found))
 
       pub review-count : k ≤ 65535
       unfolding acceptedValue
@@ -191,7 +195,7 @@ module _ (c : ℕ) (w : List ℕ) (book : T (isBook w)) (within : not (isWritten
             arith,
             reviewed .0,
             length-only (isReviewed x) (x .series),
-            sum-put wordsOf (newClass c) (factsOf w .classes) (found-open w book c at r look),
+            sum-put wordsOf (newClass c) (factsOf w .classes) (found-open w book c at r found),
             book-form w book .room,
             book-long w book,
           )
@@ -202,8 +206,8 @@ module _ (c : ℕ) (w : List ℕ) (book : T (isBook w)) (within : not (isWritten
           made-accepted (callR c) w [] book (Removed k) w′ refl
           (decided (length w) (callR c) (factsOf w) within
           ∙ rw (
-            T-true (isOpen c (factsOf w .classes)) (found-open w book c at r look),
-            ← found-figures w book c at r look,
+            found .is-open,
+            ← found-figures w book c at r found,
             ne-eqb (r .close) 0 n,
           ))
           (reviewed .0) (reviewed .1)

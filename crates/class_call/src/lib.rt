@@ -12,8 +12,9 @@ use edit::insert_class;
 use edit::store_figures;
 use place::head::current;
 use place::head::used;
-use place::lookup::Lookup;
-use place::lookup::look_up;
+use place::lookup::class_at;
+use place::lookup::figures_at;
+use place::lookup::is_open_at;
 use place::lookup::next_class;
 use removal::expiry::expire;
 use removal::review;
@@ -27,7 +28,7 @@ use word::limits::is_volume;
 
 pub mod programs;
 
-// `M`: sets the current month, and removes the strikes of earlier months.
+// `M`: sets the current month, and removes the strikes of earlier months. A book has none before its own month, so that this changes nothing where it is that month.
 pub fn set_month(run: &mut [u32], m: u32) -> Answer
     requires { ⌜ T (isBook (now run)) ⌝ }
     ensures { λ r. ⌜ Made (callM m) (now (run .entry)) [] r (now (run .exit)) [] ⌝ }
@@ -37,6 +38,9 @@ pub fn set_month(run: &mut [u32], m: u32) -> Answer
     }
     if m < current(run) {
         return Answer::Refused(Refusal::MonthOutside);
+    }
+    if m == current(run) {
+        return Answer::Done;
     }
     expire(run, m);
     Answer::Done
@@ -50,10 +54,10 @@ pub fn open_class(run: &mut [u32], c: u32) -> Answer
     if !is_class_number(c) {
         return Answer::Refused(Refusal::BeyondLimits);
     }
-    let found = look_up(run, c);
-    let Lookup::NotOpen(at) = found else {
+    let at = class_at(run, c);
+    if is_open_at(run, at, c) {
         return Answer::Refused(Refusal::AlreadyOpen);
-    };
+    }
     if run.len() < used(run) + 3 {
         return Answer::Refused(Refusal::OutOfWords(0));
     }
@@ -69,10 +73,11 @@ pub fn set_close(run: &mut [u32], c: u32, p: u32) -> Answer
     if !(is_class_number(c) & is_price(p)) {
         return Answer::Refused(Refusal::BeyondLimits);
     }
-    let found = look_up(run, c);
-    let Lookup::Open(at, figures) = found else {
+    let at = class_at(run, c);
+    if !is_open_at(run, at, c) {
         return Answer::Refused(Refusal::NotOpen);
-    };
+    }
+    let figures = figures_at(run, at);
     store_figures(run, at, figures.with_close(p));
     Answer::Done
 }
@@ -85,10 +90,11 @@ pub fn set_volume(run: &mut [u32], c: u32, n: u32) -> Answer
     if !(is_class_number(c) & is_volume(n)) {
         return Answer::Refused(Refusal::BeyondLimits);
     }
-    let found = look_up(run, c);
-    let Lookup::Open(at, figures) = found else {
+    let at = class_at(run, c);
+    if !is_open_at(run, at, c) {
         return Answer::Refused(Refusal::NotOpen);
-    };
+    }
+    let figures = figures_at(run, at);
     store_figures(run, at, figures.with_volume(n));
     Answer::Done
 }
@@ -101,10 +107,11 @@ pub fn designate(run: &mut [u32], c: u32, p: u32, d: u32) -> Answer
     if !(is_class_number(c) & (is_program(p) & is_designation(d))) {
         return Answer::Refused(Refusal::BeyondLimits);
     }
-    let found = look_up(run, c);
-    let Lookup::Open(at, figures) = found else {
+    let at = class_at(run, c);
+    if !is_open_at(run, at, c) {
         return Answer::Refused(Refusal::NotOpen);
-    };
+    }
+    let figures = figures_at(run, at);
     let claim = claim_of(run, figures, p, d);
     if let Claim::Refused(why) = claim {
         return Answer::Refused(why);
@@ -121,10 +128,11 @@ pub fn review_class(run: &mut [u32], c: u32) -> Answer
     if !is_class_number(c) {
         return Answer::Refused(Refusal::BeyondLimits);
     }
-    let found = look_up(run, c);
-    let Lookup::Open(at, figures) = found else {
+    let at = class_at(run, c);
+    if !is_open_at(run, at, c) {
         return Answer::Refused(Refusal::NotOpen);
-    };
+    }
+    let figures = figures_at(run, at);
     if figures.close == 0 {
         return Answer::Refused(Refusal::NoClose);
     }

@@ -72,7 +72,7 @@ half-reach s = go (isLong s)
 low-most : (p : ℕ) → p ≤ 999999 → lowEnd p ≤ 10000
 low-most p l = go (ltb 2000 p)
   where
-    go : (t : Bool) → cond {A = ℕ} t ((p + 99) / 100) 1 ≤ 10000
+    go : (t : Bool) → cond {A = ℕ} t ((p + 99) / 100) 0 ≤ 10000
     go true = omega arith
     go false = omega arith
 

@@ -1,20 +1,41 @@
 -- The first of a list that passes a test, found one by one or by blocks: by induction on the list, and by what is left of it. Assumes nothing.
-use Prim.Native.Nat.{ℕ, zero, suc, _+_, _-_, _≤_, _<_, zero-le}
-use mathlib.Core.Path.{_≡_, refl, sym, ap, _∙_, subst}
+use Prim.Native.Nat.{ℕ, zero, suc, _+_, _-_, _*_, _^_, _≤_, _<_, zero-le}
+use mathlib.Core.Path.{_≡_, refl, sym, ap, ap₂, _∙_, subst}
 use mathlib.Core.Bool.{Bool, true, false, cond}
 use mathlib.Core.List.{List, [], _∷_, _++_, map}
 use native.Mathlib.Omega.{arith}
 use native.Mathlib.Numerals.{add-one}
+use lib.Bits.{bitOr, or-block, or-zero-l}
 use lib.Count.{trailingZeros}
 use lib.ListN.{length, take, drop, getD, take-append-drop, drop-of-length-le, length-drop, length-map}
 use lib.Seq.{drop-cons, drop-drop, length-take-le, take-all, getD-take, getD-drop}
 use lib.Dec.{T}
 use Rattle.word.specs.Digits.{binary, firstOne}
-use Rattle.word.proofs.Digits.{trailing-zeros, no-one, some-one}
+use Rattle.word.proofs.Digits.{digits-more, trailing-zeros, no-one, some-one}
 use Rattle.rule.specs.Lists.{every}
-use Rattle.book.proofs.Tests.{ands}
+use Rattle.rule.proofs.Near.{each-at}
+use Rattle.book.proofs.Tests.{T-true, true-T}
 use Rattle.book.proofs.Splits.{every-split}
 use Rattle.place.specs.Search.{firstAt}
+
+-- ---- digits
+
+or-doubled : (a b : ℕ) → bitOr (2 * a) (2 * b) ≡ 2 * bitOr a b
+or-doubled a b =
+    let x : 2 * a ≡ a * 2 ^ 1 + 0 = omega arith in
+    let y : 2 * b ≡ b * 2 ^ 1 + 0 = omega arith in
+    let z : bitOr a b * 2 ^ 1 + bitOr 0 0 ≡ 2 * bitOr a b = omega (arith, or-zero-l 0) in
+    ap₂ bitOr x y ∙ or-block 1 a b 0 0 (omega arith) (omega arith) ∙ z
+
+-- the digits from bit 1 on that say which pass a test, with that of one element more
+pub doubled-more :
+    {A : Type 0} (p : A → Bool) (d : A) (xs : List A) (i : ℕ) → i < length xs
+    → bitOr (2 * binary (map p (take i xs))) (2 * cond {A = ℕ} (p (getD xs i d)) (2 ^ i) 0) ≡ 2 * binary (map p (take (i + 1) xs))
+doubled-more p d xs i l =
+    or-doubled (binary (map p (take i xs))) (cond {A = ℕ} (p (getD xs i d)) (2 ^ i) 0)
+    ∙ ap (λ (k : ℕ). 2 * k) (digits-more p d xs i l)
+
+-- ---- the first that passes a test
 
 module _ {A : Type 0} (p : A → Bool) where
   first-most : (xs : List A) → firstAt p xs ≤ length xs
@@ -47,34 +68,26 @@ module _ {A : Type 0} (p : A → Bool) where
       go true h r = absurd (omega arith)
       go false h r = omega (arith, r (omega arith))
 
-  -- no more stand before the first that passes a weaker test
-  first-weaker : (q : A → Bool) → ((x : A) → p x ≡ false → q x ≡ false) → (xs : List A) → firstAt p xs ≤ firstAt q xs
-  first-weaker q weaker [] = zero-le
-  first-weaker q weaker (x ∷ xs) = go (p x) refl (first-weaker q weaker xs)
-    where
-      go :
-          (b : Bool) → p x ≡ b → firstAt p xs ≤ firstAt q xs
-          → cond {A = ℕ} b 0 (suc (firstAt p xs)) ≤ cond {A = ℕ} (q x) 0 (suc (firstAt q xs))
-      go true e l = zero-le
-      go false e l = rw (weaker x e) (omega arith)
-
   first-digit : (xs : List A) → firstOne (map p xs) ≡ firstAt p xs
   first-digit [] = refl
   first-digit (x ∷ xs) = ap (λ (k : ℕ). cond {A = ℕ} (p x) 0 (suc k)) (first-digit xs)
 
-  -- the number whose digits say which of n pass
-  module _ (xs : List A) (n bits : ℕ) (long : length xs ≡ n) (e : bits ≡ binary (map p xs)) where
+  -- the number whose digits from bit 1 on say which of n pass
+  module _ (xs : List A) (n bits : ℕ) (long : length xs ≡ n) (e : bits ≡ 2 * binary (map p xs)) where
     digits-long : length (map p xs) ≡ n
     digits-long = length-map xs p ∙ long
 
     digits-none : bits ≡ 0 → firstAt p xs ≡ n
-    digits-none z = sym (first-digit xs) ∙ no-one (map p xs) (sym e ∙ z) ∙ digits-long
+    digits-none z = sym (first-digit xs) ∙ no-one (map p xs) (omega arith) ∙ digits-long
 
-    digits-some : (bits ≡ 0 → ⊥) → (trailingZeros n bits ≡ firstAt p xs) × (firstAt p xs < n)
-    digits-some z = (
-      (λ i. trailingZeros (sym digits-long i) (e i)) ∙ trailing-zeros (map p xs) ∙ first-digit xs,
-      omega (arith, some-one (map p xs) (λ y. z (e ∙ y)), digits-long, first-digit xs),
-    )
+    digits-some : (k : ℕ) → n < k → (bits ≡ 0 → ⊥) → (trailingZeros k bits ≡ suc (firstAt p xs)) × (firstAt p xs < n)
+    digits-some k wide z =
+        let d : bits ≡ binary (false ∷ map p xs) = omega arith in (
+          ap (trailingZeros k) d
+              ∙ trailing-zeros k (false ∷ map p xs) (omega (arith, digits-long)) (λ y. z (d ∙ y))
+              ∙ ap suc (first-digit xs),
+          omega (arith, some-one (map p xs) (λ y. z (omega arith)), digits-long, first-digit xs),
+        )
 
   first-passes : (d : A) (xs : List A) → firstAt p xs < length xs → p (getD xs (firstAt p xs) d) ≡ true
   first-passes d [] l = absurd (omega arith)
@@ -101,9 +114,7 @@ module _ {A : Type 0} (p : A → Bool) where
       go false h r = omega (arith, r (omega arith))
 
 pub every-at : {A : Type 0} (p : A → Bool) (d : A) (xs : List A) (i : ℕ) → i < length xs → T (every p xs) → T (p (getD xs i d))
-every-at p d [] i l t = absurd (omega arith)
-every-at p d (x ∷ xs) zero l t = search ands
-every-at p d (x ∷ xs) (suc i) l t = every-at p d xs i (omega arith) (search ands)
+every-at p d xs i l t = true-T (p (getD xs i d)) (each-at p d xs i l (T-true (every p xs) t))
 
 -- ---- the words from i to e, as a part is lent
 
@@ -163,14 +174,6 @@ module _ {A : Type 0} (p : A → Bool) (xs : List A) where
         let f = rw (take-all (length xs - i) (drop i xs) (simp length-drop (omega arith))) at q in
         (omega (arith, s .onward), omega (arith, s .onward, first-most p xs))
 
-    -- .. to the next one that passes a weaker test
-    pub seek-weaker :
-        (q : A → Bool) → ((x : A) → q x ≡ false → p x ≡ false) → (j : ℕ) → j ≡ firstAt q (take (length xs - i) (drop i xs))
-        → Seeking p xs (i + j)
-    seek-weaker q weaker j e =
-        let f = rw (take-all (length xs - i) (drop i xs) (simp length-drop (omega arith))) at e in
-        seek-before (i + j) (omega (arith, s .onward, first-weaker q p weaker (drop i xs)))
-
     module _ (e j : ℕ) (low : i ≤ e) (high : e ≤ length xs) (q : j ≡ firstAt p (take (e - i) (drop i xs))) where
       seek-inside : i + j < e → i + j ≡ firstAt p xs
       seek-inside l =
@@ -191,15 +194,18 @@ module _ {A : Type 0} (p : A → Bool) (xs : List A) where
           let d : after ≡ drop e xs = drop-drop (e - i) i xs ∙ ap (λ (k : ℕ). drop k xs) end in
           record { within = high; onward = omega (arith, s .onward, part-length xs i e high low, ap (firstAt p) d) }
 
-    -- n words by the number whose digits say which of them pass
-    module _ (n bits : ℕ) (high : i + n ≤ length xs) (q : bits ≡ binary (map p (take (i + n - i) (drop i xs)))) where
+    -- n words by the number whose digits from bit 1 on say which of them pass
+    module _ (n bits : ℕ) (high : i + n ≤ length xs) (q : bits ≡ 2 * binary (map p (take (i + n - i) (drop i xs)))) where
       block-long : length (take (i + n - i) (drop i xs)) ≡ n
       block-long = omega (arith, part-length xs i (i + n) high (omega arith))
 
-      pub seek-digit : (bits ≡ 0 → ⊥) → (i + trailingZeros n bits ≡ firstAt p xs) × (i + trailingZeros n bits < i + n)
-      seek-digit z =
-          let d = digits-some p (take (i + n - i) (drop i xs)) n bits block-long q z in
-          (seek-inside (i + n) (trailingZeros n bits) (omega arith) high (d .0) (omega arith), omega arith)
+      pub seek-digit :
+          (k : ℕ) → n < k → (bits ≡ 0 → ⊥)
+          → (i + trailingZeros k bits - 1 ≡ firstAt p xs) × (1 ≤ trailingZeros k bits) × (trailingZeros k bits ≤ n)
+      seek-digit k wide z =
+          let d = digits-some p (take (i + n - i) (drop i xs)) n bits block-long q k wide z in
+          let f = seek-inside (i + n) (trailingZeros k bits - 1) (omega arith) high (omega arith) (omega arith) in
+          (omega arith, omega arith, omega arith)
 
       pub seek-no-digit : bits ≡ 0 → Seeking p xs (i + n)
       seek-no-digit z =

@@ -1,39 +1,37 @@
 -- What the searches find in a book, as places of its facts: the words that they are lent are those of the classes, of a class's series and of an expiration's strikes. Assumes nothing.
-use Prim.Native.Nat.{ℕ, suc, _+_, _-_, _<_, _≤_}
+use Prim.Native.Nat.{ℕ, suc, _+_, _-_, _^_, _<_, _≤_}
 use mathlib.Core.Path.{_≡_, refl, sym, ap, _∙_, subst}
 use mathlib.Core.Bool.{Bool, true, false, cond, not, _&&_}
-use mathlib.Core.List.{List, [], _∷_, _++_, map, map-append, append-nil, append-assoc}
+use mathlib.Core.List.{List, [], _∷_, _++_, map, append-nil, append-assoc}
 use native.Mathlib.Omega.{arith}
 use lib.ListN.{length, take, drop, getD, replicate, length-append, length-drop, length-map}
-use lib.Seq.{drop-at, drop-drop, getD-at, length-take-le, take-add}
-use lib.Dec.{T, eqb, leb, eqb·zero-suc, leb→le, ltb→lt}
+use lib.Seq.{drop-drop, length-take-le, take-add}
+use lib.Dec.{T, eqb, leb, ltb, eqb·zero-suc, leb·zero, leb→le, ltb→lt}
 use borrow.Author.Tests.{eq-eqb, ne-eqb, le-leb, lt-ltb, le-ltb}
 use Rattle.word.specs.declared.class.ClassRecord.{ClassRecord}
 use Rattle.word.specs.declared.codec.Word.{Word}
 use Rattle.word.specs.declared.codec.Word.the-variants.{Head, Class, Close, Volume, Expiration}
 use Rattle.word.specs.Field.{field}
 use Rattle.word.specs.Codec.{isLegal, packed}
-use Rattle.word.proofs.Words.{legal-fits, kindIn, class-fields}
-use Rattle.rule.specs.Lists.{every, some, only}
+use Rattle.word.proofs.Words.{legal-fits, kindIn, kind-packed, class-fields}
+use Rattle.rule.specs.Lists.{every, only}
 use Rattle.book.specs.Facts.{Series, OpenClass, Facts, number, isOpen, inMonth}
-use Rattle.book.specs.Layout.{strikeWord, seriesWords, figuresWords, classesWords, used, factsOf}
-use Rattle.book.specs.Books.{areFigures, isSeries, isBook}
+use Rattle.book.specs.Layout.{strikeWord, expirationUnless, seriesWords, figuresWords, classesWords, used, factsOf}
+use Rattle.book.specs.Books.{areFigures, isBook}
 use Rattle.book.specs.Calls.{class, isStanding}
-use Rattle.book.specs.Places.{classPlace, strikesPlace, strikesEnd, strikePlace}
-use Rattle.book.proofs.Tests.{and-intro, ands, T-true, true-T}
-use Rattle.book.proofs.Lists.{every-imply, every-map}
-use Rattle.book.proofs.Forms.{areSeries}
+use Rattle.book.specs.Places.{classPlace, hasExpiration, expirationPlace, strikePlace}
+use Rattle.book.proofs.Tests.{ands, T-true, true-T}
+use Rattle.book.proofs.Lists.{every-imply, every-map, every-true}
 use Rattle.book.proofs.Layouts.{seriesWords-append, words-legal}
 use Rattle.book.proofs.Parts.{only-absent, every-kept, some-both, isUnder, isEqual, isOver, distinct-parts}
 use Rattle.book.proofs.Expirations.{monthOf, strikeOf, series-words, low, placed, high, strike-parts}
 use Rattle.book.proofs.Splits.{every-split}
 use Rattle.book.proofs.ClassWords.{class-good, series-good, class-words, numbers-rise}
-use Rattle.book.proofs.Runs.{bookWords, run-part, run-word, strikes-good, strikes-part}
-use Rattle.place.specs.declared.lookup.Part.{Part}
-use Rattle.place.specs.Search.{firstAt, isOfKind, isNoLower, isUpTo, isFrom, holdsAt, Rises, figuresAt, standsAt, strikesAfter, strikesIn}
+use Rattle.book.proofs.Runs.{bookWords, run-part, run-word}
+use Rattle.place.specs.Search.{firstAt, isOfKind, isNoLower, isUpTo, isFrom, Rises, figuresAt}
 use Rattle.place.proofs.Heads.{book-good, book-form, book-is, book-room, book-long}
-use Rattle.place.proofs.Words.{first-of-kind, first-up-to, isKeyed, from-packed, isEnding, ending-packed}
-use Rattle.place.proofs.Laid.{first-after, kinds-packed, stops-anywhere, sought, found, every-true, every-series, not-from, strikes-laid, class-kinds, no-class, classes-laid}
+use Rattle.place.proofs.Words.{keyIn, first-from, isKeyed, key-said, from-packed, isEnding, up-to-packed}
+use Rattle.place.proofs.Laid.{begins, first-after, kinds-packed, stops-anywhere, ends-there, from-there, two-parts, sought, found, every-series, not-from, strikes-laid, class-kinds, no-class, classes-laid}
 use Rattle.place.proofs.Rising.{ordered-rises, ordered-packed, classes-ordered}
 
 -- the three words of legal figures say them
@@ -52,136 +50,30 @@ figures-said r t at ws x y z =
     let volume : field (getD ws (at + 2) 0) 0 24 ≡ r .volume = omega arith in
     λ i. record { number = class .0 i; close = close i; volume = volume i; dollar = class .1 i; half = class .2 i }
 
--- ---- the strikes of a month in the words of series and of classes after them
+-- ---- the words after those of a month
 
--- whether a word stands after some words
-stands-after : (w : ℕ) (xs ys : List Word) → standsAt w (map packed (xs ++ ys)) (length xs) ≡ standsAt w (map packed ys) 0
-stands-after w xs [] = rw (append-nil xs, length-map xs packed, le-ltb (length xs) (length xs) (omega arith))
-stands-after w xs (y ∷ ys) =
-    let e : length xs < length (map packed (xs ++ (y ∷ ys))) = simp (length-map, length-append) (omega arith) in
-    let d : getD (map packed (xs ++ (y ∷ ys))) (length xs) 0 ≡ packed y =
-    ap (λ (l : List ℕ). getD l (length xs) 0) (map-append packed xs (y ∷ ys))
-    ∙ getD-at (map packed xs) (packed y) (map packed ys) 0 (length xs) (length-map xs packed) in
-    rw (lt-ltb _ _ e, d, lt-ltb 0 (length (map packed (y ∷ ys))) (omega arith))
-
-first-other : (w : ℕ) (y : Word) (ys : List Word) → (packed y ≡ w → ⊥) → standsAt w (map packed (y ∷ ys)) 0 ≡ false
-first-other w y ys n = rw (lt-ltb 0 (length (map packed (y ∷ ys))) (omega arith), ne-eqb (packed y) w n)
-
+-- they begin with a class or a later expiration, or there are none
 module _
-    (now m : ℕ) (month : m ≤ 1023) (ss : List Series) (xs : List OpenClass) (good : T (areSeries now ss))
-    (legal : T (every isLegal (seriesWords 0 ss (classesWords xs [])))) where
-  abbrev words : List ℕ
-  words = map packed (seriesWords 0 ss (classesWords xs []))
+    (m : ℕ) (P : List Word → Type 0) (none : P [])
+    (of-class : (number dollar half : ℕ) (ws : List Word) → P (Class number dollar half ∷ ws))
+    (of-month : (n : ℕ) (ws : List Word) → m < n → P (Expiration n ∷ ws)) where
+  later-begin : (ss : List Series) (xs : List OpenClass) → T (every (isOver monthOf m) ss) → P (seriesWords 0 ss (classesWords xs []))
+  later-begin [] [] t = none
+  later-begin [] (x ∷ xs) t = of-class (number x) (x .figures .dollar) (x .figures .half) _
+  later-begin (s ∷ ss) xs t =
+      let after : m < s .month = ltb→lt m (s .month) (search ands) in
+      rw (eqb·zero-suc (s .month)) (of-month (s .month) _ after)
 
-  abbrev early : List Word
-  early = seriesWords 0 (only (isUnder monthOf m) ss) []
+-- a strike word that holds h
+abbrev pub isStrikeOf : ℕ → ℕ → Bool
+isStrikeOf h w = isOfKind 6 w && eqb (field w 0 15) h
 
-  abbrev strikes : List Word
-  strikes = map strikeWord (inMonth m ss)
+strike-said : (h : ℕ) (w : Word) → isLegal w ≡ true → kindIn w ≡ 6 → isStrikeOf h (packed w) ≡ eqb (keyIn w) h
+strike-said h w legal e =
+    rw (kind-packed w (packed w) (legal-fits w legal) refl, e, key-said 6 w legal e)
 
-  abbrev late : List Word
-  late = seriesWords 0 (only (isOver monthOf m) ss) (classesWords xs [])
-
-  -- the words after the strikes begin with no strike, and with no expiration up to m
-  late-stops : (k : ℕ) → k ≤ m → firstAt (isEnding k) late ≡ 0
-  late-stops k l = go (only (isOver monthOf m) ss) xs (every-kept (isOver monthOf m) ss)
-    where
-      go :
-          (ts : List Series) (ys : List OpenClass) → T (every (isOver monthOf m) ts)
-          → firstAt (isEnding k) (seriesWords 0 ts (classesWords ys [])) ≡ 0
-      go [] [] t = refl
-      go [] (y ∷ ys) t = refl
-      go (s ∷ ts) ys t =
-          let after : m < s .month = ltb→lt m (s .month) (search ands) in
-          rw (eqb·zero-suc (s .month), le-leb k (s .month) (omega arith))
-
-  late-other : T (every isLegal late) → standsAt (packed (Expiration m)) (map packed late) 0 ≡ false
-  late-other tail = go (only (isOver monthOf m) ss) xs (every-kept (isOver monthOf m) ss) tail
-    where
-      go :
-          (ts : List Series) (ys : List OpenClass) → T (every (isOver monthOf m) ts)
-          → T (every isLegal (seriesWords 0 ts (classesWords ys [])))
-          → standsAt (packed (Expiration m)) (map packed (seriesWords 0 ts (classesWords ys []))) 0 ≡ false
-      go [] [] t g = refl
-      go [] (y ∷ ys) t g =
-          let word = Class (number y) (y .figures .dollar) (y .figures .half) in
-          let fits = legal-fits word (T-true (isLegal word) (search ands)) in
-          let after = seriesWords 0 (y .series) (classesWords ys []) in
-          first-other (packed (Expiration m)) word (Close (y .figures .close) ∷ Volume (y .figures .volume) ∷ after) (λ e. omega arith)
-      go (s ∷ ts) ys t g =
-          let after : m < s .month = ltb→lt m (s .month) (search ands) in
-          rw (eqb·zero-suc (s .month))
-          (first-other (packed (Expiration m)) (Expiration (s .month))
-          (strikeWord s ∷ seriesWords (suc (s .month)) ts (classesWords ys [])) (λ e. omega arith))
-
-  -- the search for the expiration passes the earlier ones
-  module _ (rest : List Word) (parts : seriesWords 0 ss (classesWords xs []) ≡ early ++ rest) where
-    at-early : firstAt (isEnding m) rest ≡ 0 → firstAt (isUpTo (packed (Expiration m))) words ≡ length early
-    at-early stop =
-        ap (λ (l : List Word). firstAt (isUpTo (packed (Expiration m))) (map packed l)) parts
-        ∙ first-after (isUpTo (packed (Expiration m))) (isEnding m) (ending-packed m month) early rest (rw parts at legal)
-        (every-series (λ w. not (isEnding m w)) 0 (only (isUnder monthOf m) ss) []
-        (every-imply (isUnder monthOf m)
-        (λ s. not (isEnding m (strikeWord s)) && not (isEnding m (Expiration (s .month))))
-        (λ s u. not-from (s .month) m u) (only (isUnder monthOf m) ss) (every-kept (isUnder monthOf m) ss)) tt) stop
-
-    stands-early : standsAt (packed (Expiration m)) words (length early) ≡ standsAt (packed (Expiration m)) (map packed rest) 0
-    stands-early =
-        ap (λ (l : List Word). standsAt (packed (Expiration m)) (map packed l) (length early)) parts
-        ∙ stands-after (packed (Expiration m)) early rest
-
-  strikes-found :
-      strikesIn m words
-      ≡ record {
-        from = length early + cond {A = ℕ} (some (isEqual monthOf m) ss) 1 0;
-        to = length early + cond {A = ℕ} (some (isEqual monthOf m) ss) 1 0 + length (inMonth m ss);
-      }
-  strikes-found = go (some (isEqual monthOf m) ss) refl
-    where
-      found-at :
-          (has : Bool) → firstAt (isUpTo (packed (Expiration m))) words ≡ length early
-          → standsAt (packed (Expiration m)) words (length early) ≡ has → strikesIn m words ≡ strikesAfter has (length early) words
-      found-at has e d =
-          (λ i. strikesAfter (standsAt (packed (Expiration m)) words (e i)) (e i) words)
-          ∙ ap (λ (b : Bool). strikesAfter b (length early) words) d
-
-      go :
-          (has : Bool) → some (isEqual monthOf m) ss ≡ has
-          → strikesIn m words
-          ≡ record { from = length early + cond {A = ℕ} has 1 0; to = length early + cond {A = ℕ} has 1 0 + length (inMonth m ss) }
-      go false e =
-          let none : inMonth m ss ≡ [] = only-absent (isEqual monthOf m) ss (rw e tt) in
-          let parts : seriesWords 0 ss (classesWords xs []) ≡ early ++ late =
-          series-words now m ss good (classesWords xs []) ∙ rw (e, none) in
-          let a : length early ≡ length early + 0 = omega arith in
-          let d : length early ≡ length early + 0 + length (inMonth m ss) = omega (arith, ap length none) in
-          found-at false (at-early late parts (late-stops m (omega arith)))
-          (stands-early late parts ∙ late-other (every-split isLegal early late (rw parts at legal) .1))
-          ∙ (λ i. record { from = a i; to = d i })
-      go true e =
-          let rest = Expiration m ∷ (strikes ++ late) in
-          let lead = early ++ (Expiration m ∷ []) in
-          let parts : seriesWords 0 ss (classesWords xs []) ≡ early ++ rest =
-          series-words now m ss good (classesWords xs []) ∙ rw e in
-          let stop : firstAt (isEnding m) rest ≡ 0 = rw (le-leb m m (omega arith)) in
-          let stands : standsAt (packed (Expiration m)) (map packed rest) 0 ≡ true =
-          rw (lt-ltb 0 (length (map packed rest)) (omega arith), eq-eqb (packed (Expiration m)) (packed (Expiration m)) refl) in
-          let after : drop (length early + 1) words ≡ map packed (strikes ++ late) =
-          ap (λ (l : List Word). drop (length early + 1) (map packed l)) (parts ∙ sym (append-assoc early (Expiration m ∷ []) (strikes ++ late)))
-          ∙ ap (drop (length early + 1)) (map-append packed lead (strikes ++ late))
-          ∙ drop-at (map packed lead) (map packed (strikes ++ late)) (length early + 1)
-          (simp (length-map, length-append) (omega arith)) in
-          let tail : T (every isLegal rest) = every-split isLegal early rest (rw parts at legal) .1 in
-          let end : firstAt (isUpTo (packed (Expiration 0))) (map packed (strikes ++ late)) ≡ length strikes =
-          first-after (isUpTo (packed (Expiration 0))) (isEnding 0) (ending-packed 0 (omega arith)) strikes late
-          (search ands)
-          (every-map (isEqual monthOf m) (λ w. not (isEnding 0 w)) strikeWord (λ s t. tt) (inMonth m ss)
-          (every-kept (isEqual monthOf m) ss))
-          (late-stops 0 (omega arith)) in
-          let to : firstAt (isUpTo (packed (Expiration 0))) (drop (length early + 1) words) ≡ length (inMonth m ss) =
-          ap (firstAt (isUpTo (packed (Expiration 0)))) after ∙ end ∙ length-map (inMonth m ss) strikeWord in
-          found-at true (at-early rest parts stop) (stands-early rest parts ∙ stands)
-          ∙ (λ i. record { from = length early + 1; to = length early + 1 + to i })
+no-strike : (h : ℕ) (w : Word) → isLegal w ≡ true → eqb (kindIn w) 6 ≡ false → isStrikeOf h (packed w) ≡ false
+no-strike h w legal e = rw (kind-packed w (packed w) (legal-fits w legal) refl, e)
 
 -- ---- classes
 
@@ -189,12 +81,28 @@ module _ (ws : List ℕ) (b : T (isBook ws)) where
   abbrev facts : Facts
   facts = factsOf ws
 
-  part :
-      (from to : ℕ) (before mid rest : List Word) → bookWords (length ws) facts ≡ before ++ (mid ++ rest)
-      → from ≡ length before → to ≡ length before + length mid → take (to - from) (drop from ws) ≡ map packed mid
-  part from to before mid rest e l h =
-      subst (λ (l : List ℕ). take (to - from) (drop from l) ≡ map packed mid) (book-is ws b)
-      (run-part (length ws) facts from to before mid rest e l h)
+  -- the words from an index to the last one used
+  rest-part :
+      (from end : ℕ) (before rest : List Word) → bookWords (length ws) facts ≡ before ++ rest → from ≡ length before → end ≡ used facts
+      → take (end - from) (drop from ws) ≡ map packed rest
+  rest-part from end before rest e l d =
+      subst (λ (l : List ℕ). take (end - from) (drop from l) ≡ map packed rest) (book-is ws b)
+      (run-part (length ws) facts from end before rest [] (e ∙ ap (λ (r : List Word). before ++ r) (sym (append-nil rest))) l
+      (d ∙ ap length e ∙ length-append before rest))
+
+  -- a test of the word at an index, where it is one of those used
+  word-there :
+      (test : ℕ → Bool) (at : ℕ) (before rest : List Word) → bookWords (length ws) facts ≡ before ++ rest → at ≡ length before
+      → (ltb at (used facts) && test (getD ws at 0)) ≡ begins test rest
+  word-there test at before [] e l =
+      let long : used facts ≡ length before + 0 = ap length e ∙ length-append before [] in
+      rw (le-ltb at (used facts) (omega arith))
+  word-there test at before (w ∷ rest) e l =
+      let long : used facts ≡ length before + suc (length rest) = ap length e ∙ length-append before (w ∷ rest) in
+      let word : getD ws at 0 ≡ packed w =
+      subst (λ (l : List ℕ). getD l at 0 ≡ packed w) (book-is ws b)
+      (run-word (length ws) facts at 0 before (w ∷ rest) e (omega arith)) in
+      rw (lt-ltb at (used facts) (omega arith), word)
 
   pub legal : T (every isLegal (classesWords (facts .classes) []))
   legal =
@@ -202,10 +110,7 @@ module _ (ws : List ℕ) (b : T (isBook ws)) where
       (words-legal (facts .now) (facts .classes) (book-form ws b .limits))
 
   pub body : (end : ℕ) → end ≡ used facts → take (end - 1) (drop 1 ws) ≡ map packed (classesWords (facts .classes) [])
-  body end e =
-      part 1 end (Head (facts .now) (used facts) ∷ []) (classesWords (facts .classes) []) []
-      (ap (λ (l : List Word). Head (facts .now) (used facts) ∷ l) (sym (append-nil (classesWords (facts .classes) []))))
-      refl (omega arith)
+  body end e = rest-part 1 end (Head (facts .now) (used facts) ∷ []) (classesWords (facts .classes) []) refl refl e
 
   pub body-short : (end : ℕ) → end ≡ used facts → length (take (end - 1) (drop 1 ws)) ≤ 65535
   body-short end e =
@@ -224,12 +129,11 @@ module _ (ws : List ℕ) (b : T (isBook ws)) where
   -- the next class word
   pub next-class-word :
       (from end : ℕ) → 0 < from → from ≤ end → end ≡ used facts
-      → firstAt (isUpTo (packed (Class 0 0 0))) (take (end - from) (drop from ws))
+      → firstAt (isUpTo 2 14 0) (take (end - from) (drop from ws))
       ≡ firstAt (isFrom 2 14 0) (take (end - from) (drop from ws))
   next-class-word from end l h e =
-      first-up-to 2 (take (end - from) (drop from ws))
+      first-from 2 14 0 (omega arith) (take (end - from) (drop from ws))
       (every-split (isNoLower 2) (take (from - 1) (drop 1 ws)) (take (end - from) (drop from ws)) (rw later at (body-kinds end e)) .1)
-      ∙ first-of-kind 2 14 (take (end - from) (drop from ws))
     where
       later : take (end - 1) (drop 1 ws) ≡ take (from - 1) (drop 1 ws) ++ take (end - from) (drop from ws)
       later =
@@ -247,22 +151,30 @@ module _ (ws : List ℕ) (b : T (isBook ws)) where
       (ordered-packed 2 (classesWords (facts .classes) []) legal
       (classes-ordered (facts .classes) (numbers-rise (length ws) facts (book-good ws b)))))
 
-  module _ (c end i : ℕ) (d : end ≡ used facts) (e : i ≡ firstAt (isFrom 2 14 c) (take (end - 1) (drop 1 ws))) where
-    class-index : i ≡ length (classesWords (only (isUnder number c) (facts .classes)) [])
-    class-index =
-        e
-        ∙ ap (firstAt (isFrom 2 14 c)) (body end d)
-        ∙ sought number 2 (λ xs. classesWords xs []) classes-laid c (facts .classes)
-        (distinct-parts number c (facts .classes) (numbers-rise (length ws) facts (book-good ws b))) legal
+  numbers :
+      (c : ℕ)
+      → facts .classes
+      ≡ only (isUnder number c) (facts .classes) ++ (only (isEqual number c) (facts .classes) ++ only (isOver number c) (facts .classes))
+  numbers c = distinct-parts number c (facts .classes) (numbers-rise (length ws) facts (book-good ws b))
 
-    pub class-sought : 1 + i ≡ classPlace c facts
-    class-sought = omega (arith, class-index)
+  pub class-sought :
+      (c end i : ℕ) → end ≡ used facts → i ≡ firstAt (isFrom 2 14 c) (take (end - 1) (drop 1 ws)) → 1 + i ≡ classPlace c facts
+  class-sought c end i d e =
+      let q = sought number 2 (λ xs. classesWords xs []) classes-laid c (facts .classes) (numbers c) legal in
+      omega (arith, ap (firstAt (isFrom 2 14 c)) (body end d))
 
-    pub class-found : holdsAt 14 c (take (end - 1) (drop 1 ws)) i ≡ isOpen c (facts .classes)
-    class-found =
-        (λ j. holdsAt 14 c (body end d j) (class-index j))
-        ∙ found number 2 (λ xs. classesWords xs []) classes-laid c (facts .classes)
-        (distinct-parts number c (facts .classes) (numbers-rise (length ws) facts (book-good ws b))) legal
+  pub class-found :
+      (c at : ℕ) → at ≡ classPlace c facts
+      → (ltb at (used facts) && eqb (field (getD ws at 0) 0 14) c) ≡ isOpen c (facts .classes)
+  class-found c at e =
+      let test : ℕ → Bool = λ w. eqb (field w 0 14) c in
+      let head = Head (facts .now) (used facts) in
+      let from = classesWords (only (isEqual number c) (facts .classes) ++ only (isOver number c) (facts .classes)) [] in
+      word-there test at (head ∷ classesWords (only (isUnder number c) (facts .classes)) []) from
+      (ap (λ (l : List Word). head ∷ l) (two-parts number 2 (λ xs. classesWords xs []) classes-laid c (facts .classes) (numbers c) legal)) e
+      ∙ ap (begins test) (sym (append-nil from))
+      ∙ found number 2 (λ xs. classesWords xs []) classes-laid c (facts .classes) (numbers c) legal test
+      (λ w legal k. ap (λ (n : ℕ). eqb n c) (key-said 2 w legal k)) [] refl
 
   -- ---- an open class
 
@@ -315,10 +227,7 @@ module _ (ws : List ℕ) (b : T (isBook ws)) where
     tail-part :
         (from end : ℕ) → from ≡ classPlace c facts + 3 → end ≡ used facts
         → take (end - from) (drop from ws) ≡ map packed (series ++ upper)
-    tail-part from end e d =
-        part from end (lower ++ figures) (series ++ upper) []
-        (around ∙ ap (λ (l : List Word). (lower ++ figures) ++ l) (sym (append-nil (series ++ upper))))
-        (omega (arith, before-length)) (d ∙ ap length around ∙ length-append (lower ++ figures) (series ++ upper))
+    tail-part from end e d = rest-part from end (lower ++ figures) (series ++ upper) around (omega (arith, before-length)) d
 
     -- its series end at the next class word
     pub class-ended :
@@ -331,55 +240,177 @@ module _ (ws : List ℕ) (b : T (isBook ws)) where
         (stops-anywhere number 2 (λ xs. classesWords xs []) classes-laid (only (isOver number c) (facts .classes))) in
         omega (arith, ap (firstAt (isFrom 2 14 0)) (tail-part from (used facts) e refl))
 
-    pub strikes-sought :
-        (m from end : ℕ) → m ≤ 1023 → from ≡ classPlace c facts + 3 → end ≡ used facts
-        → (from + strikesIn m (take (end - from) (drop from ws)) .from ≡ strikesPlace c m facts)
-        × (from + strikesIn m (take (end - from) (drop from ws)) .to ≡ strikesEnd c m facts)
-    strikes-sought m from end month e d =
-        let joined : series ++ upper ≡ seriesWords 0 (class facts c .series) upper =
-        sym (seriesWords-append 0 (class facts c .series) [] upper) in
-        let p =
-        ap (strikesIn m) (tail-part from end e d ∙ ap (map packed) joined)
-        ∙ strikes-found (facts .now) m month (class facts c .series) (only (isOver number c) (facts .classes))
-        (series-good (length ws) facts c (book-good ws b) o) (rw joined at tail-legal) in
-        (omega (arith, ap (λ (x : Part). x .from) p), omega (arith, ap (λ (x : Part). x .to) p))
+    -- ---- an expiration of it
 
-    -- ---- a strike of an expiration of it
+    module _ (m : ℕ) (month : m ≤ 1023) where
+      abbrev listed : List Series
+      listed = class facts c .series
 
-    module _ (m h from to : ℕ) (start : from ≡ strikesPlace c m facts) (stop : to ≡ strikesEnd c m facts) where
       abbrev here : List Series
-      here = inMonth m (class facts c .series)
+      here = inMonth m listed
 
-      strikes-legal : T (every isLegal (map strikeWord here))
-      strikes-legal =
-          every-map (isSeries (facts .now)) isLegal strikeWord (λ s t. search (ands, and-intro)) here
-          (strikes-good (length ws) facts c m (book-good ws b) o)
+      abbrev has : Bool
+      has = hasExpiration c m facts
 
-      parts : here ≡ low (class facts c .series) m h ++ (placed (class facts c .series) m h ++ high (class facts c .series) m h)
-      parts = strike-parts (class facts c .series) m h (facts .now) (series-good (length ws) facts c (book-good ws b) o)
+      abbrev early : List Word
+      early = seriesWords 0 (only (isUnder monthOf m) listed) []
 
-      strikes-here : take (to - from) (drop from ws) ≡ map packed (map strikeWord here)
-      strikes-here =
-          (λ j. take (stop j - start j) (drop (start j) (sym (book-is ws b) j)))
-          ∙ strikes-part (length ws) facts c m (book-good ws b) o
+      abbrev strikes : List Word
+      strikes = map strikeWord here
 
-      pub strikes-kind : T (every (isOfKind 6) (take (to - from) (drop from ws)))
-      strikes-kind =
-          subst (λ (l : List ℕ). T (every (isOfKind 6) l)) (sym strikes-here)
-          (kinds-packed (λ k. eqb k 6) (map strikeWord here) strikes-legal
-          (every-map (λ s. true) (λ w. eqb (kindIn w) 6) strikeWord (λ s t. tt) here (every-true here)))
+      abbrev late : List Word
+      late = seriesWords 0 (only (isOver monthOf m) listed) upper
 
-      module _ (i : ℕ) (e : i ≡ firstAt (isFrom 6 15 h) (take (to - from) (drop from ws))) where
-        strike-index : i ≡ length (map strikeWord (low (class facts c .series) m h))
-        strike-index =
-            e ∙ ap (firstAt (isFrom 6 15 h)) strikes-here
-            ∙ sought strikeOf 6 (map strikeWord) strikes-laid h here parts strikes-legal
+      abbrev from-month : Bool → List Word
+      from-month stands = expirationUnless (not stands) m (strikes ++ late)
 
-        pub strike-sought : from + i ≡ strikePlace c m h facts
-        strike-sought = omega (arith, strike-index, length-map (low (class facts c .series) m h) strikeWord)
+      tail-words : series ++ upper ≡ early ++ from-month has
+      tail-words =
+          sym (seriesWords-append 0 listed [] upper)
+          ∙ series-words (facts .now) m listed (series-good (length ws) facts c (book-good ws b) o) upper
 
-        pub strike-found : holdsAt 15 h (take (to - from) (drop from ws)) i ≡ isStanding facts c m h
-        strike-found =
-            (λ j. holdsAt 15 h (strikes-here j) (strike-index j))
-            ∙ found strikeOf 6 (map strikeWord) strikes-laid h here parts strikes-legal
-            ∙ some-both (isEqual monthOf m) (isEqual strikeOf h) (class facts c .series)
+      from-legal : T (every isLegal (from-month has))
+      from-legal = every-split isLegal early (from-month has) (rw tail-words at tail-legal) .1
+
+      later :
+          (P : List Word → Type 0) → P [] → ((number dollar half : ℕ) (ws : List Word) → P (Class number dollar half ∷ ws))
+          → ((n : ℕ) (ws : List Word) → m < n → P (Expiration n ∷ ws)) → P late
+      later P none of-class of-month =
+          later-begin m P none of-class of-month (only (isOver monthOf m) listed) (only (isOver number c) (facts .classes))
+          (every-kept (isOver monthOf m) listed)
+
+      pub none-in : has ≡ false → here ≡ []
+      none-in e = only-absent (isEqual monthOf m) listed (rw e tt)
+
+      -- the search for its word passes the earlier expirations
+      pub expiration-sought :
+          (from : ℕ) → from ≡ classPlace c facts + 3
+          → from + firstAt (isUpTo 5 10 m) (take (used facts - from) (drop from ws)) ≡ expirationPlace c m facts
+      expiration-sought from e =
+          omega (arith, ap (firstAt (isUpTo 5 10 m)) (tail-part from (used facts) e refl ∙ ap (map packed) tail-words), passed)
+        where
+          stop : (stands : Bool) → has ≡ stands → firstAt (isEnding 5 m) (from-month stands) ≡ 0
+          stop true q = rw (le-leb m m (omega arith))
+          stop false q =
+              rw (none-in q)
+              (later (λ l. firstAt (isEnding 5 m) l ≡ 0) refl (λ n d h l. refl) (λ n l k. rw (le-leb m n (omega arith))))
+
+          passed : firstAt (isUpTo 5 10 m) (map packed (early ++ from-month has)) ≡ length early
+          passed =
+              first-after (isUpTo 5 10 m) (isEnding 5 m) (up-to-packed 5 m (omega arith) (omega arith)) early (from-month has)
+              (rw tail-words at tail-legal)
+              (every-series (λ w. not (isEnding 5 m w)) 0 (only (isUnder monthOf m) listed) []
+              (every-imply (isUnder monthOf m)
+              (λ s. not (isEnding 5 m (strikeWord s)) && not (isEnding 5 m (Expiration (s .month))))
+              (λ s u. not-from (s .month) m u) (only (isUnder monthOf m) listed)
+              (every-kept (isUnder monthOf m) listed)) tt)
+              (stop has refl)
+
+      -- .. and its word stands there where it has strikes
+      pub expiration-found :
+          (at : ℕ) → at ≡ expirationPlace c m facts
+          → (ltb at (used facts) && eqb (getD ws at 0) (packed (Expiration m))) ≡ has
+      expiration-found at e =
+          word-there (λ w. eqb w (packed (Expiration m))) at ((lower ++ figures) ++ early) (from-month has)
+          (around ∙ ap (λ (l : List Word). (lower ++ figures) ++ l) tail-words ∙ sym (append-assoc (lower ++ figures) early (from-month has)))
+          (e ∙ sym (simp length-append (omega (arith, before-length))))
+          ∙ go has refl from-legal
+        where
+          go :
+              (stands : Bool) → has ≡ stands → T (every isLegal (from-month stands))
+              → begins (λ w. eqb w (packed (Expiration m))) (from-month stands) ≡ stands
+          go true q legal = eq-eqb (packed (Expiration m)) (packed (Expiration m)) refl
+          go false q legal =
+              rw (none-in q)
+              (later (λ l. T (every isLegal l) → begins (λ w. eqb w (packed (Expiration m))) l ≡ false) (λ t. refl)
+              (λ n d h l t.
+              let fits = legal-fits (Class n d h) (T-true (isLegal (Class n d h)) (search ands)) in
+              ne-eqb (packed (Class n d h)) (packed (Expiration m)) (λ x. omega arith))
+              (λ n l k t. ne-eqb (packed (Expiration n)) (packed (Expiration m)) (λ x. omega arith))
+              (rw (none-in q) at legal))
+
+      -- ---- its strikes, where it has any
+
+      module _ (stands : has ≡ true) where
+        strikes-around : bookWords (length ws) facts ≡ ((lower ++ figures) ++ (early ++ (Expiration m ∷ []))) ++ (strikes ++ late)
+        strikes-around =
+            let parts : series ++ upper ≡ early ++ (Expiration m ∷ (strikes ++ late)) =
+            tail-words ∙ ap (λ (s : Bool). early ++ from-month s) stands in
+            around
+            ∙ ap (λ (l : List Word). (lower ++ figures) ++ l) (parts ∙ sym (append-assoc early (Expiration m ∷ []) (strikes ++ late)))
+            ∙ sym (append-assoc (lower ++ figures) (early ++ (Expiration m ∷ [])) (strikes ++ late))
+
+        strikes-legal : T (every isLegal (strikes ++ late))
+        strikes-legal = let t : T (every isLegal (from-month true)) = rw stands at from-legal in search ands
+
+        strikes-rest :
+            (from : ℕ) → from ≡ expirationPlace c m facts + 1
+            → take (used facts - from) (drop from ws) ≡ map packed (strikes ++ late)
+        strikes-rest from e =
+            rest-part from (used facts) ((lower ++ figures) ++ (early ++ (Expiration m ∷ []))) (strikes ++ late) strikes-around
+            (e ∙ sym (simp length-append (omega (arith, before-length)))) refl
+
+        -- they end at the next word that is no strike
+        pub strikes-ended :
+            (from : ℕ) → from ≡ expirationPlace c m facts + 1
+            → firstAt (isUpTo 5 10 0) (take (used facts - from) (drop from ws)) ≡ length here
+        strikes-ended from e =
+            ap (firstAt (isUpTo 5 10 0)) (strikes-rest from e)
+            ∙ first-after (isUpTo 5 10 0) (isEnding 5 0) (up-to-packed 5 0 (omega arith) (omega arith)) strikes late strikes-legal
+            (every-map (λ s. true) (λ w. not (isEnding 5 0 w)) strikeWord (λ s t. tt) here
+            (every-true here))
+            (later (λ l. firstAt (isEnding 5 0) l ≡ 0) refl (λ n d h l. refl) (λ n l k. rw (leb·zero n)))
+            ∙ length-map here strikeWord
+
+        -- ---- a strike of them
+
+        module _ (h : ℕ) (small : h < 2 ^ 28) where
+          parts : here ≡ low listed m h ++ (placed listed m h ++ high listed m h)
+          parts = strike-parts listed m h (facts .now) (series-good (length ws) facts c (book-good ws b) o)
+
+          here-legal : T (every isLegal strikes)
+          here-legal = every-split isLegal strikes late strikes-legal .0
+
+          abbrev lows : List Word
+          lows = map strikeWord (low listed m h)
+
+          abbrev highs : List Word
+          highs = map strikeWord (placed listed m h ++ high listed m h)
+
+          two : strikes ++ late ≡ lows ++ (highs ++ late)
+          two =
+              ap (λ (l : List Word). l ++ late) (two-parts strikeOf 6 (map strikeWord) strikes-laid h here parts here-legal)
+              ∙ append-assoc lows highs late
+
+          -- the search for it passes the lower strikes of the expiration
+          pub strike-sought :
+              (from : ℕ) → from ≡ expirationPlace c m facts + 1
+              → firstAt (isUpTo 6 15 h) (take (used facts - from) (drop from ws)) ≡ length (low listed m h)
+          strike-sought from e =
+              ap (firstAt (isUpTo 6 15 h)) (strikes-rest from e ∙ ap (map packed) two)
+              ∙ first-after (isUpTo 6 15 h) (isEnding 6 h) (up-to-packed 6 h small (omega arith)) lows (highs ++ late)
+              (rw two at strikes-legal)
+              (every-map (isUnder strikeOf h) (λ w. not (isEnding 6 h w)) strikeWord (λ s u. not-from (s .strike) h u)
+              (low listed m h) (every-kept (isUnder strikeOf h) here))
+              (ends-there strikeOf 6 (map strikeWord) strikes-laid h
+              (placed listed m h ++ high listed m h) late
+              (from-there strikeOf 6 (map strikeWord) strikes-laid h here parts here-legal)
+              (later (λ l. firstAt (isEnding 6 h) l ≡ 0) refl (λ n d k l. refl) (λ n l k. refl)))
+              ∙ length-map (low listed m h) strikeWord
+
+          -- .. and its word stands there where it stands
+          pub strike-found :
+              (at : ℕ) → at ≡ strikePlace c m h facts
+              → (ltb at (used facts) && isStrikeOf h (getD ws at 0)) ≡ isStanding facts c m h
+          strike-found at e =
+              let before = (lower ++ figures) ++ (early ++ (Expiration m ∷ [])) in
+              let one : cond {A = ℕ} has 1 0 ≡ 1 = rw stands in
+              word-there (isStrikeOf h) at (before ++ lows) (highs ++ late)
+              (strikes-around ∙ ap (λ (l : List Word). before ++ l) two ∙ sym (append-assoc before lows (highs ++ late)))
+              (e ∙ sym (simp (length-append, length-map) (omega (arith, before-length))))
+              ∙ found strikeOf 6 (map strikeWord) strikes-laid h here parts here-legal (isStrikeOf h) (strike-said h) late
+              (later (λ l. T (every isLegal l) → begins (isStrikeOf h) l ≡ false) (λ t. refl)
+              (λ n d k l t. no-strike h (Class n d k) (T-true (isLegal (Class n d k)) (search ands)) refl)
+              (λ n l k t. no-strike h (Expiration n) (T-true (isLegal (Expiration n)) (search ands)) refl)
+              (every-split isLegal strikes late strikes-legal .1))
+              ∙ some-both (isEqual monthOf m) (isEqual strikeOf h) listed

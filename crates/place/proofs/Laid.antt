@@ -1,13 +1,12 @@
 -- What a search finds in the words of a list that rises by a key, of classes and of strikes: it passes the words of the keys below, and stops at the first word after them. And tests that each word of series and of classes passes, by induction on these. Assumes nothing.
-use Prim.Native.Nat.{ℕ, suc, _<_}
+use Prim.Native.Nat.{ℕ, suc}
 use mathlib.Core.Path.{_≡_, refl, sym, ap, _∙_}
 use mathlib.Core.Bool.{Bool, true, false, not, _&&_}
-use mathlib.Core.List.{List, [], _∷_, _++_, map, map-append, append-nil}
+use mathlib.Core.List.{List, [], _∷_, _++_, map, map-append}
 use native.Mathlib.Omega.{arith}
-use lib.ListN.{length, getD, length-append, length-map}
-use lib.Seq.{getD-at}
+use lib.ListN.{length}
 use lib.Dec.{T, eqb, leb, ltb, leb·zero, ltb→lt}
-use borrow.Author.Tests.{not-true, eq-eqb, lt-ltb, le-ltb, lt-leb}
+use borrow.Author.Tests.{not-true, eq-eqb, le-ltb, lt-leb}
 use Rattle.word.specs.declared.codec.Word.{Word}
 use Rattle.word.specs.declared.codec.Word.the-variants.{Class, Close, Volume, Expiration}
 use Rattle.word.specs.Codec.{isLegal, packed, kindOf}
@@ -16,16 +15,21 @@ use Rattle.rule.specs.Lists.{every, some, only}
 use Rattle.book.specs.Facts.{Series, OpenClass, number}
 use Rattle.book.specs.Layout.{strikeWord, expirationUnless, seriesWords, classesWords}
 use Rattle.book.proofs.Tests.{and-intro, ands, T-true}
-use Rattle.book.proofs.Lists.{every-imply, every-map}
+use Rattle.book.proofs.Lists.{every-imply, every-map, every-true}
 use Rattle.book.proofs.Parts.{every-kept, isUnder, isEqual, isOver, not-under}
 use Rattle.book.proofs.Splits.{every-split, leads, some-leads}
 use Rattle.book.proofs.Expirations.{strikeOf}
 use Rattle.book.proofs.ClassWords.{classes-apart}
-use Rattle.place.specs.Search.{firstAt, isFrom, holdsAt}
+use Rattle.place.specs.Search.{firstAt, isFrom}
 use Rattle.place.proofs.Firsts.{first-beyond}
-use Rattle.place.proofs.Words.{keyIn, widthOf, isKeyed, key-said, from-packed}
+use Rattle.place.proofs.Words.{keyIn, widthOf, isKeyed, from-packed, isEnding}
 
 -- ---- packed words
+
+-- whether the first of the words, packed, passes a test
+abbrev pub begins : (ℕ → Bool) → List Word → Bool
+begins test [] = false
+begins test (w ∷ ws) = test (packed w)
 
 none-first : {A : Type 0} (p : A → Bool) (xs : List A) → T (every (λ x. not (p x)) xs) → firstAt p xs ≡ length xs
 none-first p [] t = refl
@@ -86,20 +90,31 @@ module _ {A : Type 0} (key : A → ℕ) (kind : ℕ) (lay : List A → List Word
       from-zero [] = tt
       from-zero (y ∷ ys) = rw (leb·zero (key y)) (from-zero ys)
 
-  holds-there :
-      (k : ℕ) (ws : List Word) (xs : List A) → T (every isLegal (lay xs))
-      → holdsAt (widthOf kind) k (map packed (ws ++ lay xs)) (length ws) ≡ leads key k xs
-  holds-there k ws [] legal =
-      rw (laid .none, append-nil ws, length-map ws packed, le-ltb (length ws) (length ws) (omega arith))
-  holds-there k ws (x ∷ xs) legal =
+  -- .. also before other words at which it stops
+  pub ends-there :
+      (k : ℕ) (xs : List A) (rest : List Word) → T (every (λ x. leb k (key x)) xs) → firstAt (isEnding kind k) rest ≡ 0
+      → firstAt (isEnding kind k) (lay xs ++ rest) ≡ 0
+  ends-there k [] rest t stop = rw (laid .none) stop
+  ends-there k (x ∷ xs) rest t stop =
+      rw (
+        laid .begins x xs,
+        laid .kinds x,
+        laid .keys x,
+        le-ltb kind kind (omega arith),
+        eq-eqb kind kind refl,
+        T-true (leb k (key x)) (search ands),
+      )
+
+  -- the first word has the key exactly where the first of the list has it
+  begins-there :
+      (k : ℕ) (test : ℕ → Bool) → ((w : Word) → isLegal w ≡ true → kindIn w ≡ kind → test (packed w) ≡ eqb (keyIn w) k)
+      → (xs : List A) (rest : List Word) → T (every isLegal (lay xs)) → begins test rest ≡ false
+      → begins test (lay xs ++ rest) ≡ leads key k xs
+  begins-there k test says [] rest legal other = rw (laid .none) other
+  begins-there k test says (x ∷ xs) rest legal other =
       let legal′ = rw (laid .begins x xs) at legal in
-      let e : length ws < length (map packed (ws ++ (laid .first x ∷ laid .rest x xs))) =
-      simp (length-map, length-append) (omega arith) in
-      let d : getD (map packed (ws ++ (laid .first x ∷ laid .rest x xs))) (length ws) 0 ≡ packed (laid .first x) =
-      ap (λ (l : List ℕ). getD l (length ws) 0) (map-append packed ws (laid .first x ∷ laid .rest x xs))
-      ∙ getD-at (map packed ws) (packed (laid .first x)) (map packed (laid .rest x xs)) 0 (length ws) (length-map ws packed) in
-      let g = key-said kind (laid .first x) (T-true (isLegal (laid .first x)) (search ands)) (laid .kinds x) in
-      rw (laid .begins x xs, lt-ltb _ _ e, d, g, laid .keys x)
+      let e = says (laid .first x) (T-true (isLegal (laid .first x)) (search ands)) (laid .kinds x) in
+      rw (laid .begins x xs) (e ∙ ap (λ (n : ℕ). eqb n k) (laid .keys x))
 
   module _
       (k : ℕ) (xs : List A) (parts : xs ≡ only (isUnder key k) xs ++ (only (isEqual key k) xs ++ only (isOver key k) xs))
@@ -110,11 +125,11 @@ module _ {A : Type 0} (key : A → ℕ) (kind : ℕ) (lay : List A → List Word
     abbrev others : List A
     others = only (isEqual key k) xs ++ only (isOver key k) xs
 
-    from-there : T (every (λ x. leb k (key x)) others)
+    pub from-there : T (every (λ x. leb k (key x)) others)
     from-there =
         not-under key k (only (isEqual key k) xs) (only (isOver key k) xs) (every-kept (isEqual key k) xs) (every-kept (isOver key k) xs)
 
-    two-parts : lay xs ≡ under ++ lay others
+    pub two-parts : lay xs ≡ under ++ lay others
     two-parts =
         ap lay parts ∙ laid .apart k (only (isUnder key k) xs) others (every-kept (isUnder key k) xs) from-there
 
@@ -125,18 +140,15 @@ module _ {A : Type 0} (key : A → ℕ) (kind : ℕ) (lay : List A → List Word
         ∙ first-after (isFrom kind (widthOf kind) k) (isKeyed kind k) (from-packed kind k) under (lay others) (rw two-parts at legal)
         (laid .passed k (only (isUnder key k) xs) (every-kept (isUnder key k) xs)) (stops-there k others from-there)
 
-    -- .. and the word there holds the key exactly where one of the list has it
-    pub found : holdsAt (widthOf kind) k (map packed (lay xs)) (length under) ≡ some (isEqual key k) xs
-    found =
-        ap (λ (l : List Word). holdsAt (widthOf kind) k (map packed l) (length under)) two-parts
-        ∙ holds-there k under others (every-split isLegal under (lay others) (rw two-parts at legal) .1)
+    -- .. and the word there has the key exactly where one of the list has it
+    pub found :
+        (test : ℕ → Bool) → ((w : Word) → isLegal w ≡ true → kindIn w ≡ kind → test (packed w) ≡ eqb (keyIn w) k)
+        → (rest : List Word) → begins test rest ≡ false → begins test (lay others ++ rest) ≡ some (isEqual key k) xs
+    found test says rest other =
+        begins-there k test says others rest (every-split isLegal under (lay others) (rw two-parts at legal) .1) other
         ∙ sym (some-leads key k xs)
 
 -- ---- series
-
-pub every-true : {A : Type 0} (xs : List A) → T (every (λ x. true) xs)
-every-true [] = tt
-every-true (x ∷ xs) = every-true xs
 
 pub every-series :
     (q : Word → Bool) (p : ℕ) (ss : List Series) (rest : List Word)

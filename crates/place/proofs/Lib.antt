@@ -2,7 +2,6 @@
 pub mod Firsts
 pub mod Heads
 pub mod Words
-pub mod Searches
 pub mod Laid
 pub mod Rising
 pub mod Found

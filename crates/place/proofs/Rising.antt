@@ -17,11 +17,11 @@ use Rattle.rule.specs.Lists.{every}
 use Rattle.book.specs.Facts.{Series, OpenClass, isBelow}
 use Rattle.book.specs.Layout.{strikeWord, expirationUnless, seriesWords, classesWords}
 use Rattle.book.proofs.Tests.{and-intro, ands, T-true}
-use Rattle.book.proofs.Lists.{ordered}
+use Rattle.book.proofs.Lists.{every-true, ordered}
 use Rattle.place.specs.Search.{firstAt, isOfKind, isFrom, Rises}
 use Rattle.place.proofs.Firsts.{every-at}
 use Rattle.place.proofs.Words.{keyIn, widthOf, key-said}
-use Rattle.place.proofs.Laid.{every-true, no-class, every-class}
+use Rattle.place.proofs.Laid.{no-class, every-class}
 
 -- ---- words in their order
 

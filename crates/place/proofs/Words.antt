@@ -1,12 +1,14 @@
 -- The tests of a search on words and on packed words: by the kind of a word, its lowest field and its rank. Assumes nothing.
-use Prim.Native.Nat.{ℕ, _*_, _^_, _≤_}
+use Prim.Native.Nat.{ℕ, _+_, _-_, _*_, _/_, _^_, _≤_, _<_}
 use mathlib.Core.Path.{_≡_, refl, sym, ap, _∙_}
 use mathlib.Core.Bool.{Bool, true, false, cond, _&&_, _||_}
 use mathlib.Core.List.{List, [], _∷_}
+use native.Mathlib.Nat.{mod-lt}
 use native.Mathlib.Omega.{arith}
 use lib.ListN.{take, drop}
-use lib.Dec.{T, eqb, leb, ltb, leb·zero, leb→le}
-use borrow.Author.Tests.{eqb-true, eqb-false, leb-true, leb-false, le-leb, lt-leb}
+use lib.Pow.{pow-pos, pow-mono}
+use lib.Dec.{T, eqb, leb, ltb, leb→le}
+use borrow.Author.Tests.{eqb-true, eqb-false, leb-true, leb-false, ltb-true, ltb-false, le-leb, lt-leb}
 use Rattle.word.specs.declared.codec.Word.{Word}
 use Rattle.word.specs.declared.codec.Word.the-variants.{Head, Class, Close, Volume, Expiration, Strike, Invalid}
 use Rattle.word.specs.Field.{field}
@@ -17,33 +19,39 @@ use Rattle.book.proofs.Tests.{ands}
 use Rattle.place.specs.Search.{firstAt, isOfKind, isNoLower, rankOf, isUpTo, isFrom}
 use Rattle.place.proofs.Firsts.{every-part}
 
--- a word of the kind holds at least 0
-pub first-of-kind :
-    (kind width : ℕ) (ws : List ℕ) → firstAt (isOfKind kind) ws ≡ firstAt (isFrom kind width 0) ws
-first-of-kind kind width ws = λ i. firstAt (λ w. go w (isOfKind kind w) i) ws
-  where
-    go : (w : ℕ) (b : Bool) → b ≡ (b && leb 0 (field w 0 width))
-    go w true = sym (leb·zero (field w 0 width))
-    go w false = refl
+-- a field of `width` bits holds less than a number of more bits
+pub field-less : (w low width more : ℕ) → width ≤ more → field w low width < 2 ^ more
+field-less w low width more l =
+    let a = mod-lt (w / 2 ^ low) (pow-pos width) in
+    let b = pow-mono l in
+    omega arith
 
--- where no word is of a lower kind, one up to the least of the kind is of the kind
-up-to-kind : (kind w : ℕ) → T (isNoLower kind w) → isUpTo (kind * 2 ^ 28) w ≡ isOfKind kind w
-up-to-kind kind w t = go (isOfKind kind w) refl (leb→le kind (kindOf w) t)
-  where
-    go : (b : Bool) → isOfKind kind w ≡ b → kind ≤ kindOf w → isUpTo (kind * 2 ^ 28) w ≡ b
-    go true e l = le-leb (rankOf w) (rankOf (kind * 2 ^ 28)) (omega (arith, eqb-true (kindOf w) kind e))
-    go false e l = lt-leb (rankOf w) (rankOf (kind * 2 ^ 28)) (omega (arith, eqb-false (kindOf w) kind e))
+-- where no word is of a lower kind, one up to the key is of the kind and from the key on
+module _ (kind width key : ℕ) (small : key < 2 ^ 28) where
+  up-to-from : (w : ℕ) → T (isNoLower kind w) → isUpTo kind width key w ≡ isFrom kind width key w
+  up-to-from w t = go (isOfKind kind w) refl (leb key (field w 0 width)) refl (leb→le kind (kindOf w) t)
+    where
+      go :
+          (a : Bool) → isOfKind kind w ≡ a → (b : Bool) → leb key (field w 0 width) ≡ b → kind ≤ kindOf w
+          → isUpTo kind width key w ≡ (a && b)
+      go true d true e l =
+          le-leb (rankOf width w) (kind * 2 ^ 28 + (2 ^ 28 - 1 - key))
+          (omega (arith, eqb-true (kindOf w) kind d, leb-true key (field w 0 width) e))
+      go true d false e l =
+          lt-leb (rankOf width w) (kind * 2 ^ 28 + (2 ^ 28 - 1 - key))
+          (omega (arith, eqb-true (kindOf w) kind d, leb-false key (field w 0 width) e))
+      go false d b e l =
+          lt-leb (rankOf width w) (kind * 2 ^ 28 + (2 ^ 28 - 1 - key)) (omega (arith, eqb-false (kindOf w) kind d))
 
-pub first-up-to :
-    (kind : ℕ) (ws : List ℕ) → T (every (isNoLower kind) ws) → firstAt (isUpTo (kind * 2 ^ 28)) ws ≡ firstAt (isOfKind kind) ws
-first-up-to kind [] t = refl
-first-up-to kind (w ∷ ws) t = rw (up-to-kind kind w (search ands), first-up-to kind ws (search ands))
+  pub first-from : (ws : List ℕ) → T (every (isNoLower kind) ws) → firstAt (isUpTo kind width key) ws ≡ firstAt (isFrom kind width key) ws
+  first-from [] t = refl
+  first-from (w ∷ ws) t = rw (up-to-from w (search ands), first-from ws (search ands))
 
--- .. in a part of the words
-pub part-up-to :
-    (kind : ℕ) (ws : List ℕ) (n i : ℕ) → T (every (isNoLower kind) ws)
-    → firstAt (isUpTo (kind * 2 ^ 28)) (take n (drop i ws)) ≡ firstAt (isOfKind kind) (take n (drop i ws))
-part-up-to kind ws n i t = first-up-to kind (take n (drop i ws)) (every-part (isNoLower kind) ws n i t)
+  -- .. in a part of the words
+  pub part-from :
+      (ws : List ℕ) (n i : ℕ) → T (every (isNoLower kind) ws)
+      → firstAt (isUpTo kind width key) (take n (drop i ws)) ≡ firstAt (isFrom kind width key) (take n (drop i ws))
+  part-from ws n i t = first-from (take n (drop i ws)) (every-part (isNoLower kind) ws n i t)
 
 -- the lowest field
 abbrev pub keyIn : Word → ℕ
@@ -91,28 +99,35 @@ from-packed kind key x legal =
     go true e = ap (leb key) (key-said kind x legal (eqb-true (kindIn x) kind e))
     go false e = refl
 
--- a word that is no strike, and no expiration before m
-abbrev pub isEnding : ℕ → Word → Bool
-isEnding m x = ltb (kindIn x) 5 || isKeyed 5 m x
+-- a word of a lower kind, or of the kind and with at least the key
+abbrev pub isEnding : ℕ → ℕ → Word → Bool
+isEnding kind key x = ltb (kindIn x) kind || isKeyed kind key x
 
--- the words up to an expiration word
-pub ending-packed :
-    (m : ℕ) → m ≤ 1023 → (x : Word) → isLegal x ≡ true → isUpTo (packed (Expiration m)) (packed x) ≡ isEnding m x
-ending-packed m l x legal = go x (legal-fits x legal)
-  where
-    go : (y : Word) → Fits y → isUpTo (packed (Expiration m)) (packed y) ≡ isEnding m y
-    go (Head now used) f = le-leb (rankOf (packed (Head now used))) (rankOf (packed (Expiration m))) (omega arith)
-    go (Class number dollar half) f =
-        le-leb (rankOf (packed (Class number dollar half))) (rankOf (packed (Expiration m))) (omega arith)
-    go (Close price) f = le-leb (rankOf (packed (Close price))) (rankOf (packed (Expiration m))) (omega arith)
-    go (Volume contracts) f = le-leb (rankOf (packed (Volume contracts))) (rankOf (packed (Expiration m))) (omega arith)
-    go (Expiration month) f = later (leb m month) refl
-      where
-        later : (b : Bool) → leb m month ≡ b → isUpTo (packed (Expiration m)) (packed (Expiration month)) ≡ b
-        later true e =
-            le-leb (rankOf (packed (Expiration month))) (rankOf (packed (Expiration m))) (omega (arith, leb-true m month e))
-        later false e =
-            lt-leb (rankOf (packed (Expiration month))) (rankOf (packed (Expiration m))) (omega (arith, leb-false m month e))
-    go (Strike h ground put call) f =
-        lt-leb (rankOf (packed (Strike h ground put call))) (rankOf (packed (Expiration m))) (omega arith)
-    go Invalid f = le-leb (rankOf (packed Invalid)) (rankOf (packed (Expiration m))) (omega arith)
+-- the lowest field of a word of any kind is below that of the next kind
+module _ (kind key : ℕ) (small : key < 2 ^ 28) where
+  ending-by :
+      (k v f n : ℕ) → k ≡ n → (n ≡ kind → f ≡ v) → f < 2 ^ 28
+      → leb (k * 2 ^ 28 + (2 ^ 28 - 1 - f)) (kind * 2 ^ 28 + (2 ^ 28 - 1 - key)) ≡ (ltb n kind || (eqb n kind && leb key v))
+  ending-by k v f n e d l = go (ltb n kind) refl (eqb n kind) refl (leb key v) refl
+    where
+      go :
+          (a : Bool) → ltb n kind ≡ a → (b : Bool) → eqb n kind ≡ b → (c : Bool) → leb key v ≡ c
+          → leb (k * 2 ^ 28 + (2 ^ 28 - 1 - f)) (kind * 2 ^ 28 + (2 ^ 28 - 1 - key)) ≡ (a || (b && c))
+      go true x b y c z = le-leb (k * 2 ^ 28 + (2 ^ 28 - 1 - f)) (kind * 2 ^ 28 + (2 ^ 28 - 1 - key)) (omega (arith, ltb-true n kind x))
+      go false x true y true z =
+          le-leb (k * 2 ^ 28 + (2 ^ 28 - 1 - f)) (kind * 2 ^ 28 + (2 ^ 28 - 1 - key))
+          (omega (arith, eqb-true n kind y, d (eqb-true n kind y), leb-true key v z))
+      go false x true y false z =
+          lt-leb (k * 2 ^ 28 + (2 ^ 28 - 1 - f)) (kind * 2 ^ 28 + (2 ^ 28 - 1 - key))
+          (omega (arith, eqb-true n kind y, d (eqb-true n kind y), leb-false key v z))
+      go false x false y c z =
+          lt-leb (k * 2 ^ 28 + (2 ^ 28 - 1 - f)) (kind * 2 ^ 28 + (2 ^ 28 - 1 - key))
+          (omega (arith, eqb-false n kind y, ltb-false n kind x))
+
+-- .. so that a search up to a key in packed words is one in the words
+pub up-to-packed :
+    (kind key : ℕ) → key < 2 ^ 28 → widthOf kind ≤ 28 → (x : Word) → isLegal x ≡ true
+    → isUpTo kind (widthOf kind) key (packed x) ≡ isEnding kind key x
+up-to-packed kind key small narrow x legal =
+    ending-by kind key small (kindOf (packed x)) (keyIn x) (field (packed x) 0 (widthOf kind)) (kindIn x)
+    (kind-packed x (packed x) (legal-fits x legal) refl) (λ e. key-said kind x legal e) (field-less (packed x) 0 (widthOf kind) 28 narrow)

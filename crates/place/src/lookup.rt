@@ -1,58 +1,36 @@
 // Where a class, an expiration and a strike stand in a book, or would stand.
 ghost use mathlib.Core.Path.{_≡_};
-ghost use Prim.Native.Nat.{_+_, _-_, _<_, _≤_};
-ghost use lib.Dec.{T};
-ghost use lib.ListN.{drop, length, take};
-ghost use Rattle.word.specs.Limits.{isMonth};
+ghost use mathlib.Core.Bool.{_&&_};
+ghost use Prim.Native.Nat.{ℕ, _+_, _-_, _<_, _≤_};
+ghost use lib.Dec.{T, eqb, ltb};
+ghost use lib.ListN.{drop, getD, length, take};
+ghost use Rattle.word.specs.Field.{field};
+ghost use Rattle.word.specs.Limits.{isClassNumber, isMonth, isStrike};
+ghost use Rattle.book.specs.Facts.{isOpen};
 ghost use Rattle.book.specs.Layout.{factsOf, used};
 ghost use Rattle.book.specs.Books.{isBook};
-ghost use Rattle.place.specs.Search.{firstAt, isFrom, figuresAt, strikesIn};
-ghost use Rattle.place.specs.Lookups.{lookupOf, expirationLookupOf, strikeLookupOf};
+ghost use Rattle.book.specs.Places.{classPlace};
+ghost use Rattle.place.specs.Search.{firstAt, isFrom, isOfKind, isUpTo, figuresAt};
+ghost use Rattle.place.specs.Lookups.{expirationOf, strikeSearchOf};
 use crate::head;
-use crate::search::find_plainly;
-use crate::search::find_rising;
 use crate::search::first;
+use crate::search::first_rising;
 use word::class::ClassRecord;
-use word::codec::class_word;
 use word::codec::expiration_word;
+use word::codec::kind;
 use word::field::field_of;
 
-// Where a class stands, with its figures; or where its words would be put.
-pub enum Lookup {
-    NotOpen(usize),
-    Open(usize, ClassRecord),
-}
-
-// Where the words of an open class begin, and where the strikes of an expiration of it stand.
+// Where the strikes of an expiration stand; where it has none, both are the index before which its word would stand.
 pub struct Expiration {
-    pub class: usize,
     pub from: usize,
     pub to: usize,
 }
 
-pub enum ExpirationLookup {
-    NotOpen,
-    Open(Expiration),
-}
-
-// The same, and where a strike stands among those of its expiration, or where its word would be put.
+// Where a strike stands, or where its word would be put; whether its expiration has strikes, and whether it is one of them.
 pub struct StrikeSearch {
-    pub class: usize,
-    pub from: usize,
-    pub to: usize,
     pub at: usize,
+    pub expiration: bool,
     pub standing: bool,
-}
-
-pub enum StrikeLookup {
-    NotOpen,
-    Open(StrikeSearch),
-}
-
-// A part of some words.
-struct Part {
-    from: usize,
-    to: usize,
 }
 
 // What the three words of a class say, which begin at `at`.
@@ -75,79 +53,102 @@ pub fn next_class(run: &[u32], from: usize) -> usize
     ensures { λ r. ⌜ (r ≡ from + firstAt (isFrom 2 14 0) (take (used (factsOf (now (run .entry))) - from) (drop from (now (run .entry))))) × (r ≤ used (factsOf (now (run .entry)))) ⌝ }
 {
     let used = head::used(run);
-    from + first(&run[from..used], class_word(0, 0, 0))
+    from + first(&run[from..used], 2, 14, 0)
 }
 
-// Where the strikes of the month m stand in the words of a class's series and of the classes after it.
-fn strikes_in(words: &[u32], m: u32) -> Part
-    requires { ⌜ T (isMonth m) ⌝ }
-    ensures { λ r. ⌜ r ≡ strikesIn m (now (words .entry)) ⌝ }
-{
-    let sought = expiration_word(m);
-    let at = first(words, sought);
-    if at == words.len() {
-        return Part { from: at, to: at };
-    }
-    if words[at] != sought {
-        return Part { from: at, to: at };
-    }
-    let from = at + 1;
-    Part {
-        from,
-        to: from + first(&words[from..words.len()], expiration_word(0)),
-    }
-}
-
-pub fn look_up(run: &[u32], c: u32) -> Lookup
-    requires { ⌜ T (isBook (now run)) ⌝ }
-    ensures { λ r. ⌜ r ≡ lookupOf c (factsOf (now (run .entry))) ⌝ }
+// Where the class c stands, or where its words would be put.
+pub fn class_at(run: &[u32], c: u32) -> usize
+    requires { ⌜ T (isBook (now run)) × T (isClassNumber c) ⌝ }
+    ensures { λ r. ⌜ r ≡ classPlace c (factsOf (now (run .entry))) ⌝ }
 {
     let used = head::used(run);
-    let found = find_rising(&run[1..used], 2, 14, c);
-    let at = 1 + found.at;
-    if !found.holds {
-        return Lookup::NotOpen(at);
-    }
-    Lookup::Open(at, figures_at(run, at))
+    1 + first_rising(&run[1..used], 2, 14, c)
 }
 
-pub fn look_up_expiration(run: &[u32], c: u32, m: u32) -> ExpirationLookup
-    requires { ⌜ T (isBook (now run)) × T (isMonth m) ⌝ }
-    ensures { λ r. ⌜ r ≡ expirationLookupOf c m (factsOf (now (run .entry))) ⌝ }
+// Whether the class c is open, by the word where it would stand.
+pub fn is_open_at(run: &[u32], at: usize, c: u32) -> bool
+    requires { ⌜ T (isBook (now run)) × (at ≡ classPlace c (factsOf (now run))) ⌝ }
+    ensures { λ r. ⌜ r ≡ isOpen c (factsOf (now (run .entry)) .classes) ⌝ }
 {
-    match look_up(run, c) {
-        Lookup::NotOpen(_) => ExpirationLookup::NotOpen,
-        Lookup::Open(at, _) => {
-            let begin = at + 3;
-            let end = head::used(run);
-            let strikes = strikes_in(&run[begin..end], m);
-            ExpirationLookup::Open(Expiration {
-                class: at,
-                from: begin + strikes.from,
-                to: begin + strikes.to,
-            })
-        }
+    if head::used(run) <= at {
+        return false;
+    }
+    field_of(run[at], 0, 14) == c
+}
+
+// The index of the first word of the class at `class` that is an expiration of the month m or of a later one, or where its words end.
+fn expiration_at(run: &[u32], class: usize, m: u32) -> usize
+    requires { ⌜ T (isBook (now run)) × (T (isMonth m) × (class + 3 ≤ used (factsOf (now run)))) ⌝ }
+    ensures { λ r. ⌜ (r ≡ class + 3 + firstAt (isUpTo 5 10 m) (take (used (factsOf (now (run .entry))) - (class + 3)) (drop (class + 3) (now (run .entry))))) × (r ≤ used (factsOf (now (run .entry)))) ⌝ }
+{
+    let begin = class + 3;
+    let used = head::used(run);
+    begin + first(&run[begin..used], 5, 10, m)
+}
+
+// Whether the words used have this one there.
+fn is_word_at(run: &[u32], at: usize, w: u32) -> bool
+    requires { ⌜ T (isBook (now run)) ⌝ }
+    ensures { λ r. ⌜ r ≡ (ltb at (used (factsOf (now (run .entry)))) && eqb (getD (now (run .entry)) at 0) w) ⌝ }
+{
+    if head::used(run) <= at {
+        return false;
+    }
+    run[at] == w
+}
+
+// Whether the words used have a strike there, and it is h.
+fn is_strike_at(run: &[u32], at: usize, h: u32) -> bool
+    requires { ⌜ T (isBook (now run)) ⌝ }
+    ensures { λ r. ⌜ r ≡ (ltb at (used (factsOf (now (run .entry)))) && (isOfKind 6 (getD (now (run .entry)) at 0) && eqb (field (getD (now (run .entry)) at 0) 0 15) h)) ⌝ }
+{
+    if head::used(run) <= at {
+        return false;
+    }
+    (kind(run[at]) == 6) & (field_of(run[at], 0, 15) == h)
+}
+
+// The expiration m of the open class at `class`.
+pub fn look_up_expiration(run: &[u32], class: usize, m: u32) -> Expiration
+    requires { ⌜ T (isBook (now run)) × (T (isMonth m) × (class + 3 ≤ used (factsOf (now run)))) ⌝ }
+    ensures { λ r. ⌜ (let f = factsOf (now (run .entry)) in
+        (c : ℕ) → T (isOpen c (f .classes)) → class ≡ classPlace c f → r ≡ expirationOf c m f) ⌝ }
+{
+    let place = expiration_at(run, class, m);
+    if !is_word_at(run, place, expiration_word(m)) {
+        return Expiration {
+            from: place,
+            to: place,
+        };
+    }
+    let from = place + 1;
+    let used = head::used(run);
+    Expiration {
+        from,
+        to: from + first(&run[from..used], 5, 10, 0),
     }
 }
 
-pub fn look_up_strike(run: &[u32], c: u32, m: u32, h: u32) -> StrikeLookup
-    requires { ⌜ T (isBook (now run)) × T (isMonth m) ⌝ }
-    ensures { λ r. ⌜ r ≡ strikeLookupOf c m h (factsOf (now (run .entry))) ⌝ }
+// The strike h of the expiration m of the open class at `class`.
+pub fn look_up_strike(run: &[u32], class: usize, m: u32, h: u32) -> StrikeSearch
+    requires { ⌜ T (isBook (now run)) × ((T (isMonth m) × T (isStrike h)) × (class + 3 ≤ used (factsOf (now run)))) ⌝ }
+    ensures { λ r. ⌜ (let f = factsOf (now (run .entry)) in
+        (c : ℕ) → T (isOpen c (f .classes)) → class ≡ classPlace c f → r ≡ strikeSearchOf c m h f) ⌝ }
 {
-    match look_up_expiration(run, c, m) {
-        ExpirationLookup::NotOpen => StrikeLookup::NotOpen,
-        ExpirationLookup::Open(e) => {
-            let class = e.class;
-            let from = e.from;
-            let to = e.to;
-            let found = find_plainly(&run[from..to], 15, h);
-            StrikeLookup::Open(StrikeSearch {
-                class,
-                from,
-                to,
-                at: from + found.at,
-                standing: found.holds,
-            })
-        }
+    let place = expiration_at(run, class, m);
+    if !is_word_at(run, place, expiration_word(m)) {
+        return StrikeSearch {
+            at: place,
+            expiration: false,
+            standing: false,
+        };
+    }
+    let from = place + 1;
+    let used = head::used(run);
+    let at = from + first(&run[from..used], 6, 15, h);
+    StrikeSearch {
+        at,
+        expiration: true,
+        standing: is_strike_at(run, at, h),
     }
 }

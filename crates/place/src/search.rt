@@ -1,36 +1,37 @@
-// The first word that comes no later than one that is sought, 32 words at a time; and the first of a kind from a key on, by guesses where the words of the kind rise.
+// The first word of a kind that holds at least a key, or of a lower kind, 16 words at a time; and the first of a kind from a key on, by guesses where the words of the kind rise.
 ghost use mathlib.Core.Path.{_≡_};
-ghost use Prim.Native.Nat.{ℕ, _<_, _≤_};
+ghost use Prim.Native.Nat.{_*_, _^_, _<_, _≤_};
 ghost use mathlib.Core.List.{map};
 ghost use lib.Dec.{T, leb};
 ghost use lib.ListN.{length};
 ghost use Rattle.word.specs.Digits.{binary};
 ghost use Rattle.rule.specs.Lists.{every};
-ghost use Rattle.place.specs.Search.{firstAt, isOfKind, isNoLower, rankOf, isUpTo, Finds, Rises};
+ghost use Rattle.place.specs.Search.{firstAt, isFrom, isNoLower, rankOf, isUpTo, Rises};
+use word::codec::kind;
 use word::field::field_of;
 
-// The index of the first word of a kind that holds at least a key, or the length; and whether it holds the key.
-pub struct Found {
-    pub at: usize,
-    pub holds: bool,
-}
-
-// A word by its kind, and in its kind by how little it holds.
-fn rank(w: u32) -> u32
-    ensures { λ r. ⌜ r ≡ rankOf w ⌝ }
+// A word by its kind, and in its kind by how little its lowest field, of `width` bits, holds.
+fn rank(w: u32, width: u32) -> u32
+    requires { ⌜ width ≤ 28 ⌝ }
+    ensures { λ r. ⌜ r ≡ rankOf width w ⌝ }
 {
-    field_of(w, 28, 4) * 268435456 + (268435455 - field_of(w, 0, 28))
+    kind(w) * 268435456 + (268435455 - field_of(w, 0, width))
 }
 
-// Which of 32 words are of a rank up to `most`: a bit for each, lowest first. The constant lets it compile to tests of many words at a time.
-fn ranked_of_32(block: &[u32], most: u32) -> u32
-    requires { ⌜ length (now block) ≡ 32 ⌝ }
-    ensures { λ r. ⌜ r ≡ binary (map (λ w. leb (rankOf w) most) (now (block .entry))) ⌝ }
+// Which of 16 words are of a rank up to `most`: a bit for each, from bit 1 on. The constant lets it compile to tests of many words at a time, and no word has bit 0, which would be
+// tested alone.
+fn ranked_of_16(block: &[u32], width: u32, most: u32) -> u32
+    requires { ⌜ (length (now block) ≡ 16) × (width ≤ 28) ⌝ }
+    ensures { λ r. ⌜ r ≡ 2 * binary (map (λ w. leb (rankOf width w) most) (now (block .entry))) ⌝ }
 {
     let mut bits = 0;
     let mut i = 0;
-    while i < 32 {
-        let bit = if rank(block[i]) <= most { 1 << i } else { 0 };
+    while i < 16 {
+        let bit = if rank(block[i], width) <= most {
+            2 << i
+        } else {
+            0
+        };
         bits = bits | bit;
         i += 1;
     }
@@ -38,12 +39,13 @@ fn ranked_of_32(block: &[u32], most: u32) -> u32
 }
 
 // The index of the first word of a rank up to `most`, or the length: word by word.
-fn first_plainly(words: &[u32], most: u32) -> usize
-    ensures { λ r. ⌜ (r ≡ firstAt (λ w. leb (rankOf w) most) (now (words .entry))) × (r ≤ length (now (words .entry))) ⌝ }
+fn first_plainly(words: &[u32], width: u32, most: u32) -> usize
+    requires { ⌜ width ≤ 28 ⌝ }
+    ensures { λ r. ⌜ (r ≡ firstAt (λ w. leb (rankOf width w) most) (now (words .entry))) × (r ≤ length (now (words .entry))) ⌝ }
 {
     let mut i = 0;
     while i < words.len() {
-        if rank(words[i]) <= most {
+        if rank(words[i], width) <= most {
             return i;
         }
         i += 1;
@@ -51,70 +53,57 @@ fn first_plainly(words: &[u32], most: u32) -> usize
     i
 }
 
-// The index of the first word of a lower kind than the word `sought`, or of its kind and holding at least as much; or the length. 32 words at a time.
-pub fn first(words: &[u32], sought: u32) -> usize
-    ensures { λ r. ⌜ (r ≡ firstAt (isUpTo sought) (now (words .entry))) × (r ≤ length (now (words .entry))) ⌝ }
+// The index of the first word of a lower kind, or of the kind and with at least `key` in its lowest field, of `width` bits; or the length. 16 words at a time.
+pub fn first(words: &[u32], kind: u32, width: u32, key: u32) -> usize
+    requires { ⌜ (kind < 16) × ((width ≤ 28) × (key < 2 ^ 28)) ⌝ }
+    ensures { λ r. ⌜ (r ≡ firstAt (isUpTo kind width key) (now (words .entry))) × (r ≤ length (now (words .entry))) ⌝ }
 {
-    let most = rank(sought);
+    let most = kind * 268435456 + (268435455 - key);
     let mut i = 0;
-    while 32 <= words.len() - i {
-        let bits = ranked_of_32(&words[i..i + 32], most);
+    while 16 <= words.len() - i {
+        let bits = ranked_of_16(&words[i..i + 16], width, most);
         if bits != 0 {
-            return i + u32::trailing_zeros(bits) as usize;
+            return i + u32::trailing_zeros(bits) as usize - 1;
         }
-        i += 32;
+        i += 16;
     }
-    i + first_plainly(&words[i..words.len()], most)
+    i + first_plainly(&words[i..words.len()], width, most)
 }
 
-// The first word of the kind that holds at least the key: from one word of the kind to the next.
-fn find(words: &[u32], kind: u32, width: u32, key: u32) -> Found
-    requires { ⌜ (width < 32) × ((kind < 16) × T (every (isNoLower kind) (now words))) ⌝ }
-    ensures { λ r. ⌜ Finds kind width key (now (words .entry)) r ⌝ }
-{
-    let mut i = 0;
-    while i < words.len() {
-        let at = i + first(&words[i..words.len()], kind * 268435456);
-        if at == words.len() {
-            return Found { at, holds: false };
-        }
-        let held = field_of(words[at], 0, width);
-        if key <= held {
-            return Found {
-                at,
-                holds: held == key,
-            };
-        }
-        i = at + 1;
-    }
-    Found {
-        at: i,
-        holds: false,
-    }
-}
-
-// Where a key is to be expected among `span` words, before which `below` is held, and behind which `above`: in the middle where they say nothing of it. Any of the words would do: a guess only
-// shortens the search.
+// Where a key is to be expected among `span` words, before which `below` is held, and behind which `above`: a little before, since the search goes up from there; in the middle where they say
+// nothing of it. Any of the words would do: a guess only shortens the search.
 fn expected(span: usize, key: u32, below: u32, above: u32) -> usize
     requires { ⌜ (0 < span) × (span ≤ 65535) ⌝ }
     ensures { λ r. ⌜ r < span ⌝ }
 {
-    if (below <= key) & (key < above) {
-        return span * (key - below) as usize / (above - below) as usize;
+    if !((below <= key) & (key < above)) {
+        return span / 2;
     }
-    span / 2
+    let there = span * (key - below) as usize / (above - below) as usize;
+    if there < 32 { 0 } else { there - 32 }
 }
 
-// The same, where the words of the kind rise: the next word of the kind from a guess on decides on which side of the guess the search goes on. Every third guess is the middle.
-pub fn find_rising(words: &[u32], kind: u32, width: u32, key: u32) -> Found
-    requires { ⌜ (width < 32) × ((kind < 16) × T (every (isNoLower kind) (now words))) × ((length (now words) ≤ 65535) × Rises kind width key (now words)) ⌝ }
-    ensures { λ r. ⌜ Finds kind width key (now (words .entry)) r ⌝ }
+// The first word of the kind that holds at least the key, where the words of the kind rise: the next word of the kind from a guess on decides on which side of the guess the search goes on.
+// What the last of them holds is a guess too until a word is seen that holds more than the key: at first twice the key, as if it were in the middle, and then what the words passed let expect. Every eighth
+// guess is the middle.
+pub fn first_rising(words: &[u32], of: u32, width: u32, key: u32) -> usize
+    requires { ⌜ ((of < 16) × ((width ≤ 14) × (key < 2 ^ width))) × (T (every (isNoLower of) (now words)) × ((length (now words) ≤ 65535) × Rises of width key (now words))) ⌝ }
+    ensures { λ r. ⌜ (r ≡ firstAt (isFrom of width key) (now (words .entry))) × (r ≤ length (now (words .entry))) ⌝ }
 {
+    let n = words.len();
+    if n == 0 {
+        return 0;
+    }
+    if (kind(words[0]) == of) & (key <= field_of(words[0], 0, width)) {
+        return 0;
+    }
+    let most: u32 = 1 << width;
     let mut low = 0;
-    let mut high = words.len();
+    let mut high = n;
     let mut below = 0;
-    let mut above = 0;
-    let mut turn: u32 = 0;
+    let mut above = if 2 * key < most { 2 * key } else { most };
+    let mut known = false;
+    let mut turn: u32 = 1;
     while 64 < high - low {
         let span = high - low;
         let guess = if turn == 0 {
@@ -123,52 +112,27 @@ pub fn find_rising(words: &[u32], kind: u32, width: u32, key: u32) -> Found
             expected(span, key, below, above)
         };
         let middle = low + guess;
-        turn = (turn + 1) % 3;
-        let next = middle + first(&words[middle..high], kind * 268435456);
+        turn = (turn + 1) % 8;
+        let next = middle + first(&words[middle..high], of, width, 0);
         if next == high {
             high = middle;
         } else {
             let held = field_of(words[next], 0, width);
             if held == key {
-                return Found {
-                    at: next,
-                    holds: true,
-                };
+                return next;
             }
             if held < key {
                 low = next + 1;
                 below = held;
+                if !known {
+                    above = held + held * (high - low) as u32 / low as u32;
+                }
             } else {
                 high = middle;
                 above = held;
+                known = true;
             }
         }
     }
-    let found = find(&words[low..words.len()], kind, width, key);
-    Found {
-        at: low + found.at,
-        holds: found.holds,
-    }
-}
-
-// The same, where all words are of the kind: word by word.
-pub fn find_plainly(words: &[u32], width: u32, key: u32) -> Found
-    requires { ⌜ width < 32 ⌝ }
-    ensures { λ r. ⌜ ((kind : ℕ) → T (every (isOfKind kind) (now (words .entry))) → Finds kind width key (now (words .entry)) r) ⌝ }
-{
-    let mut i = 0;
-    while i < words.len() {
-        let held = field_of(words[i], 0, width);
-        if key <= held {
-            return Found {
-                at: i,
-                holds: held == key,
-            };
-        }
-        i += 1;
-    }
-    Found {
-        at: i,
-        holds: false,
-    }
+    low + first(&words[low..n], of, width, key)
 }

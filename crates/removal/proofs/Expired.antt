@@ -1,50 +1,41 @@
 -- The words of a class whose earlier months go: its three words and those of the months from m on, where the search for what stays and the search for the next class stop. Assumes nothing.
-use Prim.Native.Nat.{ℕ, suc}
+use Prim.Native.Nat.{ℕ, _^_, _<_}
 use mathlib.Core.Path.{_≡_, refl, sym, ap, _∙_, subst}
-use mathlib.Core.Bool.{Bool, true, false, not, _||_}
+use mathlib.Core.Bool.{Bool, not}
 use mathlib.Core.List.{List, [], _∷_, _++_, map}
 use native.Mathlib.Omega.{arith}
 use lib.ListN.{length}
-use lib.Dec.{T, eqb, leb, ltb→lt, eqb·zero-suc}
+use lib.Dec.{T, leb, ltb→lt, leb·zero, eqb·zero-suc}
 use borrow.Author.Tests.{lt-leb}
 use Rattle.word.specs.declared.codec.Word.{Word}
-use Rattle.word.specs.declared.codec.Word.the-variants.{Class}
 use Rattle.word.specs.Codec.{isLegal, packed}
-use Rattle.word.proofs.Words.{legal-fits, kindIn, kind-packed}
 use Rattle.rule.specs.Lists.{every, only}
 use Rattle.book.specs.Facts.{Series, inMonth, OpenClass, number, withSeries}
-use Rattle.book.specs.Layout.{strikeWord, expirationUnless, seriesWords, figuresWords, classesWords}
+use Rattle.book.specs.Layout.{seriesWords, figuresWords, classesWords}
 use Rattle.book.specs.Books.{isClass}
 use Rattle.book.proofs.Tests.{ands, T-true, true-T}
+use Rattle.book.proofs.Lists.{every-imply, every-true}
 use Rattle.book.proofs.Forms.{areSeries}
 use Rattle.book.proofs.Layouts.{seriesWords-append, words-legal}
 use Rattle.book.proofs.Parts.{every-kept, isUnder, isEqual, isOver, not-under}
 use Rattle.book.proofs.Splits.{every-split}
 use Rattle.book.proofs.Expirations.{monthOf, month-parts, series-apart}
-use Rattle.place.specs.Search.{firstAt, isUpTo, isFrom}
-use Rattle.place.proofs.Words.{first-of-kind, first-up-to, isKeyed, from-packed}
-use Rattle.place.proofs.Laid.{first-after, kinds-packed, stops-anywhere, every-true, every-series, class-kinds, no-class, classes-laid}
-use Rattle.removal.specs.Expiry.{staysIn}
+use Rattle.place.specs.Search.{firstAt, isUpTo}
+use Rattle.place.proofs.Words.{isEnding, up-to-packed}
+use Rattle.place.proofs.Laid.{first-after, every-series, not-from}
 
 -- ---- the search for the next class
 
-abbrev pub isClassWord : ℕ → Bool
-isClassWord w = isUpTo (packed (Class 0 0 0)) w
-
 next-class :
     (ss : List Series) (xs : List OpenClass) → T (every isLegal (seriesWords 0 ss [] ++ classesWords xs []))
-    → firstAt isClassWord (map packed (seriesWords 0 ss [] ++ classesWords xs [])) ≡ length (seriesWords 0 ss [])
+    → firstAt (isUpTo 2 14 0) (map packed (seriesWords 0 ss [] ++ classesWords xs [])) ≡ length (seriesWords 0 ss [])
 next-class ss xs legal =
-    let series = seriesWords 0 ss [] in
-    let rest = classesWords xs [] in
-    let kinds =
-    subst (λ (l : List Word). T (every (λ w. leb 2 (kindIn w)) l)) (seriesWords-append 0 ss [] rest)
-    (every-series (λ w. leb 2 (kindIn w)) 0 ss rest (every-true ss) (class-kinds xs)) in
-    first-up-to 2 (map packed (series ++ rest)) (kinds-packed (leb 2) (series ++ rest) legal kinds)
-    ∙ first-of-kind 2 14 (map packed (series ++ rest))
-    ∙ first-after (isFrom 2 14 0) (isKeyed 2 0) (from-packed 2 0) series rest legal
-    (no-class (λ w. not (isKeyed 2 0 w)) (λ w e. rw e tt) 0 ss [] tt)
-    (stops-anywhere number 2 (λ ys. classesWords ys []) classes-laid xs)
+    first-after (isUpTo 2 14 0) (isEnding 2 0) (up-to-packed 2 0 (omega arith) (omega arith)) (seriesWords 0 ss [])
+    (classesWords xs []) legal (every-series (λ w. not (isEnding 2 0 w)) 0 ss [] (every-true ss) tt) (stops xs)
+  where
+    stops : (ys : List OpenClass) → firstAt (isEnding 2 0) (classesWords ys []) ≡ 0
+    stops [] = refl
+    stops (y ∷ ys) = rw (leb·zero (number y))
 
 -- ---- series by month
 
@@ -78,35 +69,18 @@ module _ (m : ℕ) where
 
   -- ---- the search for what stays
 
-  abbrev staysWord : Word → Bool
-  staysWord x = eqb (kindIn x) 2 || isKeyed 5 m x
+  passes-earlier :
+      (ss : List Series) → T (every (isUnder monthOf m) ss) → T (every (λ w. not (isEnding 5 m w)) (seriesWords 0 ss []))
+  passes-earlier ss t =
+      every-series (λ w. not (isEnding 5 m w)) 0 ss []
+      (every-imply (isUnder monthOf m) (λ s. not (leb m (s .month))) (λ s u. not-from (s .month) m u) ss t) tt
 
-  stays-packed : (ws : List Word) → T (every isLegal ws) → firstAt (staysIn m) (map packed ws) ≡ firstAt staysWord ws
-  stays-packed [] legal = refl
-  stays-packed (w ∷ ws) legal =
-      let l = T-true (isLegal w) (search ands) in
-      let e : staysIn m (packed w) ≡ staysWord w =
-      (λ i. eqb (kind-packed w (packed w) (legal-fits w l) refl i) 2 || from-packed 5 m w l i) in
-      rw (e, stays-packed ws (search ands))
-
-  stops-later : (ss : List Series) (xs : List OpenClass) → T (every isLater ss) → firstAt staysWord (seriesWords 0 ss (classesWords xs [])) ≡ 0
+  stops-later :
+      (ss : List Series) (xs : List OpenClass) → T (every isLater ss)
+      → firstAt (isEnding 5 m) (seriesWords 0 ss (classesWords xs [])) ≡ 0
   stops-later [] [] t = refl
   stops-later [] (x ∷ xs) t = refl
   stops-later (s ∷ ss) xs t = rw (eqb·zero-suc (s .month), T-true (isLater s) (search ands))
-
-  passes-earlier :
-      (p : ℕ) (ss : List Series) (rest : List Word) → T (every (isUnder monthOf m) ss) → firstAt staysWord rest ≡ 0
-      → firstAt staysWord (seriesWords p ss [] ++ rest) ≡ length (seriesWords p ss [])
-  passes-earlier p [] rest t e = e
-  passes-earlier p (s ∷ ss) rest t e = go (eqb p (suc (s .month))) (passes-earlier (suc (s .month)) ss rest (search ands) e)
-    where
-      go :
-          (b : Bool)
-          → firstAt staysWord (seriesWords (suc (s .month)) ss [] ++ rest) ≡ length (seriesWords (suc (s .month)) ss [])
-          → firstAt staysWord (expirationUnless b (s .month) (strikeWord s ∷ seriesWords (suc (s .month)) ss []) ++ rest)
-          ≡ length (expirationUnless b (s .month) (strikeWord s ∷ seriesWords (suc (s .month)) ss []))
-      go true r = ap suc r
-      go false r = rw (lt-leb m (s .month) (ltb→lt (s .month) m (search ands))) (ap (λ (k : ℕ). suc (suc k)) r)
 
   -- ---- the first of some classes
 
@@ -121,11 +95,12 @@ module _ (m : ℕ) where
     pub left :
         classesWords (map keptFrom (x ∷ xs)) []
         ≡ figuresWords (x .figures) [] ++ (staying ++ classesWords (map keptFrom xs) [])
-    pub stays : firstAt (staysIn m) (map packed (going ++ (staying ++ classesWords xs []))) ≡ length going
-    pub next : firstAt isClassWord (map packed (staying ++ classesWords xs [])) ≡ length staying
+    pub stays : firstAt (isUpTo 5 10 m) (map packed (going ++ (staying ++ classesWords xs []))) ≡ length going
+    pub next : firstAt (isUpTo 2 14 0) (map packed (staying ++ classesWords xs [])) ≡ length staying
 
-  pub class-parts : (now : ℕ) (x : OpenClass) (xs : List OpenClass) → T (every (isClass now) (x ∷ xs)) → ClassParts x xs
-  class-parts now x xs good =
+  pub class-parts :
+      m < 2 ^ 28 → (now : ℕ) (x : OpenClass) (xs : List OpenClass) → T (every (isClass now) (x ∷ xs)) → ClassParts x xs
+  class-parts small now x xs good =
       let ss = x .series in
       let rest = classesWords xs [] in
       let figures = figuresWords (x .figures) [] in
@@ -152,8 +127,7 @@ module _ (m : ℕ) where
         left =
             ap (λ (l : List Word). figures ++ l) (seriesWords-append 0 (later ss) [] (classesWords (map keptFrom xs) []));
         stays =
-            stays-packed (going ++ (staying ++ rest)) legal
-            ∙ passes-earlier 0 earlier (staying ++ rest) before
-            (ap (firstAt staysWord) (sym apart) ∙ stops-later (later ss) xs kept);
+            first-after (isUpTo 5 10 m) (isEnding 5 m) (up-to-packed 5 m small (omega arith)) going (staying ++ rest)
+            legal (passes-earlier earlier before) (ap (firstAt (isEnding 5 m)) (sym apart) ∙ stops-later (later ss) xs kept);
         next = next-class (later ss) xs (every-split isLegal going (staying ++ rest) legal .1);
       }

@@ -1,5 +1,5 @@
 -- The loop of an expiry, class by class: what is written, what is still to be moved and what the classes ahead will leave are together the words that stay. Assumes nothing.
-use Prim.Native.Nat.{ℕ, suc, _+_, _-_, _≤_, _<_}
+use Prim.Native.Nat.{ℕ, suc, _+_, _-_, _^_, _≤_, _<_}
 use mathlib.Core.Path.{_≡_, refl, sym, ap, _∙_}
 use mathlib.Core.List.{List, [], _∷_, _++_, map, map-append, append-assoc, append-nil}
 use native.Mathlib.Omega.{arith}
@@ -17,13 +17,13 @@ use Rattle.book.specs.Books.{isClass, isBook}
 use Rattle.book.specs.Calls.{callM, changed}
 use Rattle.book.proofs.Tests.{ands}
 use Rattle.book.proofs.Runs.{run-parts}
-use Rattle.place.specs.Search.{firstAt}
+use Rattle.place.specs.Search.{firstAt, isUpTo}
 use Rattle.place.proofs.Heads.{book-form, book-is, book-room}
 use Rattle.place.proofs.Found.{body}
-use Rattle.removal.specs.Expiry.{staysIn, MovedTo}
+use Rattle.removal.specs.Expiry.{MovedTo}
 use Rattle.removal.proofs.Parts.{zeros-joined}
 use Rattle.removal.proofs.Stretches.{stretch, drop-later, stretch-parts, stretch-known}
-use Rattle.removal.proofs.Expired.{isClassWord, keptFrom, class-parts}
+use Rattle.removal.proofs.Expired.{keptFrom, class-parts}
 
 module _ (m : ℕ) (ws : List ℕ) where
   abbrev facts : Facts
@@ -82,13 +82,13 @@ module _ (m : ℕ) (ws : List ℕ) where
     pub after : List OpenClass
     pub good : T (every (isClass (facts .now)) after)
     pub words : stretch (at + 3) (used facts) ws ≡ map packed going ++ (map packed staying ++ map packed (classesWords after []))
-    pub stays : firstAt (staysIn m) (stretch (at + 3) (used facts) ws) ≡ length going
-    pub next : firstAt isClassWord (map packed staying ++ map packed (classesWords after [])) ≡ length staying
+    pub stays : firstAt (isUpTo 5 10 m) (stretch (at + 3) (used facts) ws) ≡ length going
+    pub next : firstAt (isUpTo 2 14 0) (map packed staying ++ map packed (classesWords after [])) ≡ length staying
     pub made : take written run ++ (stretch kept (at + 3) ws ++ (map packed staying ++ left after)) ≡ whole
 
   module _ {run : List ℕ} {written kept at : ℕ} (E : Expiring run written kept at) where
-    pub at-class : at < used facts → AtClass run written kept at
-    at-class l = go (E .classes) (E .good) (E .ahead) (E .made)
+    pub at-class : m < 2 ^ 28 → at < used facts → AtClass run written kept at
+    at-class small l = go (E .classes) (E .good) (E .ahead) (E .made)
       where
         go :
             (xs : List OpenClass) → T (every (isClass (facts .now)) xs)
@@ -96,7 +96,7 @@ module _ (m : ℕ) (ws : List ℕ) where
             → take written run ++ (stretch kept at ws ++ left xs) ≡ whole → AtClass run written kept at
         go [] good ahead made = absurd (omega (arith, mid-len at (used facts) ws (E .room), ap length ahead))
         go (x ∷ xs) good ahead made =
-            let p = class-parts m (facts .now) x xs good in
+            let p = class-parts m small (facts .now) x xs good in
             let figures = figuresWords (x .figures) [] in
             let rest = p .going ++ (p .staying ++ classesWords xs []) in
             let words : stretch at (used facts) ws ≡ map packed figures ++ map packed rest =
@@ -120,9 +120,9 @@ module _ (m : ℕ) (ws : List ℕ) where
               after = xs;
               good = search ands;
               words = known .1 ∙ apart;
-              stays = ap (firstAt (staysIn m)) (known .1) ∙ p .stays;
+              stays = ap (firstAt (isUpTo 5 10 m)) (known .1) ∙ p .stays;
               next =
-                  ap (firstAt isClassWord) (sym (map-append packed (p .staying) (classesWords xs []))) ∙ p .next;
+                  ap (firstAt (isUpTo 2 14 0)) (sym (map-append packed (p .staying) (classesWords xs []))) ∙ p .next;
               made =
                   ap (λ (l : List ℕ). take written run ++ (l ++ (map packed (p .staying) ++ left xs)))
                   (stretch-parts kept at (at + 3) ws (E .passed) (omega arith)
@@ -140,12 +140,12 @@ module _ (m : ℕ) (ws : List ℕ) where
     -- where what stays begins
     module _
         (C : AtClass run written kept at) (stays : ℕ)
-        (e : stays ≡ at + 3 + firstAt (staysIn m) (stretch (at + 3) (used facts) run)) where
+        (e : stays ≡ at + 3 + firstAt (isUpTo 5 10 m) (stretch (at + 3) (used facts) run)) where
       there : stays ≡ at + 3 + length (C .going)
       there =
           let l = E .passed in
           e
-          ∙ ap (λ (l : List ℕ). at + 3 + firstAt (staysIn m) (take (used facts - (at + 3)) l))
+          ∙ ap (λ (l : List ℕ). at + 3 + firstAt (isUpTo 5 10 m) (take (used facts - (at + 3)) l))
           (drop-later kept (at + 3) run ws (omega arith) (E .unread))
           ∙ ap (λ (k : ℕ). at + 3 + k) (C .stays)
 
@@ -154,7 +154,7 @@ module _ (m : ℕ) (ws : List ℕ) where
           (run′ : List ℕ) (written′ kept′ next : ℕ) → length run′ ≡ length ws → 1 ≤ written′ → written′ ≤ kept′
           → kept′ ≤ stays → drop kept′ run′ ≡ drop kept′ ws
           → take written′ run′ ++ stretch kept′ stays ws ≡ take written run ++ stretch kept (at + 3) ws
-          → next ≡ stays + firstAt isClassWord (stretch stays (used facts) run′)
+          → next ≡ stays + firstAt (isUpTo 2 14 0) (stretch stays (used facts) run′)
           → Expiring run′ written′ kept′ next
       expire-next run′ written′ kept′ next long begun behind passed unread same n =
           let staying = map packed (C .staying) in
@@ -171,9 +171,9 @@ module _ (m : ℕ) (ws : List ℕ) where
           (map packed (C .going)) (staying ++ rest) (C .words) (omega (arith, there)) .1 in
           let to : next ≡ stays + length (C .staying) =
           n
-          ∙ ap (λ (l : List ℕ). stays + firstAt isClassWord (take (used facts - stays) l))
+          ∙ ap (λ (l : List ℕ). stays + firstAt (isUpTo 2 14 0) (take (used facts - stays) l))
           (drop-later kept′ stays run′ ws passed unread)
-          ∙ ap (λ (l : List ℕ). stays + firstAt isClassWord l) from-stays
+          ∙ ap (λ (l : List ℕ). stays + firstAt (isUpTo 2 14 0) l) from-stays
           ∙ ap (λ (k : ℕ). stays + k) (C .next) in
           let known =
           stretch-known stays next (used facts) ws (omega arith) (omega (arith, there)) (E .room) staying rest from-stays
@@ -204,7 +204,7 @@ module _ (m : ℕ) (ws : List ℕ) where
 
       -- no month goes
       pub expire-stay :
-          (next : ℕ) → stays ≤ at + 3 → next ≡ stays + firstAt isClassWord (stretch stays (used facts) run)
+          (next : ℕ) → stays ≤ at + 3 → next ≡ stays + firstAt (isUpTo 2 14 0) (stretch stays (used facts) run)
           → Expiring run written kept next
       expire-stay next l n =
           let p = E .passed in
@@ -216,7 +216,7 @@ module _ (m : ℕ) (ws : List ℕ) where
       pub expire-move :
           (run′ : List ℕ) (written′ next : ℕ) → length run′ ≡ length run → stays ≤ used facts
           → MovedTo written kept (at + 3) run run′ → written′ ≡ written + (at + 3 - kept)
-          → next ≡ stays + firstAt isClassWord (stretch stays (used facts) run′)
+          → next ≡ stays + firstAt (isUpTo 2 14 0) (stretch stays (used facts) run′)
           → Expiring run′ written′ stays next
       expire-move run′ written′ next long l M w n =
           let p = E .passed in

@@ -3,6 +3,7 @@ pub mod Said
 pub mod Parts
 pub mod Moving
 pub mod Steps
+pub mod Stretches
 pub mod Shifts
 pub mod Marked
 pub mod Expirations
@@ -10,8 +11,6 @@ pub mod Kept
 pub mod Reviewed
 pub mod Whole
 pub mod CallFacts
-pub mod Stretches
-pub mod Stays
 pub mod Expired
 pub mod Expiring
 pub mod Delisted

@@ -1,5 +1,5 @@
 -- The review by the bounds of the marked strikes is the review of document 01: a test of the bounds asks of each marked strike what the sentence asks. Assumes nothing.
-use Prim.Native.Nat.{ℕ, _+_, _≤_, _<_}
+use Prim.Native.Nat.{ℕ, _+_, _≤_, _<_, min, max}
 use mathlib.Core.Path.{_≡_, refl, sym, ap, _∙_}
 use mathlib.Core.Bool.{Bool, cond, not, _&&_, _||_, and-true, and-assoc, Bool·not-not}
 use mathlib.Core.List.{List, [], _∷_}
@@ -14,7 +14,7 @@ use Rattle.book.specs.Books.{isSeries}
 use Rattle.book.specs.Calls.{isReviewed}
 use Rattle.book.proofs.Tests.{and-left, and-right, and-intro, ands, same-bool}
 use Rattle.removal.specs.declared.marks.Bounds.{Bounds}
-use Rattle.removal.specs.Marks.{noneMarked, lower, higher, widened}
+use Rattle.removal.specs.Marks.{noneMarked, widened}
 use Rattle.removal.proofs.Expirations.{markedIn, widenedBy, staysAmong, staying, leaving}
 
 -- ---- the bounds
@@ -30,27 +30,27 @@ widened-law q p one b (s ∷ ss) =
     ∙ ap (λ (t : Bool). t && each) (one b (s .strike))
     ∙ and-assoc (q b) (p (s .strike)) each
 
-above-asks : (h a k : ℕ) → leb (higher a (k + 1)) h ≡ (leb a h && ltb k h)
+above-asks : (h a k : ℕ) → leb (max a (k + 1)) h ≡ (leb a h && ltb k h)
 above-asks h a k =
-    same-bool (leb (higher a (k + 1)) h) (leb a h && ltb k h)
+    same-bool (leb (max a (k + 1)) h) (leb a h && ltb k h)
     (λ t.
-    let l : higher a (k + 1) ≤ h = leb→le (higher a (k + 1)) h t in
+    let l : max a (k + 1) ≤ h = leb→le (max a (k + 1)) h t in
     and-intro (leb a h) (ltb k h) (le→leb a h (omega arith)) (lt→ltb k h (omega arith)))
     (λ t.
     let l : a ≤ h = leb→le a h (and-left (leb a h) (ltb k h) t) in
     let m : k < h = ltb→lt k h (and-right (leb a h) (ltb k h) t) in
-    le→leb (higher a (k + 1)) h (omega arith))
+    le→leb (max a (k + 1)) h (omega arith))
 
-lowest-asks : (h a k : ℕ) → ltb h (lower k a) ≡ (ltb h a && ltb h k)
+lowest-asks : (h a k : ℕ) → ltb h (min k a) ≡ (ltb h a && ltb h k)
 lowest-asks h a k =
-    same-bool (ltb h (lower k a)) (ltb h a && ltb h k)
+    same-bool (ltb h (min k a)) (ltb h a && ltb h k)
     (λ t.
-    let l : h < lower k a = ltb→lt h (lower k a) t in
+    let l : h < min k a = ltb→lt h (min k a) t in
     and-intro (ltb h a) (ltb h k) (lt→ltb h a (omega arith)) (lt→ltb h k (omega arith)))
     (λ t.
     let l : h < a = ltb→lt h a (and-left (ltb h a) (ltb h k) t) in
     let m : h < k = ltb→lt h k (and-right (ltb h a) (ltb h k) t) in
-    lt→ltb h (lower k a) (omega arith))
+    lt→ltb h (min k a) (omega arith))
 
 -- above all, or below all
 beyond :

@@ -1,5 +1,5 @@
 -- The bounds of the marked strikes of an expiration, read from its words: nothing of document 01, but the form in which the code works. Assumes nothing.
-use Prim.Native.Nat.{ℕ, _+_, _-_}
+use Prim.Native.Nat.{ℕ, _+_, min, max}
 use mathlib.Core.Bool.{Bool, cond, _||_}
 use mathlib.Core.List.{List, [], _∷_}
 use lib.Dec.{eqb}
@@ -26,16 +26,9 @@ module _ {A : Type 0} (expiration : A) (strike : (h ground put call : ℕ) → A
 abbrev pub noneMarked : Bounds
 noneMarked = record { lowest = 32768; above = 0 }
 
--- the lower and the higher of two numbers
-abbrev pub lower : ℕ → ℕ → ℕ
-lower a b = a - (a - b)
-
-abbrev pub higher : ℕ → ℕ → ℕ
-higher a b = a + (b - a)
-
 -- with one marked strike more
 abbrev pub widened : Bounds → ℕ → Bounds
-widened b h = record { lowest = lower h (b .lowest); above = higher (b .above) (h + 1) }
+widened b h = record { lowest = min h (b .lowest); above = max (b .above) (h + 1) }
 
 abbrev pub marks : ℕ → ℕ → Bool
 marks put call = eqb put 1 || eqb call 1

@@ -1,7 +1,8 @@
 -- Words rewritten in place, a pass over them and a gap that is closed: nothing of document 01, but the form in which the code works. Assumes nothing.
-use Prim.Native.Nat.{ℕ, _-_}
+use Prim.Native.Nat.{ℕ, _+_, _-_, _≤_}
+use mathlib.Core.Path.{_≡_}
 use mathlib.Core.List.{List, [], _∷_, _++_}
-use lib.ListN.{length, drop, replicate}
+use lib.ListN.{length, take, drop, replicate}
 
 -- what a pass gives: the words that it writes, and the state that it ends in
 pub record Ran (S : Type 0) : Type 0 where
@@ -26,6 +27,12 @@ padded n ws = ws ++ replicate (n - length ws) 0
 abbrev pub movedDown : ℕ → List ℕ → List ℕ
 movedDown n ws = drop n ws ++ drop (length ws - n) ws
 
--- the same, and the last n zeroed
+-- the words xs became s: the first i after a gap moved to its front, the others as they were
+pub record Shifting (gap : ℕ) (xs s : List ℕ) (i : ℕ) : Type 0 where
+  pub room : i + gap ≤ length xs
+  pub long : length s ≡ length xs
+  pub moved : s ≡ take i (drop gap xs) ++ drop i xs
+
+-- all moved, and the last n zeroed
 abbrev pub closed : ℕ → List ℕ → List ℕ
 closed n ws = drop n ws ++ replicate n 0

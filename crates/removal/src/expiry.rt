@@ -2,19 +2,15 @@
 ghost use mathlib.Core.Path.{_≡_};
 ghost use Prim.Native.Nat.{_+_, _-_, _≤_};
 ghost use lib.Dec.{T};
-ghost use lib.ListN.{length, take, drop};
+ghost use lib.ListN.{length};
 ghost use Rattle.book.specs.Layout.{layout, factsOf};
 ghost use Rattle.book.specs.Books.{isBook};
 ghost use Rattle.book.specs.Calls.{callM, changed};
-ghost use Rattle.place.specs.Search.{firstAt};
-ghost use Rattle.removal.specs.Expiry.{staysIn, MovedTo};
+ghost use Rattle.removal.specs.Expiry.{MovedTo};
 use crate::gap::move_down_by;
 use place::head;
 use place::search::first;
-use word::codec::class_word;
 use word::codec::head_word;
-use word::codec::kind;
-use word::field::field_of;
 use word::zeros::zero_all;
 
 // Moves the words from `from` to `end` down to `to`, and returns the index after them.
@@ -30,22 +26,6 @@ fn move_to(run: &mut [u32], to: usize, from: usize, end: usize) -> usize
     end - gap
 }
 
-// The index of the first word from `from` on that stays in the month m: an expiration of that month or a later one, or the next class; or `end`.
-fn stays_from(run: &[u32], from: usize, end: usize, m: u32) -> usize
-    requires { ⌜ (from ≤ end) × (end ≤ length (now run)) ⌝ }
-    ensures { λ r. ⌜ (r ≡ from + firstAt (staysIn m) (take (end - from) (drop from (now (run .entry))))) × (r ≤ end) ⌝ }
-{
-    let mut i = from;
-    while i < end {
-        let w = run[i];
-        if (kind(w) == 2) | (kind(w) == 5) & (m <= field_of(w, 0, 10)) {
-            return i;
-        }
-        i += 1;
-    }
-    i
-}
-
 // `M`: the months before m go, and m is the month.
 pub fn expire(run: &mut [u32], m: u32)
     requires { ⌜ T (isBook (now run)) × (m ≤ 1023) ⌝ }
@@ -57,12 +37,12 @@ pub fn expire(run: &mut [u32], m: u32)
     let mut at = 1;
     while at < end {
         let start = at + 3;
-        let stays = stays_from(run, start, end, m);
+        let stays = start + first(&run[start..end], 5, 10, m);
         if start < stays {
             written = move_to(run, written, kept, start);
             kept = stays;
         }
-        at = stays + first(&run[stays..end], class_word(0, 0, 0));
+        at = stays + first(&run[stays..end], 2, 14, 0);
     }
     written = move_to(run, written, kept, end);
     zero_all(&mut run[written..end]);

@@ -1,8 +1,10 @@
 // A gap at the front of lent words is closed: the others move down, and what is freed at the end is zeroed.
 ghost use mathlib.Core.Path.{_≡_};
-ghost use Prim.Native.Nat.{_≤_};
-ghost use lib.ListN.{length};
-ghost use Rattle.removal.specs.Runs.{movedDown, closed};
+ghost use mathlib.Core.List.{List};
+ghost use Prim.Native.Nat.{ℕ, _+_, _≤_};
+ghost use lib.ListN.{drop, length, take};
+ghost use lib.Seq.{sets};
+ghost use Rattle.removal.specs.Runs.{movedDown, Shifting, closed};
 use word::zeros::zero_all;
 
 // The loops with a constant distance compile to memmove.
@@ -30,16 +32,53 @@ fn move_down_two(words: &mut [u32])
     }
 }
 
+// Moves eight words down. All are read before one is written, so that they go at once whatever the distance.
+fn move_eight(words: &mut [u32], to: usize, from: usize)
+    requires { ⌜ (to ≤ from) × (from + 8 ≤ length (now words)) ⌝ }
+    ensures { λ _. ⌜ now (words .exit) ≡ sets (now (words .entry)) to (take 8 (drop from (now (words .entry)))) ⌝ }
+{
+    let a = words[from];
+    let b = words[from + 1];
+    let c = words[from + 2];
+    let d = words[from + 3];
+    let e = words[from + 4];
+    let f = words[from + 5];
+    let g = words[from + 6];
+    let h = words[from + 7];
+    words[to] = a;
+    words[to + 1] = b;
+    words[to + 2] = c;
+    words[to + 3] = d;
+    words[to + 4] = e;
+    words[to + 5] = f;
+    words[to + 6] = g;
+    words[to + 7] = h;
+}
+
+// Goes on with a move of which the first `done` words have come to their places: word by word.
+fn move_rest(words: &mut [u32], gap: usize, done: usize)
+    requires { ⌜ done + gap ≤ length (now words) ⌝ }
+    ensures { λ _. ⌜ ((xs : List ℕ) → Shifting gap xs (now (words .entry)) done → now (words .exit) ≡ movedDown gap xs) ⌝ }
+{
+    let count = words.len() - gap;
+    let mut i = done;
+    while i < count {
+        words[i] = words[i + gap];
+        i += 1;
+    }
+}
+
 pub fn move_down_by(words: &mut [u32], gap: usize)
     requires { ⌜ gap ≤ length (now words) ⌝ }
     ensures { λ _. ⌜ now (words .exit) ≡ movedDown gap (now (words .entry)) ⌝ }
 {
     let count = words.len() - gap;
     let mut i = 0;
-    while i < count {
-        words[i] = words[i + gap];
-        i += 1;
+    while 8 <= count - i {
+        move_eight(words, i, i + gap);
+        i += 8;
     }
+    move_rest(words, gap, i);
 }
 
 fn move_down(words: &mut [u32], gap: usize)

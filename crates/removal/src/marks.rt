@@ -1,7 +1,9 @@
 // The marked strikes of an expiration, by their bounds.
 ghost use mathlib.Core.Path.{_≡_};
 ghost use Rattle.word.specs.Field.{field};
-ghost use Rattle.removal.specs.Marks.{lower, higher, marks, noneMarked, withStrike, boundsIn};
+ghost use Rattle.removal.specs.Marks.{marks, noneMarked, withStrike, boundsIn};
+use rule::bounds::higher_of;
+use rule::bounds::lower_of;
 use word::codec::kind;
 use word::field::field_of;
 
@@ -18,24 +20,6 @@ pub fn none_marked() -> Bounds
         lowest: 32768,
         above: 0,
     }
-}
-
-fn lower_of(a: u32, b: u32) -> u32
-    ensures { λ r. ⌜ r ≡ lower a b ⌝ }
-{
-    if a < b {
-        return a;
-    }
-    b
-}
-
-fn higher_of(a: u32, b: u32) -> u32
-    ensures { λ r. ⌜ r ≡ higher a b ⌝ }
-{
-    if a < b {
-        return b;
-    }
-    a
 }
 
 // Whether the strike word w has a mark.

@@ -1,4 +1,4 @@
--- The ranges in half dollars: a strike in range stands from the lowest end to the highest, and each strike of the range grid between them is in range. Assumes nothing.
+-- The ranges in half dollars: a strike in range stands from the lowest end to the highest, and each strike of the range grid between them is in range, so that on each grid the ends tell the range. Assumes nothing.
 use mathlib.Core.Path.{_≡_, refl, sym, _∙_}
 use mathlib.Core.Bool.{Bool, true, false, cond, _&&_, _||_}
 use mathlib.Core.Logic.{⊎-elim}
@@ -8,12 +8,12 @@ use lib.Dec.{leb, ltb}
 use borrow.Author.Tests.{ltb-false, leb-true, leb-false, le-leb, lt-ltb, le-ltb, eq-eqb}
 use Rattle.rule.specs.declared.terms.Setting.{Setting}
 use Rattle.rule.specs.Terms.{cents, isDollarClass, isHalfClass, isNear, price}
-use Rattle.rule.specs.Grids.{multiple, standardGrid, halfDollars, halfGrid}
-use Rattle.rule.specs.Ranges.{amongFive, rangeBy, rangeGrid, standardRange}
+use Rattle.rule.specs.Grids.{multiple, standardGrid, dollarGrid, halfDollars, halfGrid, wingBase, wingGrid}
+use Rattle.rule.specs.Ranges.{amongFive, rangeBy, rangeGrid, standardRange, rangeOf}
 use Rattle.rule.specs.Ends.{fifthAbove, halfEnd, lowEnd, highEnd}
-use Rattle.rule.proofs.Tests.{and-left, and-right, or-cases}
+use Rattle.rule.proofs.Tests.{and-left, and-right, or-cases, same}
 use Rattle.rule.proofs.Five.{five, five-half-dollars}
-use Rattle.rule.proofs.Steps.{standard-five}
+use Rattle.rule.proofs.Steps.{times, standard-five, fives-standard, Wing, wing-stepped}
 
 -- the fifth strike above a price of at most $20
 module _ (whole dollar : Bool) (q : ℕ) where
@@ -46,7 +46,7 @@ module _ (s : Setting) where
 
   -- where a strike in range stands
   pub record Ranged (h : ℕ) : Type 0 where
-    pub low : 1 ≤ h → lowEnd p ≤ h
+    pub low : lowEnd p ≤ h
     pub high : h ≤ 19999 → h ≤ highEnd s
 
   pub standard-ranged : (h : ℕ) → standardRange s h ≡ true → Ranged h
@@ -55,12 +55,12 @@ module _ (s : Setting) where
       go : (t : Bool) → ltb 2000 p ≡ t → cond t (leb p (2 * cents h) && leb (2 * cents h) (3 * p)) (leb (cents h) (2 * p) || amongFive (rangeGrid s) p h) ≡ true → Ranged h
       go true q e =
           record {
-            low = λ l. rw q (omega (arith, leb-true p (2 * cents h) (and-left (leb p (2 * cents h)) (leb (2 * cents h) (3 * p)) e)));
+            low = rw q (omega (arith, leb-true p (2 * cents h) (and-left (leb p (2 * cents h)) (leb (2 * cents h) (3 * p)) e)));
             high = λ l. rw q (omega (arith, leb-true (2 * cents h) (3 * p) (and-right (leb p (2 * cents h)) (leb (2 * cents h) (3 * p)) e)));
           }
       go false q e =
           record {
-            low = λ l. rw q l;
+            low = rw q (omega arith);
             high = λ l. rw q (⊎-elim double among (or-cases (leb (cents h) (2 * p)) (amongFive (rangeGrid s) p h) e));
           }
         where
@@ -75,13 +75,28 @@ module _ (s : Setting) where
   pub ranged-standard : (h : ℕ) → rangeGrid s (cents h) ≡ true → lowEnd p ≤ h → h ≤ highEnd s → standardRange s h ≡ true
   ranged-standard h on = go (ltb 2000 p) refl (leb (cents h) (2 * p)) refl
     where
-      go : (t : Bool) → ltb 2000 p ≡ t → (u : Bool) → leb (cents h) (2 * p) ≡ u → cond {A = ℕ} t ((p + 99) / 100) 1 ≤ h →
+      go : (t : Bool) → ltb 2000 p ≡ t → (u : Bool) → leb (cents h) (2 * p) ≡ u → cond {A = ℕ} t ((p + 99) / 100) 0 ≤ h →
           h ≤ cond {A = ℕ} t (min (3 * p / 100) 19999) (max (p / 25) fifth) → cond t (leb p (2 * cents h) && leb (2 * cents h) (3 * p)) (leb (cents h) (2 * p) || amongFive (rangeGrid s) p h) ≡ true
       go true q u a low high = rw (le-leb p (2 * cents h) (omega arith), le-leb (2 * cents h) (3 * p) (omega arith))
       go false q true a low high = rw a
       go false q false a low high =
           let above : 2 * p < cents h = leb-false (cents h) (2 * p) a in
           rw (a, five s h (ltb-false 2000 p q), on, lt-ltb (p / 50) h (omega arith), le-leb h fifth (omega arith))
+
+  -- on the range grid the ends tell the range
+  range-ends : (h : ℕ) → rangeGrid s (cents h) ≡ true → h ≤ 19999 → standardRange s h ≡ (leb (lowEnd p) h && leb h (highEnd s))
+  range-ends h on most = same (standardRange s h) (leb (lowEnd p) h && leb h (highEnd s)) to from
+    where
+      to : standardRange s h ≡ true → (leb (lowEnd p) h && leb h (highEnd s)) ≡ true
+      to e =
+          let r : Ranged h = standard-ranged h e in
+          rw (le-leb (lowEnd p) h (r .low), le-leb h (highEnd s) (r .high most))
+
+      from : (leb (lowEnd p) h && leb h (highEnd s)) ≡ true → standardRange s h ≡ true
+      from e =
+          ranged-standard h on
+          (leb-true (lowEnd p) h (and-left (leb (lowEnd p) h) (leb h (highEnd s)) e))
+          (leb-true h (highEnd s) (and-right (leb (lowEnd p) h) (leb h (highEnd s)) e))
 
   -- the range grid holds the Standard strikes
   pub standard-range-grid : (h : ℕ) → standardGrid (s .class) (cents h) ≡ true → rangeGrid s (cents h) ≡ true
@@ -90,6 +105,45 @@ module _ (s : Setting) where
       go : (t : Bool) → (isNear s && dollar) ≡ t → cond t (multiple 100 (cents h)) (standardGrid (s .class) (cents h)) ≡ true
       go true q = eq-eqb (cents h % 100) 0 (omega (arith, standard-five (s .class) h (and-right (isNear s) dollar q) e))
       go false q = e
+
+  pub standard-ends : (h : ℕ) → standardGrid (s .class) (cents h) ≡ true → h ≤ 19999 → standardRange s h ≡ (leb (lowEnd p) h && leb h (highEnd s))
+  standard-ends h e most = range-ends h (standard-range-grid h e) most
+
+  -- a Dollar strike is a whole dollar in a near $1 class
+  pub dollar-ends : (h : ℕ) → dollarGrid s (cents h) ≡ true → h ≤ 19999 → standardRange s h ≡ (leb (lowEnd p) h && leb h (highEnd s))
+  dollar-ends h e most =
+      let asked : Bool = isNear s && dollar && ltb p 5000 in
+      let whole : Bool = multiple 100 (cents h) in
+      let a : asked ≡ true = and-left asked (whole && leb 100 (cents h) && leb (cents h) 5000) e in
+      let b : (whole && leb 100 (cents h)) ≡ true =
+      and-left (whole && leb 100 (cents h)) (leb (cents h) 5000) (and-right asked (whole && leb 100 (cents h) && leb (cents h) 5000) e) in
+      range-ends h (rw (and-left (isNear s && dollar) (ltb p 5000) a, and-left whole (leb 100 (cents h)) b)) most
+
+  -- the L of a wing and the strike $5 above it are Standard strikes
+  pub wing-ends : (h : ℕ) → wingGrid s (cents h) ≡ true →
+      rangeOf s 3 h ≡ (leb (lowEnd p) (wingBase (cents h) / 50) && leb (wingBase (cents h) / 50 + 10) (highEnd s))
+  wing-ends h e = same (rangeOf s 3 h) (leb (lowEnd p) l && leb (l + 10) (highEnd s)) to from
+    where
+      l : ℕ
+      l = wingBase (cents h) / 50
+
+      in-range : (n : ℕ) → n % 10 ≡ 0 → n ≤ 100 → lowEnd p ≤ n → n ≤ highEnd s → standardRange s n ≡ true
+      in-range n m k = ranged-standard n (standard-range-grid n (fives-standard (s .class) n m (λ j. absurd (omega arith))))
+
+      to : rangeOf s 3 h ≡ true → (leb (lowEnd p) l && leb (l + 10) (highEnd s)) ≡ true
+      to r =
+          let w : Wing s h = wing-stepped s h e in
+          let low : lowEnd p ≤ l = standard-ranged l (and-left (standardRange s l) (standardRange s (l + 10)) r) .low in
+          let high : l + 10 ≤ highEnd s = standard-ranged (l + 10) (and-right (standardRange s l) (standardRange s (l + 10)) r) .high (omega (arith, w .most)) in
+          rw (le-leb (lowEnd p) l low, le-leb (l + 10) (highEnd s) high)
+
+      from : (leb (lowEnd p) l && leb (l + 10) (highEnd s)) ≡ true → rangeOf s 3 h ≡ true
+      from r =
+          let w : Wing s h = wing-stepped s h e in
+          let low : lowEnd p ≤ l = leb-true (lowEnd p) l (and-left (leb (lowEnd p) l) (leb (l + 10) (highEnd s)) r) in
+          let high : l + 10 ≤ highEnd s = leb-true (l + 10) (highEnd s) (and-right (leb (lowEnd p) l) (leb (l + 10) (highEnd s)) r) in
+          let m : l % 10 ≡ 0 = times 10 l (cents h / 500) (omega arith) in
+          rw (in-range l m (omega (arith, w .most)) low (omega arith), in-range (l + 10) (omega arith) (omega (arith, w .most)) (omega arith) high)
 
   pub high-strike : highEnd s ≤ 19999
   high-strike = go (ltb 2000 p) refl
@@ -135,20 +189,29 @@ module _ (s : Setting) where
           and-left (ltb (p / 50) h && leb h (p / 50 + 5)) (halfDollars (cents h)) (sym (five-half-dollars p h) ∙ b) in
           omega (arith, leb-true h (p / 50 + 5) (and-right (ltb (p / 50) h) (leb h (p / 50 + 5)) c))
 
+  half-near : (h : ℕ) → halfAsked ≡ true → h ≤ min (max (p / 25) (p / 50 + 5)) 11 → (halfGrid s (cents h) ≡ true) × (rangeBy halfDollars p h ≡ true)
+  half-near h a m =
+      let cheap : p ≤ 500 = half-price a in
+      let on : halfDollars (cents h) ≡ true = rw (eq-eqb (cents h % 50) 0 (omega arith), le-leb (cents h) 550 (omega arith)) in
+      (rw (a, on), rw (le-ltb 2000 p (omega arith)) (near (leb (cents h) (2 * p)) refl on))
+    where
+      near : (u : Bool) → leb (cents h) (2 * p) ≡ u → halfDollars (cents h) ≡ true → (leb (cents h) (2 * p) || amongFive halfDollars p h) ≡ true
+      near true q on = rw q
+      near false q on =
+          let above : 2 * p < cents h = leb-false (cents h) (2 * p) q in
+          rw (q, five-half-dollars p h, on, lt-ltb (p / 50) h (omega arith), le-leb h (p / 50 + 5) (omega arith))
+
   pub half-each : (h : ℕ) → 1 ≤ h → h ≤ halfEnd s → (halfGrid s (cents h) ≡ true) × (rangeBy halfDollars p h ≡ true)
   half-each h l = go halfAsked refl
     where
       go : (t : Bool) → halfAsked ≡ t → h ≤ cond {A = ℕ} t (min (max (p / 25) (p / 50 + 5)) 11) 0 →
           (halfGrid s (cents h) ≡ true) × (rangeBy halfDollars p h ≡ true)
-      go true a m =
-          let cheap : p ≤ 500 = half-price a in
-          let on : halfDollars (cents h) ≡ true = rw (eq-eqb (cents h % 50) 0 (omega arith), le-leb (cents h) 550 (omega arith)) in
-          (rw (a, on), rw (le-ltb 2000 p (omega arith)) (near (leb (cents h) (2 * p)) refl m on))
-        where
-          near : (u : Bool) → leb (cents h) (2 * p) ≡ u → h ≤ min (max (p / 25) (p / 50 + 5)) 11 → halfDollars (cents h) ≡ true →
-              (leb (cents h) (2 * p) || amongFive halfDollars p h) ≡ true
-          near true q m on = rw q
-          near false q m on =
-              let above : 2 * p < cents h = leb-false (cents h) (2 * p) q in
-              rw (q, five-half-dollars p h, on, lt-ltb (p / 50) h (omega arith), le-leb h (p / 50 + 5) (omega arith))
+      go true a m = half-near h a m
       go false a m = absurd (omega arith)
+
+  pub half-ends : (h : ℕ) → halfGrid s (cents h) ≡ true → rangeBy halfDollars p h ≡ leb h (halfEnd s)
+  half-ends h grid =
+      let a : halfAsked ≡ true = and-left halfAsked (halfDollars (cents h)) grid in
+      same (rangeBy halfDollars p h) (leb h (halfEnd s))
+      (λ r. le-leb h (halfEnd s) (half-ranged h grid r))
+      (λ r. half-near h a (rw a at (leb-true h (halfEnd s) r)) .1)

@@ -1,5 +1,5 @@
 -- Only the standing strikes within reach of a strike bear on it, $1 in a long expiration and else $0.50: it clears each that is farther on any ground, so that a test of all is one of those
--- between. Of strikes that rise these are among the two next below it and the two next above. Assumes nothing.
+-- between. Of strikes that rise, one that is clear of the next below it and the next above has no other within reach, so that a judgement beside these is one beside all. Assumes nothing.
 use mathlib.Core.Path.{_≡_, refl, sym, ap, ap₂, _∙_, fun-ext}
 use mathlib.Core.Bool.{Bool, true, false, not, cond, _&&_, _||_, and-false, or-true}
 use mathlib.Core.List.{List, [], _∷_, _++_, map, map-append}
@@ -9,14 +9,14 @@ use native.Mathlib.Omega.{arith}
 use lib.Dec.{leb, ltb, eqb}
 use lib.ListN.{length, getD, take, drop, length-drop, length-take, take-append-drop}
 use lib.Seq.{getD-take, getD-drop, drop-drop}
-use borrow.Author.Tests.{ltb-true, lt-ltb, lt-leb, ne-eqb}
+use borrow.Author.Tests.{ltb-true, leb-false, lt-ltb, lt-leb, ne-eqb, not-true}
 use Rattle.rule.specs.declared.terms.Setting.{Setting}
 use Rattle.rule.specs.Lists.{some, every, Rising}
 use Rattle.rule.specs.Terms.{cents, isLong}
 use Rattle.rule.specs.Ends.{reachOf}
 use Rattle.rule.specs.Grids.{grounds, gridOf}
 use Rattle.rule.specs.Ranges.{rangeOf}
-use Rattle.rule.specs.Spacing.{Standing, standingIn, apart, crowds, clears}
+use Rattle.rule.specs.Spacing.{Standing, standingIn, apart, crowds, clears, spacingOf}
 use Rattle.rule.specs.Judgement.{decided, judgement, isAccepted, isPermittedBeside}
 use Rattle.rule.proofs.Tests.{and-left, and-right, or-cases}
 use Rattle.rule.proofs.Walks.{every-map}
@@ -42,6 +42,16 @@ module _ {A : Type 0} (test far : A → Bool) (passes : (x : A) → far x ≡ tr
   every-between [] (x ∷ xs) after b a = ap (λ (t : Bool). test x && t) (every-between [] xs after b a)
   every-between (x ∷ xs) near after b a =
       rw (passes x (and-left (far x) (every far xs) b)) (every-between xs near after (and-right (far x) (every far xs) b) a)
+
+-- a test that one fails fails among more
+every-failed : {A : Type 0} (test : A → Bool) (before near after : List A) → every test near ≡ false → every test (before ++ (near ++ after)) ≡ false
+every-failed test [] [] after e = let z : _≡_ {A = ℕ} 0 1 = cc in absurd (omega arith)
+every-failed test [] (x ∷ xs) after e = go (test x) e (every-failed test [] xs after)
+  where
+    go : (t : Bool) → (t && every test xs) ≡ false → (every test xs ≡ false → every test (xs ++ after) ≡ false) → (t && every test (xs ++ after)) ≡ false
+    go true q r = r q
+    go false q r = refl
+every-failed test (x ∷ xs) near after e = rw (every-failed test xs near after e, and-false)
 
 pub not-some : {A : Type 0} (test : A → Bool) (xs : List A) → not (some test xs) ≡ every (λ x. not (test x)) xs
 not-some test [] = refl
@@ -80,12 +90,34 @@ module _ (s : Setting) (h : ℕ) where
           let back : ℕ = apart (cents (t .strike)) (cents h) in
           simp (lt-leb there 50 (omega arith), lt-leb back 50 (omega arith), and-false)
 
+  -- a strike that h clears on some ground is no nearer than the reach
+  clears-apart : (g : ℕ) (t : Standing) → clears s g h t ≡ true → 0 < apart h (t .strike) → reachOf s ≤ apart h (t .strike)
+  clears-apart g t e other =
+      go (isLong s)
+      (and-right (not (eqb g 1 && eqb (t .ground) 0 && crowds h (t .strike)) && not (eqb g 0 && eqb (t .ground) 1 && crowds (t .strike) h))
+      (not (isLong s && leb (apart (cents h) (cents (t .strike))) 100)) e)
+    where
+      go : (long : Bool) → not (long && leb (apart (cents h) (cents (t .strike))) 100) ≡ true → cond {A = ℕ} long 2 1 ≤ apart h (t .strike)
+      go true q =
+          let there : ℕ = apart (cents h) (cents (t .strike)) in
+          omega (arith, leb-false there 100 (not-true (leb there 100) q))
+      go false q = omega arith
+
+  -- the spacing beside all is the one beside those between
+  near-spaced : (g : ℕ) (before near after : List Standing) → every (isFar s h) before ≡ true → every (isFar s h) after ≡ true →
+      spacingOf s (before ++ (near ++ after)) g h ≡ spacingOf s near g h
+  near-spaced g before near after b a = every-between (clears s g h) (isFar s h) (far-clears g) before near after b a
+
+  -- where the spacing is the same, so is the judgement
+  spaced-judged : (standing near : List Standing) → ((g : ℕ) → spacingOf s standing g h ≡ spacingOf s near g h) →
+      judgement s standing h ≡ judgement s near h
+  spaced-judged standing near spaced =
+      ap (λ (spacing : ℕ → Bool). decided (map (λ g. gridOf s g h ∷ rangeOf s g h ∷ spacing g ∷ []) grounds)) (fun-ext spaced)
+
   -- the judgement beside all is the one beside those between
   near-judged : (before near after : List Standing) → every (isFar s h) before ≡ true → every (isFar s h) after ≡ true →
       judgement s (before ++ (near ++ after)) h ≡ judgement s near h
-  near-judged before near after b a =
-      ap (λ (spacing : ℕ → Bool). decided (map (λ g. gridOf s g h ∷ rangeOf s g h ∷ spacing g ∷ []) grounds))
-      (fun-ext (λ g. every-between (clears s g h) (isFar s h) (far-clears g) before near after b a))
+  near-judged before near after b a = spaced-judged (before ++ (near ++ after)) near (λ g. near-spaced g before near after b a)
 
   near-permitted : (before near after : List Standing) → every (isFar s h) before ≡ true → every (isFar s h) after ≡ true →
       isPermittedBeside s (before ++ (near ++ after)) h ≡ isPermittedBeside s near h
@@ -108,16 +140,31 @@ pub record Between (s : Setting) (h : ℕ) (ws : List ℕ) (from to : ℕ) : Typ
   pub below : (i : ℕ) → i < from → strikeAt ws i + reachOf s < h
   pub above : (i : ℕ) → to ≤ i → i < length ws → h + reachOf s < strikeAt ws i
 
-every-at : {A : Type 0} (test : A → Bool) (d : A) (xs : List A) → ((i : ℕ) → i < length xs → test (getD xs i d) ≡ true) → every test xs ≡ true
-every-at test d [] each = refl
-every-at test d (x ∷ xs) each = rw (each 0 (omega arith)) (every-at test d xs (λ i l. each (suc i) (omega arith)))
+every-by-index : {A : Type 0} (test : A → Bool) (d : A) (xs : List A) → ((i : ℕ) → i < length xs → test (getD xs i d) ≡ true) → every test xs ≡ true
+every-by-index test d [] each = refl
+every-by-index test d (x ∷ xs) each = rw (each 0 (omega arith)) (every-by-index test d xs (λ i l. each (suc i) (omega arith)))
+
+pub each-at : {A : Type 0} (test : A → Bool) (d : A) (xs : List A) (i : ℕ) → i < length xs → every test xs ≡ true → test (getD xs i d) ≡ true
+each-at test d [] i l e = absurd (omega arith)
+each-at test d (x ∷ xs) zero l e = and-left (test x) (every test xs) e
+each-at test d (x ∷ xs) (suc i) l e = each-at test d xs i (omega arith) (and-right (test x) (every test xs) e)
+
+-- the strikes before, between and after two indices
+parted : (ws : List ℕ) (from to : ℕ) → from ≤ to →
+    map standingIn (take from ws) ++ (map standingIn (take (to - from) (drop from ws)) ++ map standingIn (drop to ws)) ≡ map standingIn ws
+parted ws from to order =
+    let near : List ℕ = take (to - from) (drop from ws) in
+    let l : from + (to - from) ≡ to = omega arith in
+    let a : near ++ drop to ws ≡ drop from ws =
+    ap (λ (xs : List ℕ). near ++ xs) (sym (drop-drop (to - from) from ws ∙ ap (λ (n : ℕ). drop n ws) l)) ∙ take-append-drop (to - from) (drop from ws) in
+    rw (← map-append, ← map-append, a, take-append-drop)
 
 module _ {s : Setting} {h : ℕ} {ws : List ℕ} {from to : ℕ} (between : Between s h ws from to) where
   abbrev near : List ℕ
   near = take (to - from) (drop from ws)
 
   far-before : every (isFar s h) (map standingIn (take from ws)) ≡ true
-  far-before = every-map (isFar s h) standingIn (take from ws) ∙ every-at (λ w. isFar s h (standingIn w)) 0 (take from ws) far
+  far-before = every-map (isFar s h) standingIn (take from ws) ∙ every-by-index (λ w. isFar s h (standingIn w)) 0 (take from ws) far
     where
       far : (i : ℕ) → i < length (take from ws) → isFar s h (standingIn (getD (take from ws) i 0)) ≡ true
       far i l =
@@ -125,29 +172,22 @@ module _ {s : Setting} {h : ℕ} {ws : List ℕ} {from to : ℕ} (between : Betw
           rw (getD-take from ws i 0 k, lt-ltb (strikeAt ws i + reachOf s) h (between .below i k))
 
   far-after : every (isFar s h) (map standingIn (drop to ws)) ≡ true
-  far-after = every-map (isFar s h) standingIn (drop to ws) ∙ every-at (λ w. isFar s h (standingIn w)) 0 (drop to ws) far
+  far-after = every-map (isFar s h) standingIn (drop to ws) ∙ every-by-index (λ w. isFar s h (standingIn w)) 0 (drop to ws) far
     where
       far : (i : ℕ) → i < length (drop to ws) → isFar s h (standingIn (getD (drop to ws) i 0)) ≡ true
       far i l =
           let k : to + i < length ws = omega (arith, length-drop to ws) in
           rw (getD-drop to ws i 0, lt-ltb (h + reachOf s) (strikeAt ws (to + i)) (between .above (to + i) (omega arith) k), or-true)
 
-  parted : map standingIn (take from ws) ++ (map standingIn near ++ map standingIn (drop to ws)) ≡ map standingIn ws
-  parted =
-      let l : from + (to - from) ≡ to = omega (arith, between .order) in
-      let a : near ++ drop to ws ≡ drop from ws =
-      ap (λ (xs : List ℕ). near ++ xs) (sym (drop-drop (to - from) from ws ∙ ap (λ (n : ℕ). drop n ws) l)) ∙ take-append-drop (to - from) (drop from ws) in
-      rw (← map-append, ← map-append, a, take-append-drop)
-
-  pub words-judged : judgement s (map standingIn near) h ≡ judgement s (map standingIn ws) h
-  words-judged =
-      sym (near-judged s h (map standingIn (take from ws)) (map standingIn near) (map standingIn (drop to ws)) far-before far-after)
-      ∙ ap (λ (standing : List Standing). judgement s standing h) parted
+  words-spaced : (g : ℕ) → spacingOf s (map standingIn ws) g h ≡ spacingOf s (map standingIn near) g h
+  words-spaced g =
+      ap (λ (standing : List Standing). spacingOf s standing g h) (sym (parted ws from to (between .order)))
+      ∙ near-spaced s h g (map standingIn (take from ws)) (map standingIn near) (map standingIn (drop to ws)) far-before far-after
 
   pub words-permitted : isPermittedBeside s (map standingIn near) h ≡ isPermittedBeside s (map standingIn ws) h
   words-permitted =
       sym (near-permitted s h (map standingIn (take from ws)) (map standingIn near) (map standingIn (drop to ws)) far-before far-after)
-      ∙ ap (λ (standing : List Standing). isPermittedBeside s standing h) parted
+      ∙ ap (λ (standing : List Standing). isPermittedBeside s standing h) (parted ws from to (between .order))
 
 -- ---- strikes that rise
 
@@ -164,21 +204,52 @@ rising-at f d (x ∷ y ∷ ys) r (suc i) (suc j) l k =
     let m = rising-at f d (y ∷ ys) (r .1) i j (omega arith) (omega arith) in
     omega arith
 
--- where the strikes before the index k are below h and the others above it, only the two before k and the two from k on can be near
-pub nearest : {s : Setting} {h : ℕ} {ws : List ℕ} {k from to : ℕ} → Rising (map (λ w. standingIn w .strike) ws) → k ≤ length ws →
+-- where the strikes before the index k are below h and the others above it, a judgement beside some that have the one before k and the one at k is one beside all
+pub nearest-judged : (s : Setting) (h : ℕ) (ws : List ℕ) (k from to : ℕ) → Rising (map (λ w. standingIn w .strike) ws) → k ≤ length ws →
     ((i : ℕ) → i < k → strikeAt ws i < h) → ((i : ℕ) → k ≤ i → i < length ws → h < strikeAt ws i) →
-    from ≤ k - 2 → min (k + 2) (length ws) ≤ to → Between s h ws from to
-nearest {s} {h} {ws} {k} {from} {to} rising within under over start stop =
-    record {
-      order = omega arith;
-      below = λ i l.
-          let r = reach-most s in
-          let a = under (k - 1) (omega arith) in
-          let b = rising-at (λ w. standingIn w .strike) 0 ws rising i (k - 1) (omega arith) (omega arith) in
-          omega arith;
-      above = λ i l m.
-          let r = reach-most s in
-          let a = over k (omega arith) (omega arith) in
-          let b = rising-at (λ w. standingIn w .strike) 0 ws rising k i (omega arith) m in
-          omega arith;
-    }
+    from ≤ k - 1 → min (k + 1) (length ws) ≤ to →
+    judgement s (map standingIn (take (to - from) (drop from ws))) h ≡ judgement s (map standingIn ws) h
+nearest-judged s h ws k from to rising within under over start stop =
+    sym (spaced-judged s h (map standingIn ws) (map standingIn lent) (λ g. spaced g (spacingOf s (map standingIn lent) g h) refl))
+  where
+    lent : List ℕ
+    lent = take (to - from) (drop from ws)
+
+    order : from ≤ to
+    order = omega arith
+
+    -- the strike at an index of the part that is lent is no nearer than the reach, where h clears the part
+    reached : (g : ℕ) → spacingOf s (map standingIn lent) g h ≡ true → (i : ℕ) → from ≤ i → i < to → i < length ws →
+        0 < apart h (strikeAt ws i) → reachOf s ≤ apart h (strikeAt ws i)
+    reached g clear i l m n other =
+        let j : ℕ = i - from in
+        let a : from + j ≡ i = omega arith in
+        let b : j < to - from = omega arith in
+        let inside : j < length lent = omega (arith, length-take (to - from) (drop from ws), length-drop from ws) in
+        let here : getD lent j 0 ≡ getD ws i 0 =
+        getD-take (to - from) (drop from ws) j 0 b ∙ getD-drop from ws j 0 ∙ ap (λ (n : ℕ). getD ws n 0) a in
+        clears-apart s h g (standingIn (getD ws i 0))
+        (ap (λ (w : ℕ). clears s g h (standingIn w)) (sym here)
+        ∙ each-at (λ w. clears s g h (standingIn w)) 0 lent j inside (sym (every-map (clears s g h) standingIn lent) ∙ clear))
+        other
+
+    between : (g : ℕ) → spacingOf s (map standingIn lent) g h ≡ true → Between s h ws from to
+    between g clear =
+        record {
+          order = order;
+          below = λ i l.
+              let a = under (k - 1) (omega arith) in
+              let b = rising-at (λ w. standingIn w .strike) 0 ws rising i (k - 1) (omega arith) (omega arith) in
+              omega (arith, reached g clear (k - 1) (omega arith) (omega arith) (omega arith) (omega arith));
+          above = λ i l m.
+              let a = over k (omega arith) (omega arith) in
+              let b = rising-at (λ w. standingIn w .strike) 0 ws rising k i (omega arith) m in
+              omega (arith, reached g clear k (omega arith) (omega arith) (omega arith) (omega arith));
+        }
+
+    spaced : (g : ℕ) (b : Bool) → spacingOf s (map standingIn lent) g h ≡ b → spacingOf s (map standingIn ws) g h ≡ spacingOf s (map standingIn lent) g h
+    spaced g true e = words-spaced (between g e) g
+    spaced g false e =
+        ap (λ (standing : List Standing). spacingOf s standing g h) (sym (parted ws from to order))
+        ∙ every-failed (clears s g h) (map standingIn (take from ws)) (map standingIn lent) (map standingIn (drop to ws)) e
+        ∙ sym e

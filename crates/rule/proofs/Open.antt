@@ -88,7 +88,7 @@ module _ (s : Setting) (h : ℕ) where
           let r : Ranged s l = standard-ranged s l (and-left (standardRange s l) (standardRange s (l + 10)) b) in
           let t : Ranged s (l + 10) = standard-ranged s (l + 10) (and-right (standardRange s l) (standardRange s (l + 10)) b) in
           inr record {
-            range = record { low = λ k. omega (arith, w .least, r .low (omega arith)); high = λ k. omega (arith, w .most, t .high (omega arith)) };
+            range = record { low = omega (arith, w .least, r .low); high = λ k. omega (arith, w .most, t .high (omega arith)) };
             steps = w .steps;
           }
 
@@ -108,7 +108,7 @@ module _ (s : Setting) (h : ℕ) where
       go false e = refl
 
   pub closed-below : halfEnd s < h → h < lowEnd (price s) → isOpen s h ≡ false
-  closed-below l k = closed (λ e. omega (arith, open-between l e .range .low (omega arith)))
+  closed-below l k = closed (λ e. omega (arith, open-between l e .range .low))
 
   pub closed-above : halfEnd s < h → highEnd s < h → h ≤ 19999 → isOpen s h ≡ false
   closed-above l k m = closed (λ e. omega (arith, open-between l e .range .high m))

@@ -5,7 +5,7 @@ use mathlib.Core.List.{List, [], _∷_}
 use Prim.Native.Nat.{ℕ, zero, suc, _+_, _≤_, _<_}
 use native.Mathlib.Numerals.{add-one}
 use native.Mathlib.Omega.{arith}
-use lib.ListN.{length, getD, set, drop, drop-of-length-le}
+use lib.ListN.{length, getD, drop, drop-of-length-le}
 use lib.Seq.{drop-cons}
 use Rattle.word.specs.declared.answer.Refusal.the-variants.{OffGrid, OutOfRange, TooClose}
 use Rattle.word.specs.declared.answer.Answer.{Answer}
@@ -84,25 +84,44 @@ accepted-passes rows = accepted-from (Refused (refusalOf rows)) (go (some passes
 -- ---- the rows with no spacing
 
 pub open-range : (s : Setting) (h g : ℕ) → g < 4 → passesRange (getD (openRows s h) g []) ≡ (gridOf s g h && rangeOf s g h)
-open-range s h zero l = refl
-open-range s h (suc zero) l = refl
+open-range s h zero l = and-self-left (gridOf s 0 h) (rangeOf s 0 h)
+open-range s h (suc zero) l = and-self-left (gridOf s 1 h) (rangeOf s 1 h)
 open-range s h (suc (suc zero)) l = and-self-left (gridOf s 2 h) (rangeOf s 2 h)
 open-range s h (suc (suc (suc zero))) l = and-self-left (gridOf s 3 h) (rangeOf s 3 h)
 open-range s h (suc (suc (suc (suc g)))) l = absurd (omega arith)
 
--- the row of the first ground that passes, if any, may be said to pass, and no other needs its spacing
-pub marked-judgement : (s : Setting) (standing : List Standing) (h : ℕ) →
-    decided (set (openRows s h) (firstGround s standing h) (true ∷ true ∷ true ∷ [])) ≡ judgement s standing h
-marked-judgement s standing h = go (passes-at 0) (passes-at 1) (passes-at 2) (passes-at 3)
-  where
-    passes-at : ℕ → Bool
-    passes-at g = passes (rowOf s standing h g)
+-- the first of the four grounds, by which of them pass, and the judgement
+abbrev firstOf : Bool → Bool → Bool → Bool → ℕ
+firstOf a b c d = cond a 0 (cond b 1 (cond c 2 (cond {A = ℕ} d 3 4)))
 
-    go : (a b c d : Bool) →
-        decided (set (openRows s h) (cond a 0 (cond b 1 (cond c 2 (cond {A = ℕ} d 3 4)))) (true ∷ true ∷ true ∷ []))
-        ≡ cond a (Ground 0) (cond b (Ground 1) (cond c (Ground 2) (cond d (Ground 3) (Refused (refusalOf (rowsOf s standing h))))))
-    go true b c d = refl
-    go false true c d = simp and-false
-    go false false true d = simp and-false
-    go false false false true = simp and-false
-    go false false false false = simp (and-false, and-self-left)
+abbrev judgedOf : Answer → Bool → Bool → Bool → Bool → Answer
+judgedOf v a b c d = cond a (Ground 0) (cond b (Ground 1) (cond c (Ground 2) (cond d (Ground 3) v)))
+
+module _ (s : Setting) (standing : List Standing) (h : ℕ) where
+  abbrev passesAt : ℕ → Bool
+  passesAt g = passes (rowOf s standing h g)
+
+  abbrev refused : Answer
+  refused = Refused (refusalOf (rowsOf s standing h))
+
+  -- the first ground that passes is the judgement
+  pub found-judgement : firstGround s standing h < 4 → Ground (firstGround s standing h) ≡ judgement s standing h
+  found-judgement = go (passesAt 0) (passesAt 1) (passesAt 2) (passesAt 3)
+    where
+      go : (a b c d : Bool) → firstOf a b c d < 4 → Ground (firstOf a b c d) ≡ judgedOf refused a b c d
+      go true b c d l = refl
+      go false true c d l = refl
+      go false false true d l = refl
+      go false false false true l = refl
+      go false false false false l = absurd (omega arith)
+
+  -- where no ground passes the refusal needs no spacing
+  pub none-judgement : 4 ≤ firstGround s standing h → decided (openRows s h) ≡ judgement s standing h
+  none-judgement = go (passesAt 0) (passesAt 1) (passesAt 2) (passesAt 3)
+    where
+      go : (a b c d : Bool) → 4 ≤ firstOf a b c d → decided (openRows s h) ≡ judgedOf refused a b c d
+      go true b c d l = absurd (omega arith)
+      go false true c d l = absurd (omega arith)
+      go false false true d l = absurd (omega arith)
+      go false false false true l = absurd (omega arith)
+      go false false false false l = simp (and-false, and-self-left)

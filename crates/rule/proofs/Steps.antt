@@ -104,6 +104,10 @@ module _ (c : ClassRecord) (h : ℕ) where
       go true d = rw (stepped-ladder h r, d, eq-eqb (cents h % 500) 0 (omega (arith, five d)), and-false)
       go false d = rw (stepped-ladder h r, d)
 
+  -- each multiple of $5 on the ladder is a Standard strike
+  pub fives-standard : h % 10 ≡ 0 → (400 < h → h % 20 ≡ 0) → standardGrid c (cents h) ≡ true
+  fives-standard m tens = standard-of (λ d. m) record { fine = λ l. times 5 h (2 * (h / 10)) (omega arith); fives = λ l. m; tens = tens }
+
   abbrev pub InSteps : Type 0
   InSteps = Stepped (fineStep c) (fineEnd c) h
 
@@ -115,16 +119,13 @@ module _ (c : ClassRecord) (h : ℕ) where
   pub standard-each : (h ≤ fineEnd c → isProgramClass c ≡ false) → InSteps → standardGrid c (cents h) ≡ true
   standard-each coarse step = go (isDollarClass c) refl (ltb (c .close) 5000) coarse step
     where
-      five : h % 10 ≡ 0 → (400 < h → h % 20 ≡ 0) → standardGrid c (cents h) ≡ true
-      five m tens = standard-of (λ d. m) record { fine = λ l. times 5 h (2 * (h / 10)) (omega arith); fives = λ l. m; tens = tens }
-
       above : (t : Bool) → leb h 100 ≡ t → (h ≤ 100 → true ≡ false) → Stepped 2 100 h → standardGrid c (cents h) ≡ true
       above true q n r = absurd (true≢false (n (leb-true h 100 q)))
-      above false q n r = five (r .fives (leb-false h 100 q)) (r .tens)
+      above false q n r = fives-standard (r .fives (leb-false h 100 q)) (r .tens)
 
       tens : (t : Bool) → leb h 400 ≡ t → Stepped 10 400 h → standardGrid c (cents h) ≡ true
-      tens true q r = five (r .fine (leb-true h 400 q)) (r .tens)
-      tens false q r = five (r .fives (leb-false h 400 q)) (r .tens)
+      tens true q r = fives-standard (r .fine (leb-true h 400 q)) (r .tens)
+      tens false q r = fives-standard (r .fives (leb-false h 400 q)) (r .tens)
 
       go : (d : Bool) → isDollarClass c ≡ d → (t : Bool) → (h ≤ cond {A = ℕ} (d && t) 100 (cond {A = ℕ} d 400 50) → (d && t) ≡ false) → By (d && t) d →
           standardGrid c (cents h) ≡ true

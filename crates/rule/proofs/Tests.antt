@@ -25,7 +25,12 @@ pub or-cases : (a b : Bool) → (a || b) ≡ true → (a ≡ true) ⊎ (b ≡ tr
 or-cases true b e = inl refl
 or-cases false b e = inr e
 
--- the two tests need agree only where those beside them hold
+-- the two tests need agree only where the one beside them holds
+pub and-where : (a b b′ : Bool) → (a ≡ true → b ≡ b′) → (a && b) ≡ (a && b′)
+and-where true b b′ e = e refl
+and-where false b b′ e = refl
+
+-- or those on both sides
 pub and-middle : (a b b′ c : Bool) → (a ≡ true → c ≡ true → b ≡ b′) → (a && b && c) ≡ (a && b′ && c)
 and-middle true b b′ true e = ap (λ (t : Bool). t && true) (e refl refl)
 and-middle true b b′ false e = and-false b ∙ sym (and-false b′)
@@ -44,7 +49,7 @@ none-fails false true false d = refl
 none-fails false false c d = refl
 
 -- two tests that hold together
-same : (a b : Bool) → (a ≡ true → b ≡ true) → (b ≡ true → a ≡ true) → a ≡ b
+pub same : (a b : Bool) → (a ≡ true → b ≡ true) → (b ≡ true → a ≡ true) → a ≡ b
 same true b to from = sym (to refl)
 same false true to from = from refl
 same false false to from = refl

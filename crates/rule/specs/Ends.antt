@@ -26,9 +26,9 @@ halfEnd s =
     (min (max (s .class .close / 25) (s .class .close / 50 + 5)) 11)
     0
 
--- the lowest strike in range on the other grounds at the price p
+-- the lowest strike in range on the other grounds at the price p; one of at most $20 sets none
 abbrev pub lowEnd : ℕ → ℕ
-lowEnd p = cond {A = ℕ} (ltb 2000 p) ((p + 99) / 100) 1
+lowEnd p = cond {A = ℕ} (ltb 2000 p) ((p + 99) / 100) 0
 
 -- the highest strike in range on the other grounds, of those on their grids
 abbrev pub highEnd : Setting → ℕ

@@ -44,14 +44,9 @@ groundFrom v g (row ∷ rows) = cond (passes row) (Ground g) (groundFrom v (g + 
 abbrev pub decided : List (List Bool) → Answer
 decided rows = groundFrom (Refused (refusalOf rows)) 0 rows
 
--- grid and range of each ground, with no spacing yet; the range of a half-dollar or a wing counts on its grid alone
+-- grid and range of each ground, with no spacing yet; the range counts on the grid alone
 abbrev pub openRows : Setting → ℕ → List (List Bool)
-openRows s h =
-    (gridOf s 0 h ∷ rangeOf s 0 h ∷ false ∷ [])
-    ∷ (gridOf s 1 h ∷ rangeOf s 1 h ∷ false ∷ [])
-    ∷ (gridOf s 2 h ∷ (gridOf s 2 h && rangeOf s 2 h) ∷ false ∷ [])
-    ∷ (gridOf s 3 h ∷ (gridOf s 3 h && rangeOf s 3 h) ∷ false ∷ [])
-    ∷ []
+openRows s h = map (λ g. gridOf s g h ∷ (gridOf s g h && rangeOf s g h) ∷ false ∷ []) grounds
 
 -- the first of the n numbers from g up that passes the test, or g + n where none does
 abbrev pub firstFrom : (ℕ → Bool) → ℕ → ℕ → ℕ

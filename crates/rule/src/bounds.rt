@@ -1,8 +1,7 @@
 // Which strikes the rules can accept where none stands near: up to a first end all of them, and from a lowest to a highest the multiples of a step.
 ghost use mathlib.Core.Path.{_≡_};
 ghost use Prim.Native.Nat.{_≤_, min, max};
-ghost use Rattle.rule.specs.Ends.{isProgramClass, halfEnd, lowEnd, highEnd, fineStep, fineEnd};
-use crate::ranges::fifth_above;
+ghost use Rattle.rule.specs.Ends.{fifthAbove, isProgramClass, halfEnd, lowEnd, highEnd, fineStep, fineEnd};
 use crate::terms::Setting;
 use crate::terms::is_dollar_class;
 use crate::terms::is_half_class;
@@ -19,6 +18,23 @@ pub fn higher_of(a: u32, b: u32) -> u32
     ensures { λ r. ⌜ r ≡ max a b ⌝ }
 {
     if a < b { b } else { a }
+}
+
+// The last of the five lowest strikes above q, a strike of at most $20, on the range grid of Standard and Dollar.
+fn fifth_above(whole: bool, dollar: bool, q: u32) -> u32
+    requires { ⌜ q ≤ 40 ⌝ }
+    ensures { λ r. ⌜ r ≡ fifthAbove whole dollar q ⌝ }
+{
+    if whole {
+        return q / 2 * 2 + 10;
+    }
+    if dollar {
+        return q / 10 * 10 + 50;
+    }
+    if q < 30 {
+        return q / 5 * 5 + 25;
+    }
+    q / 5 * 10
 }
 
 // A $1 class whose close allows strikes of $1.
@@ -41,12 +57,12 @@ pub fn half_end(s: Setting) -> u32
     lower_of(higher_of(p / 25, p / 50 + 5), 11)
 }
 
-// The lowest strike in range on the other grounds.
+// The lowest strike in range on the other grounds; a price of at most $20 sets none.
 pub fn low_end(p: u32) -> u32
     requires { ⌜ p ≤ 999999 ⌝ }
     ensures { λ r. ⌜ r ≡ lowEnd p ⌝ }
 {
-    if 2000 < p { (p + 99) / 100 } else { 1 }
+    if 2000 < p { (p + 99) / 100 } else { 0 }
 }
 
 // The highest.

@@ -34,7 +34,7 @@ pub fn on_dollar(s: Setting, k: u32) -> bool
         & ((k % 100 == 0) & (100 <= k) & (k <= Strike::FIFTY_DOLLARS.cents()))
 }
 
-pub fn on_half_dollars(k: u32) -> bool
+fn on_half_dollars(k: u32) -> bool
     ensures { λ r. ⌜ r ≡ halfDollars k ⌝ }
 {
     (k % 50 == 0) & (k <= Strike::FIVE_FIFTY.cents())

@@ -3,15 +3,16 @@ ghost use mathlib.Core.Path.{_≡_};
 ghost use mathlib.Core.List.{map};
 ghost use Rattle.rule.specs.Spacing.{standingIn};
 ghost use Rattle.rule.specs.Judgement.{Judged, decided, judgement, firstGround, isAccepted, openRows};
+use crate::bounds::half_end;
+use crate::bounds::high_end;
+use crate::bounds::low_end;
 use crate::grids::on_dollar;
 use crate::grids::on_half;
 use crate::grids::on_standard;
 use crate::grids::on_wing;
-use crate::ranges::in_half_range;
-use crate::ranges::in_standard_range;
-use crate::ranges::in_wing_range;
 use crate::spacing::is_clear;
 use crate::terms::Setting;
+use crate::terms::is_long;
 use word::answer::Answer;
 use word::answer::Refusal;
 use word::strike::Strike;
@@ -45,21 +46,34 @@ pub fn decide(rows: [[bool; 3]; 4]) -> Answer
     Answer::Refused(Refusal::OffGrid)
 }
 
-// Grid and range of each ground; the range counts only on the grid, and is false off it where it is not at hand. The spacing is still to be found.
+// Grid and range of each ground. The range counts only on the grid, where it is told by its ends. The spacing is still to be found.
 fn rows_of(s: Setting, strike: Strike) -> [[bool; 3]; 4]
     requires { ⌜ Judged s (strike .0) ⌝ }
     ensures { λ r. ⌜ r ≡ openRows s (strike .0) ⌝ }
 {
+    let h = strike.0;
     let k = strike.cents();
-    let class = s.class;
-    let ranged = in_standard_range(s, strike);
+    let low = low_end(s.class.close);
+    let high = high_end(s);
+    let ranged = (low <= h) & (h <= high);
+    let standard = on_standard(s.class, k);
+    if is_long(s) {
+        let wing = on_wing(s, k);
+        let base = k / 500 * 10;
+        return [
+            [standard, standard & ranged, false],
+            [false, false, false],
+            [false, false, false],
+            [wing, wing & (low <= base) & (base + 10 <= high), false],
+        ];
+    }
+    let dollar = on_dollar(s, k);
     let half = on_half(s, k);
-    let wing = on_wing(s, k);
     [
-        [on_standard(class, k), ranged, false],
-        [on_dollar(s, k), ranged, false],
-        [half, half && in_half_range(class.close, strike), false],
-        [wing, wing && in_wing_range(s, strike), false],
+        [standard, standard & ranged, false],
+        [dollar, dollar & ranged, false],
+        [half, half & (h <= half_end(s)), false],
+        [false, false, false],
     ]
 }
 
@@ -91,15 +105,15 @@ fn first_ground(s: Setting, strike: Strike, rows: [[bool; 3]; 4], standing: &[u3
     found
 }
 
-// The judgement of the strike beside the words of the standing strikes of its expiration. Below the ground that was found none passes all three, and the decision looks no further.
+// The judgement of the strike beside the words of the standing strikes of its expiration. Where no ground passes, no row needs its spacing.
 pub fn judge(s: Setting, strike: Strike, standing: &[u32]) -> Answer
     requires { ⌜ Judged s (strike .0) ⌝ }
     ensures { λ r. ⌜ r ≡ judgement s (map standingIn (now (standing .entry))) (strike .0) ⌝ }
 {
-    let mut rows = rows_of(s, strike);
+    let rows = rows_of(s, strike);
     let found = first_ground(s, strike, rows, standing);
     if found < 4 {
-        rows[found as usize] = [true, true, true];
+        return Answer::Ground(found);
     }
     decide(rows)
 }

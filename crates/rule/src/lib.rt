@@ -2,6 +2,5 @@
 pub mod bounds;
 pub mod grids;
 pub mod judgement;
-pub mod ranges;
 pub mod spacing;
 pub mod terms;

@@ -1,7 +1,8 @@
 -- The laws that the functions' proofs cite.
 pub mod Outcomes
-pub mod Standing
+pub mod Beside
 pub mod StrikeWords
+pub mod Standing
 pub mod Judgements
 pub mod Listing
 pub mod Permitting

@@ -11,6 +11,7 @@ use types.Run.{OneOf, miss}
 use denote.Enum.Declared.{tagOf}
 use Rattle.word.specs.declared.answer.Answer.{Answer}
 use Rattle.word.specs.declared.answer.Answer.the-variants.{Ground, Refused}
+use Rattle.word.specs.declared.answer.Refusal.{Refusal}
 use Rattle.word.specs.declared.answer.Refusal.the-variants.{OutOfWords}
 use Rattle.word.specs.Answers.{answerNumber}
 use Rattle.word.proofs.answer.Answer.{the-type}
@@ -18,23 +19,23 @@ use Rattle.word.proofs.Refusals.{refusal-not-zero}
 use Rattle.rule.specs.Lists.{some}
 use Rattle.rule.specs.Terms.{isOutside}
 use Rattle.rule.specs.Judgement.{passesGrid, passesRange, passes}
-use Rattle.book.specs.Facts.{Series, Facts, inMonth, insertSeries, withSeries, wordsTaken}
+use Rattle.book.specs.Facts.{Series, Facts, insertSeries, withSeries, wordsTaken}
 use Rattle.book.specs.Layout.{used, layout, factsOf}
 use Rattle.book.specs.Books.{isBook}
 use Rattle.book.specs.Calls.{callJ, callL, isWritten, class, isNotOpen, isStanding, hasNoClose, setting, rows, groundOf, update, changed, conditions, numberOf, listed, acceptedValue}
-use Rattle.book.specs.Places.{hasExpiration, strikePlace}
+use Rattle.book.specs.Places.{hasExpiration}
 use Rattle.book.specs.Made.{Made}
-use Rattle.book.proofs.Lists.{length-only}
 use Rattle.book.proofs.Layouts.{book-facts, used-taken}
-use Rattle.book.proofs.Runs.{strikes-within}
 use Rattle.book.proofs.Splices.{words-listed}
 use Rattle.book.proofs.Answered.{made-refused, made-accepted}
-use Rattle.strike_call.specs.Judging.{judgedAnswer}
-use Rattle.strike_call.proofs.Outcomes.{Permits, Outcome, permitted, refused, outcome, judged-number}
+use Rattle.strike_call.proofs.Outcomes.{judgedAnswer, Permits, Outcome, permitted, refused, outcome, judged-number}
 
 -- an answer by whose tag it is no ground
 pub no-ground : (r : Answer) → OneOf (0 ∷ 2 ∷ 3 ∷ 4 ∷ []) (tagOf the-type r) → (g : ℕ) → r ≡ Ground g → ⊥
 no-ground r t g e = miss (0 ∷ 2 ∷ 3 ∷ 4 ∷ []) 1 tt (rw e at t)
+
+pub refused-no-ground : (why : Refusal) (g : ℕ) → Refused why ≡ Ground g → ⊥
+refused-no-ground why g e = let z : _≡_ {A = ℕ} 0 1 = cc in omega arith
 
 module _ (c m h : ℕ) (f : Facts) where
   -- the facts with the strike added on the ground g
@@ -117,11 +118,6 @@ module _ (w : List ℕ) (book : T (isBook w)) (c m h : ℕ) where
     fifteen =
         list-number c m h (factsOf w) (length w)
         ∙ rw (judged-number c m h (factsOf w) (length w) ∙ ap answerNumber e)
-
-    pub place-used : strikePlace c m h (factsOf w) ≤ used (factsOf w)
-    place-used =
-        let t = strikes-within (length w) (factsOf w) c m (book-facts w book .0) (permitting .opened) in
-        omega (arith, length-only (λ s. ltb (s .strike) h) (inMonth m (class (factsOf w) c .series)))
 
     module _ (needed : ℕ) (k : needed ≡ cond {A = ℕ} (hasExpiration c m (factsOf w)) 1 2) where
       taken : wordsTaken (changed (callL c m h) (factsOf w)) ≡ used (factsOf w) + needed

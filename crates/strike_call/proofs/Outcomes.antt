@@ -19,7 +19,13 @@ use Rattle.book.specs.Facts.{Facts, isOpen}
 use Rattle.book.specs.Calls.{callJ, isWritten, setting, standingIn, isNotOpen, isStanding, hasNoClose, groundOf, conditions, numberOf}
 use Rattle.book.proofs.Tests.{true-T}
 use Rattle.book.proofs.Permits.{judging-number}
-use Rattle.strike_call.specs.Judging.{foundAnswer, judgedAnswer}
+use Rattle.strike_call.specs.Judging.{foundAnswer}
+
+-- what `J` answers
+unfoldable pub judgedAnswer : ℕ → ℕ → ℕ → Facts → Answer
+judgedAnswer c m h f =
+    cond (not (isWritten (callJ c m h))) (Refused BeyondLimits)
+    (cond (isNotOpen f c) (Refused NotOpen) (foundAnswer c m h f))
 
 -- what the rules can answer
 data Ruled : Answer → Type 0 where

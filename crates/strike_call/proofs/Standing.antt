@@ -1,5 +1,5 @@
 -- One law for each way out of `X` and `I`, which ask for a strike that stands: the number by the tests on the way, the words by what the inner function leaves. Assumes nothing.
-use Prim.Native.Nat.{ℕ, _+_, _≤_, _<_}
+use Prim.Native.Nat.{ℕ, _+_, _-_, _≤_, _<_}
 use mathlib.Core.Path.{_≡_, refl, sym, ap, _∙_}
 use mathlib.Core.Bool.{Bool, true, false, cond, not, _&&_}
 use mathlib.Core.List.{List, []}
@@ -22,49 +22,42 @@ use Rattle.book.proofs.Layouts.{book-facts}
 use Rattle.book.proofs.Runs.{strikes-within, strike-stands, interest-says, used-within}
 use Rattle.book.proofs.Answered.{made-refused, made-accepted}
 use Rattle.place.specs.declared.lookup.StrikeSearch.{StrikeSearch}
-use Rattle.place.specs.declared.lookup.StrikeLookup.the-variants.{NotOpen as NoStrike, Open as OpenStrike}
-use Rattle.place.specs.Lookups.{strikeSearchOf, strikeLookupOf}
-use Rattle.place.proofs.Answers.{strike-open, strike-not-open}
+use Rattle.place.specs.Lookups.{strikeSearchOf}
+use Rattle.strike_call.proofs.Beside.{isStrikeAt, strike-alone}
 
 pub passed : (b : Bool) → not b ≡ false → T b
 passed b e = true-T b (not-false b e)
 
 -- ---- a strike that was looked up
 
-module _ (w : List ℕ) (book : T (isBook w)) (c m h : ℕ) (r : StrikeSearch) (e : strikeLookupOf c m h (factsOf w) ≡ OpenStrike r) where
-  pub class-open : T (isOpen c (factsOf w .classes))
-  class-open = strike-open c (factsOf w) m h r e .0
-
-  found : r ≡ strikeSearchOf c m h (factsOf w)
-  found = strike-open c (factsOf w) m h r e .1
-
+module _
+    (w : List ℕ) (book : T (isBook w)) (c m h : ℕ) (o : T (isOpen c (factsOf w .classes))) (r : StrikeSearch)
+    (e : r ≡ strikeSearchOf c m h (factsOf w)) where
   said : r .standing ≡ isStanding (factsOf w) c m h
-  said = ap (λ (x : StrikeSearch). x .standing) found
+  said = ap (λ (x : StrikeSearch). x .standing) e
 
   pub found-place : r .at ≡ strikePlace c m h (factsOf w)
-  found-place = ap (λ (x : StrikeSearch). x .at) found
-
-  pub found-alone : eqb (r .to) (r .from + 1) ≡ eqb (strikesEnd c m (factsOf w)) (strikesPlace c m (factsOf w) + 1)
-  found-alone = ap (λ (x : StrikeSearch). eqb (x .to) (x .from + 1)) found
+  found-place = ap (λ (x : StrikeSearch). x .at) e
 
   module _ (s : not (r .standing) ≡ false) where
     pub strike-standing : T (isStanding (factsOf w) c m h)
     strike-standing = passed (isStanding (factsOf w) c m h) (ap not (sym said) ∙ s)
 
-    pub place-used : (2 ≤ r .at) × ((r .from ≤ r .at) × (r .at < used (factsOf w)))
-    place-used =
-        let b = book-facts w book .0 in
-        let x = strike-stands (length w) (factsOf w) c m h b class-open strike-standing in
-        omega (
-          arith,
-          x .1 .within,
-          ap (λ (y : StrikeSearch). y .from) found,
-          found-place,
-          strikes-within (length w) (factsOf w) c m b class-open,
-        )
+    place-inside : (strikesPlace c m (factsOf w) ≤ r .at) × (r .at < strikesEnd c m (factsOf w))
+    place-inside =
+        let x = strike-stands (length w) (factsOf w) c m h (book-facts w book .0) o strike-standing in
+        omega (arith, x .1 .within, found-place)
+
+    pub place-used : (2 ≤ r .at) × (r .at < used (factsOf w))
+    place-used = omega (arith, place-inside, strikes-within (length w) (factsOf w) c m (book-facts w book .0) o)
 
     pub place-within : r .at < length w
     place-within = omega (arith, place-used, used-within (length w) (factsOf w) (book-facts w book .0))
+
+    pub found-alone :
+        (not (isStrikeAt w (r .at - 1)) && not (isStrikeAt w (r .at + 1)))
+        ≡ eqb (strikesEnd c m (factsOf w)) (strikesPlace c m (factsOf w) + 1)
+    found-alone = strike-alone w book c m o (r .at) (place-inside .0) (place-inside .1)
 
 -- ---- the ways out
 
@@ -78,21 +71,21 @@ module _
   beyond l = made-refused x w [] book BeyondLimits (number ∙ rw l) refl
 
   module _ (l : not (isWritten x) ≡ false) where
-    pub not-open : strikeLookupOf c m h (factsOf w) ≡ NoStrike → Made x w [] (Refused NotOpen) w []
-    not-open e = made-refused x w [] book NotOpen (number ∙ rw (l, strike-not-open c (factsOf w) m h e)) refl
+    pub not-open : isNotOpen (factsOf w) c ≡ true → Made x w [] (Refused NotOpen) w []
+    not-open n = made-refused x w [] book NotOpen (number ∙ rw (l, n)) refl
 
-    module _ (r : StrikeSearch) (e : strikeLookupOf c m h (factsOf w) ≡ OpenStrike r) where
+    module _ (o : T (isOpen c (factsOf w .classes))) (r : StrikeSearch) (e : r ≡ strikeSearchOf c m h (factsOf w)) where
       opened : isOpen c (factsOf w .classes) ≡ true
-      opened = T-true (isOpen c (factsOf w .classes)) (class-open w book c m h r e)
+      opened = T-true (isOpen c (factsOf w .classes)) o
 
       pub not-standing : not (r .standing) ≡ true → Made x w [] (Refused NotStanding) w []
       not-standing s =
           made-refused x w [] book NotStanding
-          (number ∙ rw (l, opened, sym (said w book c m h r e) ∙ not-true (r .standing) s)) refl
+          (number ∙ rw (l, opened, sym (said w book c m h o r e) ∙ not-true (r .standing) s)) refl
 
       standing-number : not (r .standing) ≡ false → numberOf (length w) x (factsOf w) ≡ rest
       standing-number s =
-          number ∙ rw (l, opened, T-true (isStanding (factsOf w) c m h) (strike-standing w book c m h r e s))
+          number ∙ rw (l, opened, T-true (isStanding (factsOf w) c m h) (strike-standing w book c m h o r e s))
 
 module _ (w : List ℕ) (book : T (isBook w)) (c m h : ℕ) where
   pub delist-number :
@@ -122,18 +115,20 @@ module _ (w : List ℕ) (book : T (isBook w)) (c m h : ℕ) where
       go true false r s = refl
       go false q r s = refl
 
-  module _ (r : StrikeSearch) (e : strikeLookupOf c m h (factsOf w) ≡ OpenStrike r) (s : not (r .standing) ≡ false) where
+  module _
+      (o : T (isOpen c (factsOf w .classes))) (r : StrikeSearch) (e : r ≡ strikeSearchOf c m h (factsOf w))
+      (s : not (r .standing) ≡ false) where
     -- what the word of the strike says
     interest : not (eqb (field (getD w (r .at) 0) 18 2) 0) ≡ hasOpenInterest (factsOf w) c m h
     interest =
         let b = book-facts w book in
-        (λ i. not (eqb (field (getD (sym (b .1) i) (found-place w book c m h r e i) 0) 18 2) 0))
-        ∙ interest-says (length w) (factsOf w) c m h (b .0) (class-open w book c m h r e) (strike-standing w book c m h r e s)
+        (λ i. not (eqb (field (getD (sym (b .1) i) (found-place w book c m h o r e i) 0) 18 2) 0))
+        ∙ interest-says (length w) (factsOf w) c m h (b .0) o (strike-standing w book c m h o r e s)
 
     module _ (l : not (isWritten (callX c m h)) ≡ false) where
       delisted-number : numberOf (length w) (callX c m h) (factsOf w) ≡ cond {A = ℕ} (hasOpenInterest (factsOf w) c m h) 14 0
       delisted-number =
-          standing-number w book c m h (callX c m h) (cond {A = ℕ} (hasOpenInterest (factsOf w) c m h) 14 0) delist-number l r e s
+          standing-number w book c m h (callX c m h) (cond {A = ℕ} (hasOpenInterest (factsOf w) c m h) 14 0) delist-number l o r e s
 
       pub delist-marked :
           (field (getD w (r .at) 0) 18 2 ≡ 0 → ⊥) → Made (callX c m h) w [] (Refused OpenInterest) w []
@@ -155,4 +150,4 @@ module _ (w : List ℕ) (book : T (isBook w)) (c m h : ℕ) where
     unfolding listed acceptedValue
     mark-done a b l w′ stored =
         made-accepted (callI c m h a b) w [] book Done w′ refl
-        (standing-number w book c m h (callI c m h a b) 0 (mark-number a b) l r e s) refl stored
+        (standing-number w book c m h (callI c m h a b) 0 (mark-number a b) l o r e s) refl stored

@@ -1,23 +1,26 @@
 // The calls on strikes, over a run that is known to be a book: `L`, `J`, `X`, `I` and `A`.
+ghost use mathlib.Core.Bool.{_&&_};
 ghost use mathlib.Core.List.{[]};
 ghost use mathlib.Core.Path.{_≡_};
 ghost use Prim.Native.Nat.{ℕ};
-ghost use lib.Dec.{T};
-ghost use lib.ListN.{length};
+ghost use lib.Dec.{T, ltb};
+ghost use lib.ListN.{getD, length};
 ghost use Rattle.place.specs.Lookups.{strikeSearchOf};
+ghost use Rattle.place.specs.Search.{isOfKind};
 ghost use Rattle.book.specs.Books.{isBook};
 ghost use Rattle.book.specs.Calls.{callA, callI, callJ, callL, callX, isWritten};
 ghost use Rattle.book.specs.Facts.{isOpen};
-ghost use Rattle.book.specs.Layout.{factsOf};
+ghost use Rattle.book.specs.Layout.{factsOf, used};
+ghost use Rattle.book.specs.Places.{classPlace};
 ghost use Rattle.book.specs.Made.{Made};
-ghost use Rattle.strike_call.specs.Judging.{Judges, Sought, foundAnswer};
+ghost use Rattle.strike_call.specs.Judging.{Sought, foundAnswer};
 use edit::insert_strike;
 use edit::store_marks;
 use place::head;
-use place::lookup::ExpirationLookup;
-use place::lookup::StrikeLookup;
 use place::lookup::StrikeSearch;
+use place::lookup::class_at;
 use place::lookup::figures_at;
+use place::lookup::is_open_at;
 use place::lookup::look_up_expiration;
 use place::lookup::look_up_strike;
 use removal::delist;
@@ -26,19 +29,13 @@ use rule::terms::Setting;
 use rule::terms::is_outside;
 use word::answer::Answer;
 use word::answer::Refusal;
+use word::codec::kind;
 use word::field::field_of;
 use word::limits::is_class_number;
 use word::limits::is_mark;
 use word::limits::is_month;
 use word::limits::is_strike;
 use word::strike::Strike;
-
-// The judgement of a strike, and where its word would be put: `stands` says whether its expiration has strikes already.
-struct Judged {
-    answer: Answer,
-    at: usize,
-    stands: bool,
-}
 
 // Whether the numbers that name a strike are within their limits.
 fn is_written(c: u32, m: u32, h: u32) -> bool
@@ -47,16 +44,27 @@ fn is_written(c: u32, m: u32, h: u32) -> bool
     is_class_number(c) & (is_month(m) & is_strike(h))
 }
 
-// What the conditions before the rules and then the rules say of a strike that was looked up: 5, 6, 8, 11, 12, 13 or its ground. Of the standing strikes only those within $1 bear on it:
-// they are among the two below it and the two above.
-fn judge_found(run: &[u32], found: StrikeSearch, m: u32, h: u32) -> Answer
-    requires { ⌜ Sought h (now run) found ⌝ }
-    ensures { λ r. ⌜ (let f = factsOf (now (run .entry)) in
-        (c : ℕ) → T (isOpen c (f .classes)) → found ≡ strikeSearchOf c m h f → r ≡ foundAnswer c m h f) ⌝ }
+// Whether the words used have a strike there.
+fn is_strike_at(run: &[u32], at: usize) -> bool
+    requires { ⌜ T (isBook (now run)) ⌝ }
+    ensures { λ r. ⌜ r ≡ (ltb at (used (factsOf (now (run .entry)))) && isOfKind 6 (getD (now (run .entry)) at 0)) ⌝ }
 {
-    let class = figures_at(run, found.class);
+    if head::used(run) <= at {
+        return false;
+    }
+    kind(run[at]) == 6
+}
+
+// What the conditions before the rules and then the rules say of a strike that was looked up: 5, 6, 8, 11, 12, 13 or its ground. Of the standing strikes of its expiration only the next one
+// below it and the next one above it bear on it.
+fn judge_found(run: &[u32], class: usize, found: StrikeSearch, m: u32, h: u32) -> Answer
+    requires { ⌜ Sought h (now run) class found ⌝ }
+    ensures { λ r. ⌜ (let f = factsOf (now (run .entry)) in
+        (c : ℕ) → T (isOpen c (f .classes)) → class ≡ classPlace c f → found ≡ strikeSearchOf c m h f → r ≡ foundAnswer c m h f) ⌝ }
+{
+    let figures = figures_at(run, class);
     let setting = Setting {
-        class,
+        class: figures,
         current: head::current(run),
         month: m,
     };
@@ -66,44 +74,17 @@ fn judge_found(run: &[u32], found: StrikeSearch, m: u32, h: u32) -> Answer
     if found.standing {
         return Answer::Refused(Refusal::AlreadyStanding);
     }
-    if class.close == 0 {
+    if figures.close == 0 {
         return Answer::Refused(Refusal::NoClose);
     }
     let at = found.at;
-    let from = if at - found.from < 2 {
-        found.from
+    let from = if found.expiration && is_strike_at(run, at - 1) {
+        at - 1
     } else {
-        at - 2
+        at
     };
-    let to = if found.to - at < 2 { found.to } else { at + 2 };
+    let to = if is_strike_at(run, at) { at + 1 } else { at };
     judge(setting, Strike(h), &run[from..to])
-}
-
-// What `J` answers, and where `L` would put the strike.
-fn judge_at(run: &[u32], c: u32, m: u32, h: u32) -> Judged
-    requires { ⌜ T (isBook (now run)) ⌝ }
-    ensures { λ r. ⌜ Judges c m h (factsOf (now (run .entry))) r ⌝ }
-{
-    if !is_written(c, m, h) {
-        return Judged {
-            answer: Answer::Refused(Refusal::BeyondLimits),
-            at: 0,
-            stands: false,
-        };
-    }
-    let search = look_up_strike(run, c, m, h);
-    let StrikeLookup::Open(found) = search else {
-        return Judged {
-            answer: Answer::Refused(Refusal::NotOpen),
-            at: 0,
-            stands: false,
-        };
-    };
-    Judged {
-        answer: judge_found(run, found, m, h),
-        at: found.at,
-        stands: found.from < found.to,
-    }
 }
 
 // `J`: the judgement of a strike.
@@ -111,7 +92,15 @@ pub fn judge_strike(run: &[u32], c: u32, m: u32, h: u32) -> Answer
     requires { ⌜ T (isBook (now run)) ⌝ }
     ensures { λ r. ⌜ Made (callJ c m h) (now (run .entry)) [] r (now (run .entry)) [] ⌝ }
 {
-    judge_at(run, c, m, h).answer
+    if !is_written(c, m, h) {
+        return Answer::Refused(Refusal::BeyondLimits);
+    }
+    let class = class_at(run, c);
+    if !is_open_at(run, class, c) {
+        return Answer::Refused(Refusal::NotOpen);
+    }
+    let found = look_up_strike(run, class, m, h);
+    judge_found(run, class, found, m, h)
 }
 
 // `L`: adds a strike.
@@ -119,16 +108,23 @@ pub fn list_strike(run: &mut [u32], c: u32, m: u32, h: u32) -> Answer
     requires { ⌜ T (isBook (now run)) ⌝ }
     ensures { λ r. ⌜ Made (callL c m h) (now (run .entry)) [] r (now (run .exit)) [] ⌝ }
 {
-    let judged = judge_at(run, c, m, h);
-    let answer = judged.answer;
+    if !is_written(c, m, h) {
+        return Answer::Refused(Refusal::BeyondLimits);
+    }
+    let class = class_at(run, c);
+    if !is_open_at(run, class, c) {
+        return Answer::Refused(Refusal::NotOpen);
+    }
+    let found = look_up_strike(run, class, m, h);
+    let answer = judge_found(run, class, found, m, h);
     let Answer::Ground(g) = answer else {
         return answer;
     };
-    let needed = if judged.stands { 1 } else { 2 };
+    let needed = if found.expiration { 1 } else { 2 };
     if run.len() < head::used(run) + needed {
         return Answer::Refused(Refusal::OutOfWords(0));
     }
-    insert_strike(run, judged.at, judged.stands, m, h, g);
+    insert_strike(run, found.at, found.expiration, m, h, g);
     answer
 }
 
@@ -140,10 +136,11 @@ pub fn delist_strike(run: &mut [u32], c: u32, m: u32, h: u32) -> Answer
     if !is_written(c, m, h) {
         return Answer::Refused(Refusal::BeyondLimits);
     }
-    let search = look_up_strike(run, c, m, h);
-    let StrikeLookup::Open(found) = search else {
+    let class = class_at(run, c);
+    if !is_open_at(run, class, c) {
         return Answer::Refused(Refusal::NotOpen);
-    };
+    }
+    let found = look_up_strike(run, class, m, h);
     if !found.standing {
         return Answer::Refused(Refusal::NotStanding);
     }
@@ -151,7 +148,8 @@ pub fn delist_strike(run: &mut [u32], c: u32, m: u32, h: u32) -> Answer
     if field_of(run[at], 18, 2) != 0 {
         return Answer::Refused(Refusal::OpenInterest);
     }
-    delist(run, at, found.to == found.from + 1);
+    let alone = !is_strike_at(run, at - 1) & !is_strike_at(run, at + 1);
+    delist(run, at, alone);
     Answer::Done
 }
 
@@ -163,10 +161,11 @@ pub fn mark_strike(run: &mut [u32], c: u32, m: u32, h: u32, a: u32, b: u32) -> A
     if !(is_written(c, m, h) & (is_mark(a) & is_mark(b))) {
         return Answer::Refused(Refusal::BeyondLimits);
     }
-    let search = look_up_strike(run, c, m, h);
-    let StrikeLookup::Open(found) = search else {
+    let class = class_at(run, c);
+    if !is_open_at(run, class, c) {
         return Answer::Refused(Refusal::NotOpen);
-    };
+    }
+    let found = look_up_strike(run, class, m, h);
     if !found.standing {
         return Answer::Refused(Refusal::NotStanding);
     }
@@ -182,11 +181,11 @@ pub fn list_permitted(run: &[u32], second: &mut [u32], c: u32, m: u32) -> Answer
     if !(is_class_number(c) & is_month(m)) {
         return Answer::Refused(Refusal::BeyondLimits);
     }
-    let search = look_up_expiration(run, c, m);
-    let ExpirationLookup::Open(found) = search else {
+    let at = class_at(run, c);
+    if !is_open_at(run, at, c) {
         return Answer::Refused(Refusal::NotOpen);
-    };
-    let class = figures_at(run, found.class);
+    }
+    let class = figures_at(run, at);
     let setting = Setting {
         class,
         current: head::current(run),
@@ -198,6 +197,7 @@ pub fn list_permitted(run: &[u32], second: &mut [u32], c: u32, m: u32) -> Answer
     if class.close == 0 {
         return Answer::Refused(Refusal::NoClose);
     }
+    let found = look_up_expiration(run, at, m);
     let from = found.from;
     let to = found.to;
     permitted::list_permitted(setting, &run[from..to], second)

@@ -1,5 +1,5 @@
 -- Binary digits and the number that they make: one digit more by `|`, and the first digit that is 1 by the trailing zeros; by induction on the digits. Assumes nothing.
-use Prim.Native.Nat.{ℕ, suc, _+_, _*_, _/_, _%_, _^_, _<_}
+use Prim.Native.Nat.{ℕ, zero, suc, _+_, _*_, _/_, _%_, _^_, _≤_, _<_}
 use mathlib.Core.Path.{_≡_, refl, sym, ap, ap₂, _∙_}
 use mathlib.Core.Bool.{Bool, true, false, cond}
 use mathlib.Core.List.{List, [], _∷_, _++_, map, map-append}
@@ -7,7 +7,7 @@ use native.Mathlib.Nat.{pow-suc}
 use native.Mathlib.Numerals.{add-one}
 use native.Mathlib.Omega.{arith}
 use lib.Bits.{bitOr, or-zero-r, or-shifted-r}
-use lib.Count.{trailingZeros, under, trailing-of-zero}
+use lib.Count.{trailingZeros, under}
 use lib.ListN.{length, take, getD, length-map}
 use lib.Seq.{length-take-le, take-suc}
 use Rattle.word.specs.Digits.{binary, firstOne}
@@ -46,27 +46,35 @@ digits-more p d xs i l =
     ∙ ap binary
     (sym (ap (λ (k : ℕ). map p (take k xs)) (add-one i) ∙ ap (map p) (take-suc xs i d l) ∙ map-append p (take i xs) (getD xs i d ∷ [])))
 
--- the zeros below the first 1, of as many digits as there are
-pub trailing-zeros : (bs : List Bool) → trailingZeros (length bs) (binary bs) ≡ firstOne bs
+-- the zeros below the first 1, in a number of at least as many bits
+pub trailing-zeros : (k : ℕ) (bs : List Bool) → length bs ≤ k → (binary bs ≡ 0 → ⊥) → trailingZeros k (binary bs) ≡ firstOne bs
 unfolding trailingZeros
-trailing-zeros [] = refl
-trailing-zeros (b ∷ bs) = go b (trailing-zeros bs)
+trailing-zeros k [] l n = absurd (n refl)
+trailing-zeros zero (b ∷ bs) l n = absurd (omega arith)
+trailing-zeros (suc k) (b ∷ bs) l n = go b n (trailing-zeros k bs (omega arith))
   where
     go :
-        (d : Bool) → trailingZeros (length bs) (binary bs) ≡ firstOne bs
-        → trailingZeros (suc (length bs)) (cond {A = ℕ} d 1 0 + 2 * binary bs)
-        ≡ cond {A = ℕ} d 0 (suc (firstOne bs))
-    go true r =
+        (d : Bool) → (cond {A = ℕ} d 1 0 + 2 * binary bs ≡ 0 → ⊥)
+        → ((binary bs ≡ 0 → ⊥) → trailingZeros k (binary bs) ≡ firstOne bs)
+        → trailingZeros (suc k) (cond {A = ℕ} d 1 0 + 2 * binary bs) ≡ cond {A = ℕ} d 0 (suc (firstOne bs))
+    go true m r =
         let low : (1 + 2 * binary bs) % 2 ≡ 1 = omega arith in
-        ap (λ (d : ℕ). under d (trailingZeros (length bs) ((1 + 2 * binary bs) / 2))) low
-    go false r =
+        ap (λ (d : ℕ). under d (trailingZeros k ((1 + 2 * binary bs) / 2))) low
+    go false m r =
         let low : (0 + 2 * binary bs) % 2 ≡ 0 = omega arith in
         let high : (0 + 2 * binary bs) / 2 ≡ binary bs = omega arith in
-        ap₂ (λ (d h : ℕ). under d (trailingZeros (length bs) h)) low high ∙ ap suc r
+        ap₂ (λ (d h : ℕ). under d (trailingZeros k h)) low high ∙ ap suc (r (λ e. m (omega arith)))
 
 -- the number is 0 exactly when no digit is 1
 pub no-one : (bs : List Bool) → binary bs ≡ 0 → firstOne bs ≡ length bs
-no-one bs e = sym (trailing-zeros bs) ∙ ap (trailingZeros (length bs)) e ∙ trailing-of-zero (length bs)
+no-one [] e = refl
+no-one (b ∷ bs) e = go b e (no-one bs)
+  where
+    go :
+        (d : Bool) → cond {A = ℕ} d 1 0 + 2 * binary bs ≡ 0 → (binary bs ≡ 0 → firstOne bs ≡ length bs)
+        → cond {A = ℕ} d 0 (suc (firstOne bs)) ≡ suc (length bs)
+    go true e r = absurd (omega arith)
+    go false e r = ap suc (r (omega arith))
 
 pub some-one : (bs : List Bool) → (binary bs ≡ 0 → ⊥) → firstOne bs < length bs
 some-one [] n = absurd (n refl)

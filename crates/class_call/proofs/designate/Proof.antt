@@ -1,7 +1,8 @@
 -- `designate` keeps the contract of `D`: each way out by its law. Assumes nothing.
-use mathlib.Core.Path.{sym, _∙_}
+use native.Mathlib.Omega.{arith}
 use Rattle.book.specs.Calls.{callD}
-use Rattle.class_call.proofs.Ways.{beyond-limits}
+use Rattle.book.proofs.Tests.{ands}
+use Rattle.class_call.proofs.Ways.{beyond-limits, within-limits, open-room}
 use Rattle.class_call.proofs.DesignationWays.{designation-not-open, designation-refused, designation-storable, designation-set}
 use borrow.Author.Needs.{needs}
 use Rattle.class_call.proofs.designate.Statement.{statement}
@@ -22,26 +23,39 @@ returns c =
     (rw (c .before .before .before .is-class-number .ensures, c .before .before .is-program .ensures, c .before .is-designation .ensures)
     at (c .if1 .taken))
 
-look-up-requires : tie.Need-look-up-requires
-look-up-requires c κs = search needs
+class-at-requires : tie.Need-class-at-requires
+class-at-requires c κs =
+    let i = c .before in
+    let s = i .before .before .before .before .before in
+    let t =
+    within-limits (callD (s .args .c) (s .args .p) (s .args .d))
+    (rw (i .before .before .before .is-class-number .ensures, i .before .before .is-program .ensures, i .before .is-designation .ensures)
+    at (i .if1 .left)) in
+    (s .pre, search ands)
 
-enum-known-found : tie.Need-enum-known-found
-enum-known-found c = search needs
-
-enum-told : tie.Need-enum-told
-enum-told c = search needs
+is-open-at-requires : tie.Need-is-open-at-requires
+is-open-at-requires c κs = search needs
 
 same-length : tie.Need-same-length
 same-length c = search needs
 
 returns-2 : tie.Need-returns-2
 returns-2 c =
-    let l = c .before .before in
-    let i = l .before .before in
+    let i = c .before .before .before .before .before in
     designation-not-open _ _ _ _ (i .before .before .before .before .before .pre)
     (rw (i .before .before .before .is-class-number .ensures, i .before .before .is-program .ensures, i .before .is-designation .ensures)
     at (i .if1 .left))
-    _ (sym (l .look-up .ensures) ∙ c .enum-told .given .1)
+    (rw (c .before .is-open-at .ensures) at (c .if2 .taken))
+
+figures-at-requires : tie.Need-figures-at-requires
+figures-at-requires c κs =
+    let o = c .before in
+    let a = o .before .before .before in
+    let i = a .before .before in
+    omega (
+      arith,
+      open-room _ (i .before .before .before .before .before .pre) _ _ (rw (o .before .is-open-at .ensures) at (o .if2 .left)) (a .class-at .ensures),
+    )
 
 claim-of-requires : tie.Need-claim-of-requires
 claim-of-requires c κs = search needs
@@ -55,30 +69,40 @@ same-length-2 c = search needs
 returns-3 : tie.Need-returns-3
 returns-3 c =
     let a = c .before .before .before in
-    let k = a .before .before .before in
-    let l = k .before .before in
-    let i = l .before .before in
+    let g = a .before .before in
+    let o = g .before .before in
+    let i = o .before .before .before .before .before in
     designation-refused _ _ _ _ (i .before .before .before .before .before .pre)
     (rw (i .before .before .before .is-class-number .ensures, i .before .before .is-program .ensures, i .before .is-designation .ensures)
-    at (i .if1 .left))
-    _ _ (sym (l .look-up .ensures) ∙ k .found .given .1) _ _ (a .claim-of .ensures) (c .before .claim .given .1)
+    at (i .if1 .left)) _ _
+    (record {
+      is-open = rw (o .before .is-open-at .ensures) at (o .if2 .left);
+      place = o .before .before .before .class-at .ensures;
+      said = g .figures-at .ensures;
+    })
+    _ _ (a .claim-of .ensures) (c .before .claim .given .1)
 
-enum-told-2 : tie.Need-enum-told-2
-enum-told-2 c = search needs
+enum-told : tie.Need-enum-told
+enum-told c = search needs
 
 with-designation-requires : tie.Need-with-designation-requires
 with-designation-requires c κs = search needs
 
 store-figures-requires : tie.Need-store-figures-requires
 store-figures-requires c κs =
-    let k = c .before .before .before .before .before .before .before in
-    let l = k .before .before in
-    let i = l .before .before in
+    let g = c .before .before .before .before .before .before in
+    let o = g .before .before in
+    let i = o .before .before .before .before .before in
     let s = i .before .before .before .before .before in
     designation-storable _ (s .args .p) (s .args .d) _ (s .pre)
     (rw (i .before .before .before .is-class-number .ensures, i .before .before .is-program .ensures, i .before .is-designation .ensures)
-    at (i .if1 .left))
-    _ _ (sym (l .look-up .ensures) ∙ k .found .given .1) _ (c .with-designation .ensures)
+    at (i .if1 .left)) _ _
+    (record {
+      is-open = rw (o .before .is-open-at .ensures) at (o .if2 .left);
+      place = o .before .before .before .class-at .ensures;
+      said = g .figures-at .ensures;
+    })
+    _ (c .with-designation .ensures)
 
 same-length-3 : tie.Need-same-length-3
 same-length-3 c = search needs
@@ -88,14 +112,19 @@ returns-4 c =
     let n = c .before .before .before in
     let t = n .before .before in
     let a = t .before .before in
-    let k = a .before .before .before in
-    let l = k .before .before in
-    let i = l .before .before in
+    let g = a .before .before in
+    let o = g .before .before in
+    let i = o .before .before .before .before .before in
     designation-set _ _ _ _ (i .before .before .before .before .before .pre)
     (rw (i .before .before .before .is-class-number .ensures, i .before .before .is-program .ensures, i .before .is-designation .ensures)
-    at (i .if1 .left))
-    _ _ (sym (l .look-up .ensures) ∙ k .found .given .1) _ (n .with-designation .ensures) _ _
-    (a .claim-of .ensures) (t .enum-told2 .given .1) (c .before .before .store-figures .ensures)
+    at (i .if1 .left)) _ _
+    (record {
+      is-open = rw (o .before .is-open-at .ensures) at (o .if2 .left);
+      place = o .before .before .before .class-at .ensures;
+      said = g .figures-at .ensures;
+    })
+    _ (n .with-designation .ensures) _ _ (a .claim-of .ensures) (t .enum-told .given .1)
+    (c .before .before .store-figures .ensures)
 
 pub designate-spec : {M : Type 1} → statement M
 designate-spec =
@@ -105,16 +134,16 @@ designate-spec =
     is-program-requires
     is-designation-requires
     returns
-    look-up-requires
-    enum-known-found
-    enum-told
+    class-at-requires
+    is-open-at-requires
     same-length
     returns-2
+    figures-at-requires
     claim-of-requires
     enum-known-claim
     same-length-2
     returns-3
-    enum-told-2
+    enum-told
     with-designation-requires
     store-figures-requires
     same-length-3

@@ -1,10 +1,9 @@
 -- `review_class` keeps the contract of `R`: each way out by its law. Assumes nothing.
-use mathlib.Core.Path.{sym, _∙_}
 use native.Mathlib.Omega.{arith}
 use Rattle.book.specs.Calls.{callR}
-use Rattle.class_call.proofs.Ways.{beyond-limits, found-within, found-room, review-not-open, review-no-close, review-count, review-made}
+use Rattle.class_call.proofs.Ways.{beyond-limits, within-limits, open-within, open-room, review-not-open, review-no-close, review-count, review-made}
 use borrow.Author.Needs.{needs}
-use Rattle.place.proofs.Heads.{book-room, book-long}
+use Rattle.place.proofs.Heads.{book-long}
 use Rattle.class_call.proofs.review_class.Statement.{statement}
 use Rattle.class_call.proofs.review_class.Tie as tie
 
@@ -14,63 +13,81 @@ is-class-number-requires c κs = search needs
 returns : tie.Need-returns
 returns c = beyond-limits (callR _) _ (c .before .before .before .pre) (rw (c .before .is-class-number .ensures) at (c .if1 .taken))
 
-look-up-requires : tie.Need-look-up-requires
-look-up-requires c κs = search needs
+class-at-requires : tie.Need-class-at-requires
+class-at-requires c κs =
+    let i = c .before in
+    let s = i .before .before .before in
+    (s .pre, within-limits (callR (s .args .c)) (rw (i .before .is-class-number .ensures) at (i .if1 .left)))
 
-enum-known-found : tie.Need-enum-known-found
-enum-known-found c = search needs
-
-enum-told : tie.Need-enum-told
-enum-told c = search needs
+is-open-at-requires : tie.Need-is-open-at-requires
+is-open-at-requires c κs = search needs
 
 same-length : tie.Need-same-length
 same-length c = search needs
 
 returns-2 : tie.Need-returns-2
 returns-2 c =
-    let l = c .before .before in
-    let i = l .before .before in
+    let i = c .before .before .before .before .before in
     review-not-open _ _ (i .before .before .before .pre) (rw (i .before .is-class-number .ensures) at (i .if1 .left))
-    _ (sym (l .look-up .ensures) ∙ c .enum-told .given .1)
+    (rw (c .before .is-open-at .ensures) at (c .if2 .taken))
+
+figures-at-requires : tie.Need-figures-at-requires
+figures-at-requires c κs =
+    let o = c .before in
+    let a = o .before .before .before in
+    let i = a .before .before in
+    omega (arith, open-room _ (i .before .before .before .pre) _ _ (rw (o .before .is-open-at .ensures) at (o .if2 .left)) (a .class-at .ensures))
 
 same-length-2 : tie.Need-same-length-2
 same-length-2 c = search needs
 
 returns-3 : tie.Need-returns-3
 returns-3 c =
-    let k = c .before .before .before in
-    let l = k .before .before in
-    let i = l .before .before in
-    review-no-close _ _ (i .before .before .before .pre) (rw (i .before .is-class-number .ensures) at (i .if1 .left))
-    _ _ (sym (l .look-up .ensures) ∙ k .found .given .1) (c .if2 .taken)
+    let g = c .before .before in
+    let o = g .before .before in
+    let i = o .before .before .before .before .before in
+    review-no-close _ _ (i .before .before .before .pre) (rw (i .before .is-class-number .ensures) at (i .if1 .left)) _ _
+    (record {
+      is-open = rw (o .before .is-open-at .ensures) at (o .if2 .left);
+      place = o .before .before .before .class-at .ensures;
+      said = g .figures-at .ensures;
+    })
+    (c .if3 .taken)
 
 add-from : tie.Need-add-from
 add-from c =
-    let k = c .before .before .before in
-    let l = k .before .before in
-    let book = l .before .before .before .before .before .pre in
-    omega (arith, found-room _ book _ _ _ (sym (l .look-up .ensures) ∙ k .found .given .1), book-room _ book, book-long _ book)
+    let o = c .before .before .before .before in
+    let a = o .before .before .before in
+    let i = a .before .before in
+    let book = i .before .before .before .pre in
+    omega (arith, open-room _ book _ _ (rw (o .before .is-open-at .ensures) at (o .if2 .left)) (a .class-at .ensures), book-long _ book)
 
 next-class-requires : tie.Need-next-class-requires
 next-class-requires c κs =
-    let k = c .before .before .before .before in
-    let l = k .before .before in
-    let book = l .before .before .before .before .before .pre in
-    (book, (omega arith, found-within _ book _ _ _ (sym (l .look-up .ensures) ∙ k .found .given .1)))
+    let o = c .before .before .before .before .before in
+    let a = o .before .before .before in
+    let i = a .before .before in
+    let book = i .before .before .before .pre in
+    (book, (omega arith, open-within _ book _ _ (rw (o .before .is-open-at .ensures) at (o .if2 .left)) (a .class-at .ensures)))
 
 review-requires : tie.Need-review-requires
 review-requires c κs = search needs
 
-cast-t20 : tie.Need-cast-t20
-cast-t20 c =
+cast-t23 : tie.Need-cast-t23
+cast-t23 c =
     let n = c .before .before .before .before in
-    let k = n .before .before .before .before .before in
-    let l = k .before .before in
-    let i = l .before .before in
+    let g = n .before .before .before .before in
+    let o = g .before .before in
+    let i = o .before .before .before .before .before in
     omega (
       arith,
       review-count _ _ (i .before .before .before .pre) (rw (i .before .is-class-number .ensures) at (i .if1 .left)) _ _
-          (sym (l .look-up .ensures) ∙ k .found .given .1) _ _ _ (n .next-class .ensures .0) (c .before .before .review .ensures),
+          (record {
+            is-open = rw (o .before .is-open-at .ensures) at (o .if2 .left);
+            place = o .before .before .before .class-at .ensures;
+            said = g .figures-at .ensures;
+          })
+          _ _ _ (n .next-class .ensures .0) (c .before .before .review .ensures),
     )
 
 same-length-3 : tie.Need-same-length-3
@@ -80,12 +97,16 @@ returns-4 : tie.Need-returns-4
 returns-4 c =
     let n = c .before .before .before .before in
     let j = n .before .before in
-    let k = j .before .before .before in
-    let l = k .before .before in
-    let i = l .before .before in
+    let g = j .before .before in
+    let o = g .before .before in
+    let i = o .before .before .before .before .before in
     review-made _ _ (i .before .before .before .pre) (rw (i .before .is-class-number .ensures) at (i .if1 .left)) _ _
-    (sym (l .look-up .ensures) ∙ k .found .given .1) _ _ _ (n .next-class .ensures .0) (c .before .before .review .ensures)
-    (j .if2 .left)
+    (record {
+      is-open = rw (o .before .is-open-at .ensures) at (o .if2 .left);
+      place = o .before .before .before .class-at .ensures;
+      said = g .figures-at .ensures;
+    })
+    _ _ _ (n .next-class .ensures .0) (c .before .before .review .ensures) (j .if3 .left)
 
 pub review-class-spec : {M : Type 1} → statement M
 review-class-spec =
@@ -93,16 +114,16 @@ review-class-spec =
     (tie.spec
     is-class-number-requires
     returns
-    look-up-requires
-    enum-known-found
-    enum-told
+    class-at-requires
+    is-open-at-requires
     same-length
     returns-2
+    figures-at-requires
     same-length-2
     returns-3
     add-from
     next-class-requires
     review-requires
-    cast-t20
+    cast-t23
     same-length-3
     returns-4)

@@ -1,6 +1,6 @@
 -- `set_month` keeps the contract of `M`: each way out by its law. Assumes nothing.
 use Rattle.book.specs.Calls.{callM}
-use Rattle.class_call.proofs.Ways.{beyond-limits, month-limit, month-outside, month-set}
+use Rattle.class_call.proofs.Ways.{beyond-limits, month-limit, month-outside, month-set, month-kept}
 use borrow.Author.Needs.{needs}
 use Rattle.class_call.proofs.set_month.Statement.{statement}
 use Rattle.class_call.proofs.set_month.Tie as tie
@@ -23,18 +23,30 @@ returns-2 c =
     month-outside _ _ (i .before .before .before .pre) (rw (i .before .is-month .ensures) at (i .if1 .left))
     (rw (c .before .current .ensures) at (c .if2 .taken))
 
-expire-requires : tie.Need-expire-requires
-expire-requires c κs =
-    let i = c .before .before .before .before in
-    let book = i .before .before .before .pre in
-    (book, month-limit _ _ book (rw (i .before .is-month .ensures) at (i .if1 .left)))
+current-requires-2 : tie.Need-current-requires-2
+current-requires-2 c κs = search needs
 
 same-length-2 : tie.Need-same-length-2
 same-length-2 c = search needs
 
 returns-3 : tie.Need-returns-3
 returns-3 c =
-    let j = c .before .before .before .before in
+    let i = c .before .before .before .before .before .before in
+    month-kept _ _ (i .before .before .before .pre) (rw (i .before .is-month .ensures) at (i .if1 .left))
+    (rw (c .before .current2 .ensures) at (c .if3 .taken))
+
+expire-requires : tie.Need-expire-requires
+expire-requires c κs =
+    let i = c .before .before .before .before .before .before .before in
+    let book = i .before .before .before .pre in
+    (book, month-limit _ _ book (rw (i .before .is-month .ensures) at (i .if1 .left)))
+
+same-length-3 : tie.Need-same-length-3
+same-length-3 c = search needs
+
+returns-4 : tie.Need-returns-4
+returns-4 c =
+    let j = c .before .before .before .before .before .before .before in
     let i = j .before .before .before in
     month-set _ _ (i .before .before .before .pre) (rw (i .before .is-month .ensures) at (i .if1 .left)) _
     (rw (j .before .current .ensures) at (j .if2 .left)) (c .before .before .expire .ensures)
@@ -48,6 +60,9 @@ set-month-spec =
     current-requires
     same-length
     returns-2
-    expire-requires
+    current-requires-2
     same-length-2
-    returns-3)
+    returns-3
+    expire-requires
+    same-length-3
+    returns-4)

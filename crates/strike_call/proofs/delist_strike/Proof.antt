@@ -1,14 +1,32 @@
--- `delist_strike` is the call `X`: the limits, the lookup and the marks of the strike's word refuse as the model does, else the strike goes. Assumes nothing.
-use mathlib.Core.Path.{sym, ap, _∙_}
-use mathlib.Core.Bool.{not}
+-- `delist_strike` is the call `X`: the limits, the class, the lookup and the marks of the strike's word refuse as the model does, else the strike goes. Assumes nothing.
+use mathlib.Core.Path.{_≡_, sym, ap, _∙_}
+use mathlib.Core.Bool.{false, not, _&&_}
 use native.Mathlib.Omega.{arith}
+use lib.Dec.{T}
 use borrow.Author.Needs.{needs}
+use Rattle.book.specs.Facts.{isOpen}
+use Rattle.book.specs.Layout.{factsOf}
 use Rattle.book.specs.Calls.{callX, isWritten}
 use Rattle.book.proofs.Tests.{ands}
+use Rattle.place.specs.Lookups.{strikeSearchOf}
+use Rattle.place.proofs.Found.{class-room}
 use Rattle.place.proofs.Heads.{book-room, book-long}
-use Rattle.strike_call.proofs.Standing.{passed, class-open, found-place, found-alone, strike-standing, place-used, place-within, beyond, not-open, not-standing, delist-number, delist-marked, delist-done}
+use Rattle.strike_call.proofs.Standing.{passed, found-place, found-alone, strike-standing, place-used, place-within, beyond, not-open, not-standing, delist-number, delist-marked, delist-done}
 use Rattle.strike_call.proofs.delist_strike.Statement.{statement}
 use Rattle.strike_call.proofs.delist_strike.Tie as tie
+
+limits : (c : tie.Else1) → let a = c .before .before .before .args in not (isWritten (callX (a .c) (a .m) (a .h))) ≡ false
+limits c = ap not (sym (c .before .is-written .ensures)) ∙ c .if1 .left
+
+opened : (c : tie.Else2) → let a = c .before .before .before .before .before .before .before .before .args in T (isOpen (a .c) (factsOf (a .run .now) .classes))
+opened c =
+    let a = c .before .before .before .before .before .before .before .before .args in
+    passed (isOpen (a .c) (factsOf (a .run .now) .classes)) (ap not (sym (c .before .is-open-at .ensures)) ∙ c .if2 .left)
+
+found :
+    (c : tie.After-look-up-strike) → let a = c .before .before .before .before .before .before .before .before .before .before .args in
+    c .look-up-strike .result ≡ strikeSearchOf (a .c) (a .m) (a .h) (factsOf (a .run .now))
+found c = c .look-up-strike .ensures (c .before .before .before .before .before .before .before .before .before .before .args .c) (opened (c .before .before)) (c .before .before .before .before .before .class-at .ensures)
 
 is-written-requires : tie.Need-is-written-requires
 is-written-requires c κs = search needs
@@ -18,77 +36,62 @@ returns c =
     let k = c .before in
     let s = k .before .before in
     let a = s .args in
-    let w = a .run .now in
-    let limits = ap not (sym (k .is-written .ensures)) ∙ c .if1 .taken in
-    beyond w (s .pre) (a .c) (a .m) (a .h) (callX (a .c) (a .m) (a .h)) _
-    (delist-number w (s .pre) (a .c) (a .m) (a .h)) limits
+    beyond (a .run .now) (s .pre) (a .c) (a .m) (a .h) (callX (a .c) (a .m) (a .h)) _
+    (delist-number (a .run .now) (s .pre) (a .c) (a .m) (a .h)) (ap not (sym (k .is-written .ensures)) ∙ c .if1 .taken)
 
-look-up-strike-requires : tie.Need-look-up-strike-requires
-look-up-strike-requires c κs =
-    let k = c .before .before in
-    let s = k .before .before in
+class-at-requires : tie.Need-class-at-requires
+class-at-requires c κs =
+    let s = c .before .before .before .before in
     let a = s .args in
-    let limits = passed (isWritten (callX (a .c) (a .m) (a .h))) (ap not (sym (k .is-written .ensures)) ∙ c .before .if1 .left) in
+    let written = passed (isWritten (callX (a .c) (a .m) (a .h))) (limits (c .before)) in
     (s .pre, search ands)
 
-enum-known-search : tie.Need-enum-known-search
-enum-known-search c = search needs
-
-enum-told : tie.Need-enum-told
-enum-told c = search needs
+is-open-at-requires : tie.Need-is-open-at-requires
+is-open-at-requires c κs = (c .before .before .before .before .before .before .pre, c .before .class-at .ensures)
 
 same-length : tie.Need-same-length
 same-length c = search needs
 
 returns-2 : tie.Need-returns-2
 returns-2 c =
-    let l = c .before .before in
-    let k = l .before .before .before in
-    let s = k .before .before in
+    let s = c .before .before .before .before .before .before .before .before in
     let a = s .args in
-    let w = a .run .now in
-    let limits = ap not (sym (k .is-written .ensures)) ∙ l .before .before .if1 .left in
-    not-open w (s .pre) (a .c) (a .m) (a .h) (callX (a .c) (a .m) (a .h)) _
-    (delist-number w (s .pre) (a .c) (a .m) (a .h)) limits
-    (sym (l .look-up-strike .ensures) ∙ c .enum-told .given .1)
+    not-open (a .run .now) (s .pre) (a .c) (a .m) (a .h) (callX (a .c) (a .m) (a .h)) _
+    (delist-number (a .run .now) (s .pre) (a .c) (a .m) (a .h)) (limits (c .before .before .before .before .before))
+    (ap not (sym (c .before .is-open-at .ensures)) ∙ c .if2 .taken)
+
+look-up-strike-requires : tie.Need-look-up-strike-requires
+look-up-strike-requires c κs =
+    let s = c .before .before .before .before .before .before .before .before .before in
+    let a = s .args in
+    let written = passed (isWritten (callX (a .c) (a .m) (a .h))) (limits (c .before .before .before .before .before .before)) in
+    (s .pre, (search ands, omega (arith, class-room (a .run .now) (s .pre) (a .c) (opened (c .before)), c .before .before .before .before .class-at .ensures)))
 
 same-length-2 : tie.Need-same-length-2
 same-length-2 c = search needs
 
 returns-3 : tie.Need-returns-3
 returns-3 c =
-    let q = c .before .before .before in
-    let l = q .before .before in
-    let k = l .before .before .before in
-    let s = k .before .before in
+    let l = c .before .before in
+    let s = l .before .before .before .before .before .before .before .before .before .before in
     let a = s .args in
-    let w = a .run .now in
-    let limits = ap not (sym (k .is-written .ensures)) ∙ l .before .before .if1 .left in
-    not-standing w (s .pre) (a .c) (a .m) (a .h) (callX (a .c) (a .m) (a .h)) _
-    (delist-number w (s .pre) (a .c) (a .m) (a .h)) limits _
-    (sym (l .look-up-strike .ensures) ∙ q .search .given .1) (c .if2 .taken)
+    not-standing (a .run .now) (s .pre) (a .c) (a .m) (a .h) (callX (a .c) (a .m) (a .h)) _
+    (delist-number (a .run .now) (s .pre) (a .c) (a .m) (a .h)) (limits (l .before .before .before .before .before .before .before)) (opened (l .before .before)) _ (found l) (c .if3 .taken)
 
 mul-field-of : tie.Need-mul-field-of
 mul-field-of c =
-    let q = c .before .before .before in
-    let l = q .before .before in
-    let s = l .before .before .before .before .before in
+    let l = c .before .before in
+    let s = l .before .before .before .before .before .before .before .before .before .before in
     let a = s .args in
     let w = a .run .now in
-    omega (
-      arith,
-      place-within w (s .pre) (a .c) (a .m) (a .h) _ (sym (l .look-up-strike .ensures) ∙ q .search .given .1) (c .if2 .left),
-      book-long w (s .pre),
-    )
+    omega (arith, place-within w (s .pre) (a .c) (a .m) (a .h) (opened (l .before .before)) _ (found l) (c .if3 .left), book-long w (s .pre))
 
 slice-read-field-of : tie.Need-slice-read-field-of
 slice-read-field-of c =
-    let q = c .before .before .before .before in
-    let l = q .before .before in
-    let s = l .before .before .before .before .before in
+    let l = c .before .before .before in
+    let s = l .before .before .before .before .before .before .before .before .before .before in
     let a = s .args in
-    place-within (a .run .now) (s .pre) (a .c) (a .m) (a .h) _ (sym (l .look-up-strike .ensures) ∙ q .search .given .1)
-    (c .before .if2 .left)
+    place-within (a .run .now) (s .pre) (a .c) (a .m) (a .h) (opened (l .before .before)) _ (found l) (c .before .if3 .left)
 
 field-of-requires : tie.Need-field-of-requires
 field-of-requires c κs = search needs
@@ -100,40 +103,47 @@ returns-4 : tie.Need-returns-4
 returns-4 c =
     let i = c .before in
     let t = i .before .before in
-    let q = t .before .before .before in
-    let l = q .before .before in
-    let k = l .before .before .before in
-    let s = k .before .before in
+    let l = t .before .before in
+    let s = l .before .before .before .before .before .before .before .before .before .before in
     let a = s .args in
-    let w = a .run .now in
-    let limits = ap not (sym (k .is-written .ensures)) ∙ l .before .before .if1 .left in
-    delist-marked w (s .pre) (a .c) (a .m) (a .h) _ (sym (l .look-up-strike .ensures) ∙ q .search .given .1) (t .if2 .left) limits
-    (λ z. c .if3 .taken (i .field-of .ensures ∙ z))
+    delist-marked (a .run .now) (s .pre) (a .c) (a .m) (a .h) (opened (l .before .before)) _ (found l) (t .if3 .left) (limits (l .before .before .before .before .before .before .before))
+    (λ z. c .if4 .taken (i .field-of .ensures ∙ z))
 
-add-delist : tie.Need-add-delist
-add-delist c =
-    let t = c .before .before .before .before .before in
-    let q = t .before .before .before in
-    let l = q .before .before in
-    let s = l .before .before .before .before .before in
+sub-is-strike-at : tie.Need-sub-is-strike-at
+sub-is-strike-at c =
+    let t = c .before .before .before .before in
+    let l = t .before .before in
+    let s = l .before .before .before .before .before .before .before .before .before .before in
+    let a = s .args in
+    omega (arith, place-used (a .run .now) (s .pre) (a .c) (a .m) (a .h) (opened (l .before .before)) _ (found l) (t .if3 .left))
+
+is-strike-at-requires : tie.Need-is-strike-at-requires
+is-strike-at-requires c κs = c .before .before .before .before .before .before .before .before .before .before .before .before .before .before .before .before .pre
+
+add-is-strike-at : tie.Need-add-is-strike-at
+add-is-strike-at c =
+    let t = c .before .before .before .before .before .before in
+    let l = t .before .before in
+    let s = l .before .before .before .before .before .before .before .before .before .before in
     let a = s .args in
     let w = a .run .now in
     omega (
       arith,
-      place-used w (s .pre) (a .c) (a .m) (a .h) _ (sym (l .look-up-strike .ensures) ∙ q .search .given .1) (t .if2 .left),
+      place-used w (s .pre) (a .c) (a .m) (a .h) (opened (l .before .before)) _ (found l) (t .if3 .left),
       book-room w (s .pre),
       book-long w (s .pre),
     )
 
+is-strike-at-requires-2 : tie.Need-is-strike-at-requires-2
+is-strike-at-requires-2 c κs = c .before .before .before .before .before .before .before .before .before .before .before .before .before .before .before .before .before .before .pre
+
 delist-requires : tie.Need-delist-requires
 delist-requires c κs =
-    let t = c .before .before .before .before .before .before in
-    let q = t .before .before .before in
-    let l = q .before .before in
-    let s = l .before .before .before .before .before in
+    let t = c .before .before .before .before .before .before .before .before in
+    let l = t .before .before in
+    let s = l .before .before .before .before .before .before .before .before .before .before in
     let a = s .args in
-    let p = place-used (a .run .now) (s .pre) (a .c) (a .m) (a .h) _ (sym (l .look-up-strike .ensures) ∙ q .search .given .1) (t .if2 .left) in
-    (s .pre, (p .0, p .1 .1))
+    (s .pre, place-used (a .run .now) (s .pre) (a .c) (a .m) (a .h) (opened (l .before .before)) _ (found l) (t .if3 .left))
 
 same-length-4 : tie.Need-same-length-4
 same-length-4 c = search needs
@@ -141,21 +151,21 @@ same-length-4 c = search needs
 returns-5 : tie.Need-returns-5
 returns-5 c =
     let d = c .before .before in
-    let u = d .before .before .before .before in
+    let n = d .before .before in
+    let p = n .before .before in
+    let u = p .before .before in
     let i = u .before in
     let t = i .before .before in
-    let q = t .before .before .before in
-    let l = q .before .before in
-    let k = l .before .before .before in
-    let s = k .before .before in
+    let l = t .before .before in
+    let s = l .before .before .before .before .before .before .before .before .before .before in
     let a = s .args in
     let w = a .run .now in
-    let limits = ap not (sym (k .is-written .ensures)) ∙ l .before .before .if1 .left in
-    let e = sym (l .look-up-strike .ensures) ∙ q .search .given .1 in
-    delist-done w (s .pre) (a .c) (a .m) (a .h) _ e (t .if2 .left) limits (sym (i .field-of .ensures) ∙ u .if3 .left) _
-    (d .delist .ensures (a .c) (a .m) (a .h) (class-open w (s .pre) (a .c) (a .m) (a .h) _ e)
-    (strike-standing w (s .pre) (a .c) (a .m) (a .h) _ e (t .if2 .left))
-    (found-place w (s .pre) (a .c) (a .m) (a .h) _ e) (found-alone w (s .pre) (a .c) (a .m) (a .h) _ e))
+    let o = opened (l .before .before) in
+    delist-done w (s .pre) (a .c) (a .m) (a .h) o _ (found l) (t .if3 .left) (limits (l .before .before .before .before .before .before .before)) (sym (i .field-of .ensures) ∙ u .if4 .left) _
+    (d .delist .ensures (a .c) (a .m) (a .h) o (strike-standing w (s .pre) (a .c) (a .m) (a .h) o _ (found l) (t .if3 .left))
+    (found-place w (s .pre) (a .c) (a .m) (a .h) o _ (found l))
+    ((λ j. not (p .is-strike-at .ensures j) && not (n .is-strike-at2 .ensures j))
+    ∙ found-alone w (s .pre) (a .c) (a .m) (a .h) o _ (found l) (t .if3 .left)))
 
 pub delist-strike-spec : {M : Type 1} → statement M
 delist-strike-spec =
@@ -163,11 +173,11 @@ delist-strike-spec =
     (tie.spec
     is-written-requires
     returns
-    look-up-strike-requires
-    enum-known-search
-    enum-told
+    class-at-requires
+    is-open-at-requires
     same-length
     returns-2
+    look-up-strike-requires
     same-length-2
     returns-3
     mul-field-of
@@ -175,7 +185,10 @@ delist-strike-spec =
     field-of-requires
     same-length-3
     returns-4
-    add-delist
+    sub-is-strike-at
+    is-strike-at-requires
+    add-is-strike-at
+    is-strike-at-requires-2
     delist-requires
     same-length-4
     returns-5)

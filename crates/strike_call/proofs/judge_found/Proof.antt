@@ -1,11 +1,14 @@
--- `judge_found` meets its contract: each test is the condition of the facts in its turn, and the rules judge beside the words of the expiration's strikes that can be near. Assumes nothing.
-use mathlib.Core.Path.{sym, _∙_}
-use mathlib.Core.Logic.{inl, inr, ⊎-elim}
+-- `judge_found` meets its contract: each test is the condition of the facts in its turn, and the rules judge beside the words next to the strike's place that are strikes. Assumes nothing.
+use Prim.Native.Nat.{ℕ, _+_, _-_, _≤_}
+use mathlib.Core.Path.{_≡_, sym, ap, ap₂, _∙_}
+use mathlib.Core.Bool.{Bool, cond, _&&_}
+use mathlib.Core.Logic.{⊎-elim}
 use native.Mathlib.Omega.{arith}
+use lib.ListN.{length}
 use borrow.Author.Needs.{needs}
-use Rattle.place.proofs.Heads.{book-month}
+use Rattle.place.proofs.Heads.{book-month, book-room, book-long}
+use Rattle.strike_call.proofs.Beside.{isStrikeAt, beside-within}
 use Rattle.strike_call.proofs.Judgements.{found-outside, found-standing, found-no-close, found-judged}
-use Rattle.strike_call.proofs.StrikeWords.{Lent, lent}
 use Rattle.strike_call.proofs.judge_found.Statement.{statement}
 use Rattle.strike_call.proofs.judge_found.Tie as tie
 
@@ -22,62 +25,90 @@ is-outside-requires c κs =
 
 returns : tie.Need-returns
 returns c =
-    λ k o e.
+    λ k o p e.
     let q = c .before in
     let s = q .before .before .before .before in
     let a = s .args in
-    let w = a .run .now in
-    found-outside w (s .pre .book) k (a .m) (a .h) o (a .found) e _ (q .before .before .figures-at .ensures) _ (q .before .current .ensures)
-    (sym (q .is-outside .ensures) ∙ c .if1 .taken)
+    found-outside (a .run .now) (s .pre .book) k (a .m) (a .h) o (a .class) p (a .found) e _ (q .before .before .figures-at .ensures) _
+    (q .before .current .ensures) (sym (q .is-outside .ensures) ∙ c .if1 .taken)
 
 returns-2 : tie.Need-returns-2
 returns-2 c =
-    λ k o e.
+    λ k o p e.
     let q = c .before .before in
     let s = q .before .before .before .before in
     let a = s .args in
-    let w = a .run .now in
-    found-standing w (s .pre .book) k (a .m) (a .h) o (a .found) e _ (q .before .before .figures-at .ensures) _ (q .before .current .ensures)
-    (sym (q .is-outside .ensures) ∙ c .before .if1 .left) (c .if2 .taken)
+    found-standing (a .run .now) (s .pre .book) k (a .m) (a .h) o (a .class) p (a .found) e _ (q .before .before .figures-at .ensures) _
+    (q .before .current .ensures) (sym (q .is-outside .ensures) ∙ c .before .if1 .left) (c .if2 .taken)
 
 returns-3 : tie.Need-returns-3
 returns-3 c =
-    λ k o e.
+    λ k o p e.
     let t = c .before .before in
     let q = t .before .before in
     let s = q .before .before .before .before in
     let a = s .args in
-    let w = a .run .now in
-    found-no-close w (s .pre .book) k (a .m) (a .h) o (a .found) e _ (q .before .before .figures-at .ensures) _ (q .before .current .ensures)
-    (sym (q .is-outside .ensures) ∙ t .before .if1 .left) (t .if2 .left) (c .if3 .taken)
+    found-no-close (a .run .now) (s .pre .book) k (a .m) (a .h) o (a .class) p (a .found) e _ (q .before .before .figures-at .ensures) _
+    (q .before .current .ensures) (sym (q .is-outside .ensures) ∙ t .before .if1 .left) (t .if2 .left) (c .if3 .taken)
 
-sub-if4 : tie.Need-sub-if4
-sub-if4 c = search needs
+sub-is-strike-at : tie.Need-sub-is-strike-at
+sub-is-strike-at c = c .before .before .before .before .before .before .before .before .before .pre .start
+
+is-strike-at-requires : tie.Need-is-strike-at-requires
+is-strike-at-requires c κs = c .before .before .before .before .before .before .before .before .before .pre .book
 
 sub-from : tie.Need-sub-from
-sub-from c = search needs
+sub-from c = c .before .before .before .before .before .before .before .before .before .before .before .pre .start
 
-sub-if5 : tie.Need-sub-if5
-sub-if5 c = search needs
+-- the part that is lent begins with the word before the place, where that is a strike of the expiration
+begins :
+    (c : tie.Joined4-2) → let a = c .before .before .before .before .before .before .before .before .before .args in
+    c .if4 .from ≡ cond {A = ℕ} (a .found .expiration && isStrikeAt (a .run .now) (a .found .at - 1)) (a .found .at - 1) (a .found .at)
+begins c =
+    let a = c .before .before .before .before .before .before .before .before .before .args in
+    let chosen : Bool → ℕ = λ b. cond {A = ℕ} b (a .found .at - 1) (a .found .at) in
+    ⊎-elim
+    (λ x. x .3 ∙ sym (ap chosen (ap₂ _&&_ (x .0 .taken) (sym (x .1 .ensures) ∙ x .2 .taken))))
+    (λ x.
+    x .1
+    ∙ ⊎-elim (λ y. sym (ap chosen (ap₂ _&&_ (y .0 .taken) (sym (y .1 .ensures) ∙ y .2 .left))))
+    (λ y. sym (ap chosen (ap (λ (b : Bool). b && isStrikeAt (a .run .now) (a .found .at - 1)) (y .left)))) (x .0 .came))
+    (c .if4 .came)
+
+-- .. and ends with the word there, where that is a strike
+ends :
+    (c : tie.Joined6) → let a = c .before .before .before .before .before .before .before .before .before .before .before .args in
+    c .if6 .to ≡ cond {A = ℕ} (isStrikeAt (a .run .now) (a .found .at)) (a .found .at + 1) (a .found .at)
+ends c =
+    let a = c .before .before .before .before .before .before .before .before .before .before .before .args in
+    let chosen : Bool → ℕ = λ b. cond {A = ℕ} b (a .found .at + 1) (a .found .at) in
+    ⊎-elim (λ x. x .1 ∙ sym (ap chosen (sym (c .before .is-strike-at2 .ensures) ∙ x .0 .taken)))
+    (λ x. x .1 ∙ sym (ap chosen (sym (c .before .is-strike-at2 .ensures) ∙ x .0 .left))) (c .if6 .came)
+
+part : (c : tie.Joined6) → (c .before .before .if4 .from ≤ c .if6 .to) × (c .if6 .to ≤ length (c .before .before .before .before .before .before .before .before .before .before .before .args .run .now))
+part c =
+    let s = c .before .before .before .before .before .before .before .before .before .before .before in
+    let w = s .args .run .now in
+    let r = s .args .found in
+    let p = beside-within w (r .at) _ _ (r .expiration && isStrikeAt w (r .at - 1)) (begins (c .before .before)) (ends c) (s .pre .within) in
+    (p .0, omega (arith, p .1, book-room w (s .pre .book)))
+
+is-strike-at-requires-2 : tie.Need-is-strike-at-requires-2
+is-strike-at-requires-2 c κs = c .before .before .before .before .before .before .before .before .before .pre .book
 
 add-to : tie.Need-add-to
-add-to c = search needs
-
--- the part that is lent has the two strikes below and the two above
-part : (c : tie.Joined5) →
-    let r = c .before .before .before .before .before .before .before .before .before .before .before .before .args .found in
-    Lent (r .from) (r .at) (r .to) (c .before .before .if4 .from) (c .if5 .to)
-part c =
-    let pre = c .before .before .before .before .before .before .before .before .before .before .before .before .pre in
-    lent (pre .start) (pre .stop)
-    (⊎-elim (λ w. inl (w .0 .taken, w .1)) (λ w. inr (w .0 .left, w .1)) (c .before .before .if4 .came))
-    (⊎-elim (λ w. inl (w .0 .taken, w .1)) (λ w. inr (w .0 .left, w .1)) (c .if5 .came))
+add-to c =
+    let s = c .before .before .before .before .before .before .before .before .before .before .before in
+    let w = s .args .run .now in
+    omega (arith, s .pre .within, book-room w (s .pre .book), book-long w (s .pre .book))
 
 mul-judge : tie.Need-mul-judge
-mul-judge c = let p = part (c .before) in search needs
+mul-judge c =
+    let s = c .before .before .before .before .before .before .before .before .before .before .before .before in
+    omega (arith, part (c .before), book-long (s .args .run .now) (s .pre .book))
 
 sub-judge : tie.Need-sub-judge
-sub-judge c = part (c .before .before) .order
+sub-judge c = part (c .before .before) .0
 
 part-judge-start : tie.Need-part-judge-start
 part-judge-start c = let p = part (c .before .before) in search needs
@@ -87,7 +118,7 @@ part-judge-end c = let p = part (c .before .before) in search needs
 
 judge-requires : tie.Need-judge-requires
 judge-requires c κs =
-    let q = c .before .before .before .before .before .before .before .before .before .before .before in
+    let q = c .before .before .before .before .before .before .before .before .before .before in
     let s = q .before .before .before .before in
     record {
       close = rw (q .before .before .figures-at .ensures) (s .pre .close);
@@ -97,16 +128,16 @@ judge-requires c κs =
 
 returns-4 : tie.Need-returns-4
 returns-4 c =
-    λ k o e.
+    λ k o p e.
     let j = c .before .before .before .before in
-    let u = j .before .before .before .before in
+    let u = j .before .before .before in
     let t = u .before .before in
     let q = t .before .before in
     let s = q .before .before .before .before in
     let a = s .args in
-    let w = a .run .now in
-    found-judged w (s .pre .book) k (a .m) (a .h) o (a .found) e _ (q .before .before .figures-at .ensures) _ (q .before .current .ensures)
-    (sym (q .is-outside .ensures) ∙ t .before .if1 .left) (t .if2 .left) (u .if3 .left) _ _ (part j) _ (c .judge .ensures)
+    found-judged (a .run .now) (s .pre .book) k (a .m) (a .h) o (a .class) p (a .found) e _ (q .before .before .figures-at .ensures) _
+    (q .before .current .ensures) (sym (q .is-outside .ensures) ∙ t .before .if1 .left) (t .if2 .left) (u .if3 .left) _ _
+    (begins (j .before .before)) (ends j) _ (c .judge .ensures)
 
 pub judge-found-spec : {M : Type 1} → statement M
 judge-found-spec =
@@ -118,9 +149,10 @@ judge-found-spec =
     returns
     returns-2
     returns-3
-    sub-if4
+    sub-is-strike-at
+    is-strike-at-requires
     sub-from
-    sub-if5
+    is-strike-at-requires-2
     add-to
     mul-judge
     sub-judge

@@ -1,16 +1,43 @@
--- `list_permitted` meets its contract: each test is the condition of the facts in its turn, and the strikes are listed beside the words of the expiration's strikes. Assumes nothing.
-use mathlib.Core.Path.{sym, _∙_}
-use mathlib.Core.Bool.{not, _&&_}
+-- `list_permitted` is the call `A`: each test is the condition of the facts in its turn, and the strikes are listed beside the words of the expiration's strikes. Assumes nothing.
+use Prim.Native.Nat.{_≤_}
+use mathlib.Core.Path.{_≡_, sym, ap, ap₂, _∙_}
+use mathlib.Core.Bool.{Bool, false, not, _&&_}
 use native.Mathlib.Omega.{arith}
-use Rattle.word.specs.Limits.{isMonth, isClassNumber}
-use Rattle.book.proofs.Tests.{ands}
-use Rattle.place.proofs.Heads.{book-long, book-month}
-use Rattle.place.proofs.Answers.{strikes-room}
-use Rattle.strike_call.proofs.Standing.{passed}
-use Rattle.strike_call.proofs.Permitting.{permitting-beyond, permitting-not-open, permitting-room, permitting-outside, permitting-no-close, permitting-listable, permitting-filled}
+use lib.Dec.{T}
+use lib.ListN.{length}
 use borrow.Author.Needs.{needs}
+use Rattle.word.specs.Limits.{isMonth, isClassNumber}
+use Rattle.book.specs.Facts.{isOpen}
+use Rattle.book.specs.Layout.{factsOf}
+use Rattle.book.proofs.Tests.{ands}
+use Rattle.place.specs.Lookups.{expirationOf}
+use Rattle.place.proofs.Found.{class-room}
+use Rattle.place.proofs.Heads.{book-long, book-month, book-room}
+use Rattle.strike_call.proofs.Standing.{passed}
+use Rattle.strike_call.proofs.Permitting.{part-within, permitting-beyond, permitting-not-open, permitting-outside, permitting-no-close, permitting-listable, permitting-filled}
 use Rattle.strike_call.proofs.list_permitted.Statement.{statement}
 use Rattle.strike_call.proofs.list_permitted.Tie as tie
+
+-- the limits, as the code joins them
+joined :
+    (c : tie.After-is-month) → let a = c .before .before .before .before .args in
+    not (isClassNumber (a .c) && isMonth (a .m)) ≡ not (c .before .is-class-number .result && c .is-month .result)
+joined c = ap₂ (λ (x y : Bool). not (x && y)) (sym (c .before .is-class-number .ensures)) (sym (c .is-month .ensures))
+
+limits : (c : tie.Else1) → let a = c .before .before .before .before .before .args in not (isClassNumber (a .c) && isMonth (a .m)) ≡ false
+limits c = joined (c .before) ∙ c .if1 .left
+
+opened : (c : tie.Else2) → let a = c .before .before .before .before .before .before .before .before .args in T (isOpen (a .c) (factsOf (a .run .now) .classes))
+opened c =
+    let a = c .before .before .before .before .before .before .before .before .args in
+    passed (isOpen (a .c) (factsOf (a .run .now) .classes)) (ap not (sym (c .before .is-open-at .ensures)) ∙ c .if2 .left)
+
+found :
+    (c : tie.After-look-up-expiration) → let a = c .before .before .before .before .before .before .before .before .before .before .before .before .before .before .before .args in
+    c .look-up-expiration .result ≡ expirationOf (a .c) (a .m) (factsOf (a .run .now))
+found c =
+    let e = c .before .before .before .before .before .before .before in
+    c .look-up-expiration .ensures (c .before .before .before .before .before .before .before .before .before .before .before .before .before .before .before .args .c) (opened e) (e .before .before .class-at .ensures)
 
 is-class-number-requires : tie.Need-is-class-number-requires
 is-class-number-requires c κs = search needs
@@ -20,146 +47,123 @@ is-month-requires c κs = search needs
 
 returns : tie.Need-returns
 returns c =
-    let k = c .before in
-    let s = k .before .before .before .before in
+    let s = c .before .before .before .before .before in
     let a = s .args in
-    permitting-beyond (a .run .now) (a .second .now) (s .pre) (a .c) (a .m)
-    ((λ i. not (sym (k .before .is-class-number .ensures) i && sym (k .is-month .ensures) i)) ∙ c .if1 .taken)
+    permitting-beyond (a .run .now) (a .second .now) (s .pre) (a .c) (a .m) (joined (c .before) ∙ c .if1 .taken)
 
-look-up-expiration-requires : tie.Need-look-up-expiration-requires
-look-up-expiration-requires c κs =
-    let k = c .before in
-    let s = k .before .before .before .before in
+class-at-requires : tie.Need-class-at-requires
+class-at-requires c κs =
+    let s = c .before .before .before .before .before in
     let a = s .args in
-    let limits =
-    passed (isClassNumber (a .c) && isMonth (a .m))
-    ((λ i. not (sym (k .before .is-class-number .ensures) i && sym (k .is-month .ensures) i)) ∙ c .if1 .left) in
+    let written = passed (isClassNumber (a .c) && isMonth (a .m)) (limits c) in
     (s .pre, search ands)
 
-enum-known-search : tie.Need-enum-known-search
-enum-known-search c = search needs
-
-enum-told : tie.Need-enum-told
-enum-told c = search needs
+is-open-at-requires : tie.Need-is-open-at-requires
+is-open-at-requires c κs = (c .before .before .before .before .before .before .pre, c .class-at .ensures)
 
 returns-2 : tie.Need-returns-2
 returns-2 c =
-    let l = c .before .before in
-    let k = l .before .before in
-    let s = k .before .before .before .before in
+    let s = c .before .before .before .before .before .before .before .before in
     let a = s .args in
-    permitting-not-open (a .run .now) (a .second .now) (s .pre) (a .c) (a .m)
-    ((λ i. not (sym (k .before .is-class-number .ensures) i && sym (k .is-month .ensures) i)) ∙ l .before .if1 .left) (sym (l .look-up-expiration .ensures) ∙ c .enum-told .given .1)
+    permitting-not-open (a .run .now) (a .second .now) (s .pre) (a .c) (a .m) (limits (c .before .before .before))
+    (ap not (sym (c .before .is-open-at .ensures)) ∙ c .if2 .taken)
 
 figures-at-requires : tie.Need-figures-at-requires
 figures-at-requires c κs =
-    let q = c .before in
-    let l = q .before .before in
-    let k = l .before .before in
-    let s = k .before .before .before .before in
+    let s = c .before .before .before .before .before .before .before .before in
     let a = s .args in
-    let look = sym (l .look-up-expiration .ensures) ∙ q .search .given .1 in
-    permitting-room (a .run .now) (a .second .now) (s .pre) (a .c) (a .m)
-    ((λ i. not (sym (k .before .is-class-number .ensures) i && sym (k .is-month .ensures) i)) ∙ l .before .if1 .left) _ look
+    let q = c .before .before in
+    omega (arith, class-room (a .run .now) (s .pre) (a .c) (opened c), q .class-at .ensures, book-room (a .run .now) (s .pre))
 
 current-requires : tie.Need-current-requires
 current-requires c κs = search needs
 
 is-outside-requires : tie.Need-is-outside-requires
 is-outside-requires c κs =
-    let s = c .before .before .before .before .before .before .before .before .before .before .before in
+    let s = c .before .before .before .before .before .before .before .before .before .before in
     omega (arith, book-month (s .args .run .now) (s .pre), c .current .ensures)
 
 returns-3 : tie.Need-returns-3
 returns-3 c =
-    let q = c .before .before .before .before .before in
-    let l = q .before .before in
-    let k = l .before .before in
-    let s = k .before .before .before .before in
+    let g = c .before .before .before in
+    let e = g .before in
+    let q = e .before .before in
+    let s = e .before .before .before .before .before .before .before .before in
     let a = s .args in
-    let look = sym (l .look-up-expiration .ensures) ∙ q .search .given .1 in
-    permitting-outside (a .run .now) (a .second .now) (s .pre) (a .c) (a .m)
-    ((λ i. not (sym (k .before .is-class-number .ensures) i && sym (k .is-month .ensures) i)) ∙ l .before .if1 .left) _ look _ (c .before .before .before .figures-at .ensures) _ (c .before .before .current .ensures)
-    (sym (c .before .is-outside .ensures) ∙ c .if2 .taken)
+    permitting-outside (a .run .now) (a .second .now) (s .pre) (a .c) (a .m) (limits (q .before)) (opened e) _ (q .class-at .ensures) _
+    (g .figures-at .ensures) _ (c .before .before .current .ensures) (sym (c .before .is-outside .ensures) ∙ c .if3 .taken)
 
 returns-4 : tie.Need-returns-4
 returns-4 c =
-    let q = c .before .before .before .before .before .before .before in
-    let l = q .before .before in
-    let k = l .before .before in
-    let s = k .before .before .before .before in
+    let t = c .before .before in
+    let g = t .before .before .before in
+    let e = g .before in
+    let q = e .before .before in
+    let s = e .before .before .before .before .before .before .before .before in
     let a = s .args in
-    let look = sym (l .look-up-expiration .ensures) ∙ q .search .given .1 in
-    permitting-no-close (a .run .now) (a .second .now) (s .pre) (a .c) (a .m)
-    ((λ i. not (sym (k .before .is-class-number .ensures) i && sym (k .is-month .ensures) i)) ∙ l .before .if1 .left) _ look _ (c .before .before .before .before .before .figures-at .ensures) _ (c .before .before .before .before .current .ensures)
-    (sym (c .before .before .before .is-outside .ensures) ∙ c .before .before .if2 .left) (c .if3 .taken)
+    permitting-no-close (a .run .now) (a .second .now) (s .pre) (a .c) (a .m) (limits (q .before)) (opened e) _ (q .class-at .ensures) _
+    (g .figures-at .ensures) _ (t .before .before .current .ensures) (sym (t .before .is-outside .ensures) ∙ t .if3 .left) (c .if4 .taken)
+
+look-up-expiration-requires : tie.Need-look-up-expiration-requires
+look-up-expiration-requires c κs =
+    let e = c .before .before .before .before .before .before in
+    let q = e .before .before in
+    let s = e .before .before .before .before .before .before .before .before in
+    let a = s .args in
+    let written = passed (isClassNumber (a .c) && isMonth (a .m)) (limits (q .before)) in
+    (s .pre, (search ands, omega (arith, class-room (a .run .now) (s .pre) (a .c) (opened e), q .class-at .ensures)))
+
+part :
+    (c : tie.After-look-up-expiration) → let r = c .look-up-expiration .result in
+    (r .from ≤ r .to) × (r .to ≤ length (c .before .before .before .before .before .before .before .before .before .before .before .before .before .before .before .args .run .now))
+part c =
+    let s = c .before .before .before .before .before .before .before .before .before .before .before .before .before .before .before in
+    let a = s .args in
+    part-within (a .run .now) (s .pre) (a .c) (a .m) (opened (c .before .before .before .before .before .before .before)) _ (found c)
 
 mul-list-permitted : tie.Need-mul-list-permitted
 mul-list-permitted c =
-    let q = c .before .before .before .before .before .before .before in
-    let l = q .before .before in
-    let k = l .before .before in
-    let s = k .before .before .before .before in
-    let a = s .args in
-    let look = sym (l .look-up-expiration .ensures) ∙ q .search .given .1 in
-    omega (arith, strikes-room (a .run .now) (s .pre) (a .c) (a .m) _ look, book-long (a .run .now) (s .pre))
+    let s = c .before .before .before .before .before .before .before .before .before .before .before .before .before .before .before in
+    omega (arith, part c, book-long (s .args .run .now) (s .pre))
 
 sub-list-permitted : tie.Need-sub-list-permitted
-sub-list-permitted c =
-    let q = c .before .before .before .before .before .before .before in
-    let l = q .before .before in
-    let k = l .before .before in
-    let s = k .before .before .before .before in
-    let a = s .args in
-    let look = sym (l .look-up-expiration .ensures) ∙ q .search .given .1 in
-    omega (arith, strikes-room (a .run .now) (s .pre) (a .c) (a .m) _ look, book-long (a .run .now) (s .pre))
+sub-list-permitted c = part c .0
 
 part-list-permitted-start : tie.Need-part-list-permitted-start
-part-list-permitted-start c =
-    let q = c .before .before .before .before .before .before .before in
-    let l = q .before .before in
-    let k = l .before .before in
-    let s = k .before .before .before .before in
-    let a = s .args in
-    let look = sym (l .look-up-expiration .ensures) ∙ q .search .given .1 in
-    omega (arith, strikes-room (a .run .now) (s .pre) (a .c) (a .m) _ look, book-long (a .run .now) (s .pre))
+part-list-permitted-start c = let p = part c in search needs
 
 part-list-permitted-end : tie.Need-part-list-permitted-end
-part-list-permitted-end c =
-    let q = c .before .before .before .before .before .before .before in
-    let l = q .before .before in
-    let k = l .before .before in
-    let s = k .before .before .before .before in
-    let a = s .args in
-    let look = sym (l .look-up-expiration .ensures) ∙ q .search .given .1 in
-    omega (arith, strikes-room (a .run .now) (s .pre) (a .c) (a .m) _ look, book-long (a .run .now) (s .pre))
+part-list-permitted-end c = let p = part c in search needs
 
 list-permitted-requires : tie.Need-list-permitted-requires
 list-permitted-requires c κs =
-    let q = c .before .before .before .before .before .before .before .before .before in
-    let l = q .before .before in
-    let k = l .before .before in
-    let s = k .before .before .before .before in
+    let x = c .before .before in
+    let t = x .before .before .before in
+    let g = t .before .before .before in
+    let e = g .before in
+    let q = e .before .before in
+    let s = e .before .before .before .before .before .before .before .before in
     let a = s .args in
-    let look = sym (l .look-up-expiration .ensures) ∙ q .search .given .1 in
-    permitting-listable (a .run .now) (a .second .now) (s .pre) (a .c) (a .m)
-    ((λ i. not (sym (k .before .is-class-number .ensures) i && sym (k .is-month .ensures) i)) ∙ l .before .if1 .left) _ look _ (c .before .before .before .before .before .before .before .figures-at .ensures) _ (c .before .before .before .before .before .before .current .ensures)
-    (sym (c .before .before .before .before .before .is-outside .ensures) ∙ c .before .before .before .before .if2 .left)
+    permitting-listable (a .run .now) (a .second .now) (s .pre) (a .c) (a .m) (limits (q .before)) (opened e) _ (q .class-at .ensures) _
+    (g .figures-at .ensures) _ (t .before .before .current .ensures) (sym (t .before .is-outside .ensures) ∙ t .if3 .left) _ (found x)
 
 same-length : tie.Need-same-length
 same-length c = search needs
 
 returns-5 : tie.Need-returns-5
 returns-5 c =
-    let q = c .before .before .before .before .before .before .before .before .before .before .before .before in
-    let l = q .before .before in
-    let k = l .before .before in
-    let s = k .before .before .before .before in
+    let y = c .before .before in
+    let x = y .before .before .before in
+    let u = x .before in
+    let t = u .before .before in
+    let g = t .before .before .before in
+    let e = g .before in
+    let q = e .before .before in
+    let s = e .before .before .before .before .before .before .before .before in
     let a = s .args in
-    let look = sym (l .look-up-expiration .ensures) ∙ q .search .given .1 in
-    permitting-filled (a .run .now) (a .second .now) (s .pre) (a .c) (a .m)
-    ((λ i. not (sym (k .before .is-class-number .ensures) i && sym (k .is-month .ensures) i)) ∙ l .before .if1 .left) _ look _ (c .before .before .before .before .before .before .before .before .before .before .figures-at .ensures) _ (c .before .before .before .before .before .before .before .before .before .current .ensures)
-    (sym (c .before .before .before .before .before .before .before .before .is-outside .ensures) ∙ c .before .before .before .before .before .before .before .if2 .left) (c .before .before .before .before .before .if3 .left) (c .before .before .list-permitted .ensures)
+    permitting-filled (a .run .now) (a .second .now) (s .pre) (a .c) (a .m) (limits (q .before)) (opened e) _ (q .class-at .ensures) _
+    (g .figures-at .ensures) _ (t .before .before .current .ensures) (sym (t .before .is-outside .ensures) ∙ t .if3 .left) _ (found x)
+    (u .if4 .left) (y .list-permitted .ensures)
 
 pub list-permitted-spec : {M : Type 1} → statement M
 list-permitted-spec =
@@ -168,15 +172,15 @@ list-permitted-spec =
     is-class-number-requires
     is-month-requires
     returns
-    look-up-expiration-requires
-    enum-known-search
-    enum-told
+    class-at-requires
+    is-open-at-requires
     returns-2
     figures-at-requires
     current-requires
     is-outside-requires
     returns-3
     returns-4
+    look-up-expiration-requires
     mul-list-permitted
     sub-list-permitted
     part-list-permitted-start

@@ -1,4 +1,4 @@
--- `current` reads the head: a book has a first word, and its field is the fact.
+-- `current` reads the head: a book has a first word, and its field is the fact. Assumes nothing.
 use mathlib.Core.Path.{_∙_}
 use borrow.Author.Needs.{needs}
 use Rattle.place.proofs.Heads.{book-long, head-says}

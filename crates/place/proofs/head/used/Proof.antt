@@ -1,4 +1,4 @@
--- `used` reads the head: a book has a first word, and its field is the fact.
+-- `used` reads the head: a book has a first word, and its field is the fact. Assumes nothing.
 use mathlib.Core.Path.{_∙_}
 use borrow.Author.Needs.{needs}
 use Rattle.place.proofs.Heads.{book-long, head-says}

@@ -1,4 +1,4 @@
--- `figures_at` reads the figures of a class: each field is what its call gives.
+-- `figures_at` reads the figures of a class: each field is what its call gives. Assumes nothing.
 use borrow.Author.Needs.{needs}
 use Rattle.place.proofs.lookup.figures_at.Statement.{statement}
 use Rattle.place.proofs.lookup.figures_at.Tie as tie

@@ -1,99 +1,89 @@
--- `look_up_expiration` finds the strikes of an expiration: among the words after the three of the class.
-use mathlib.Core.Path.{sym, _∙_}
+-- `look_up_expiration` finds the strikes of an expiration: after its word where that stands, to the next word that is no strike. Assumes nothing.
+use Prim.Native.Nat.{_<_}
 use native.Mathlib.Omega.{arith}
+use lib.Dec.{leb→le}
 use borrow.Author.Needs.{needs}
-use Rattle.place.proofs.Answers.{no-expiration, series-within, places-within, answer-expiration}
+use Rattle.book.specs.Layout.{used, factsOf}
 use Rattle.place.proofs.Heads.{book-room}
+use Rattle.place.proofs.Answers.{used-there, no-expiration, its-strikes}
 use Rattle.place.proofs.lookup.look_up_expiration.Statement.{statement}
 use Rattle.place.proofs.lookup.look_up_expiration.Tie as tie
 
-look-up-requires : tie.Need-look-up-requires
-look-up-requires c κs = search needs
+-- the word of the expiration is one of those used
+within :
+    (c : tie.Else1)
+    → let p = c .before .before .before in
+    p .expiration-at .result < used (factsOf (p .before .before .args .run .now))
+within c = used-there _ _ _ _ (c .before .is-word-at .ensures) (c .if1 .left)
 
-enum-told : tie.Need-enum-told
-enum-told c = search needs
+expiration-at-requires : tie.Need-expiration-at-requires
+expiration-at-requires c κs = search needs
 
-enum-known-at : tie.Need-enum-known-at
-enum-known-at c = search needs
+expiration-word-requires : tie.Need-expiration-word-requires
+expiration-word-requires c κs =
+    let s = c .before .before in
+    omega (arith, leb→le (s .args .m) 1023 (s .pre .1 .0))
 
-add-begin : tie.Need-add-begin
-add-begin c =
-    let k = c .before in
-    let s = k .before .before .before .before in
-    omega (arith, series-within _ (s .pre .0) _ _ _ (sym (k .before .before .look-up .ensures) ∙ k .at .given .1), book-room _ (s .pre .0))
+is-word-at-requires : tie.Need-is-word-at-requires
+is-word-at-requires c κs = search needs
+
+returns : tie.Need-returns
+returns c =
+    let i = c .before in
+    let p = i .before .before in
+    let s = p .before .before in
+    λ n o e.
+    no-expiration _ (s .pre .0) _ _ (leb→le (s .args .m) 1023 (s .pre .1 .0)) _ _ _ (p .expiration-at .ensures .0)
+    (i .before .expiration-word .ensures) (i .is-word-at .ensures) n o e (c .if1 .taken)
+
+add-from : tie.Need-add-from
+add-from c = omega (arith, within c, book-room _ (c .before .before .before .before .before .pre .0))
 
 used-requires : tie.Need-used-requires
 used-requires c κs = search needs
 
-mul-strikes-in : tie.Need-mul-strikes-in
-mul-strikes-in c =
-    let k = c .before .before in
-    let s = k .before .before .before .before in
-    omega (arith, series-within _ (s .pre .0) _ _ _ (sym (k .before .before .look-up .ensures) ∙ k .at .given .1), book-room _ (s .pre .0))
+mul-first : tie.Need-mul-first
+mul-first c = omega (arith, within (c .before), book-room _ (c .before .before .before .before .before .before .pre .0))
 
-sub-strikes-in : tie.Need-sub-strikes-in
-sub-strikes-in c =
-    let k = c .before .before in
-    let s = k .before .before .before .before in
-    omega (arith, series-within _ (s .pre .0) _ _ _ (sym (k .before .before .look-up .ensures) ∙ k .at .given .1), book-room _ (s .pre .0))
+sub-first : tie.Need-sub-first
+sub-first c = omega (arith, within (c .before))
 
-part-strikes-in-start : tie.Need-part-strikes-in-start
-part-strikes-in-start c =
-    let k = c .before .before in
-    let s = k .before .before .before .before in
-    omega (arith, series-within _ (s .pre .0) _ _ _ (sym (k .before .before .look-up .ensures) ∙ k .at .given .1), book-room _ (s .pre .0))
+part-first-start : tie.Need-part-first-start
+part-first-start c = omega (arith, within (c .before))
 
-part-strikes-in-end : tie.Need-part-strikes-in-end
-part-strikes-in-end c = omega (arith, book-room _ (c .before .before .before .before .before .before .pre .0))
+part-first-end : tie.Need-part-first-end
+part-first-end c = omega (arith, within (c .before), book-room _ (c .before .before .before .before .before .before .pre .0))
 
-strikes-in-requires : tie.Need-strikes-in-requires
-strikes-in-requires c κs = search needs
+first-requires : tie.Need-first-requires
+first-requires c κs = search needs
 
-add-t10 : tie.Need-add-t10
-add-t10 c =
-    let p = c .before in
-    let n = p .before .before in
-    let k = n .before .before in
-    let s = k .before .before .before .before in
-    let l = sym (k .before .before .look-up .ensures) ∙ k .at .given .1 in
-    omega (arith, places-within _ (s .pre .0) _ _ _ l (s .args .m) _ _ (s .pre .1) (n .used .ensures) (p .strikes-in .ensures) .0)
-
-add-t12 : tie.Need-add-t12
-add-t12 c =
-    let p = c .before .before in
-    let n = p .before .before in
-    let k = n .before .before in
-    let s = k .before .before .before .before in
-    let l = sym (k .before .before .look-up .ensures) ∙ k .at .given .1 in
-    omega (arith, places-within _ (s .pre .0) _ _ _ l (s .args .m) _ _ (s .pre .1) (n .used .ensures) (p .strikes-in .ensures) .1)
-
-returns : tie.Need-returns
-returns c = no-expiration _ _ _ _ (sym (c .before .before .look-up .ensures) ∙ c .enum-told .given .1)
+add-t16 : tie.Need-add-t16
+add-t16 c = omega (arith, within (c .before .before .before), book-room _ (c .before .before .before .before .before .before .before .before .pre .0))
 
 returns-2 : tie.Need-returns-2
 returns-2 c =
-    let p = c .before .before in
-    let n = p .before .before in
-    let k = n .before .before in
-    let s = k .before .before .before .before in
-    let l = sym (k .before .before .look-up .ensures) ∙ k .at .given .1 in
-    answer-expiration _ (s .pre .0) _ _ _ l (s .args .m) _ _ (s .pre .1) (n .used .ensures) (p .strikes-in .ensures)
+    let u = c .before .before in
+    let i = u .before .before in
+    let p = i .before .before in
+    let s = p .before .before in
+    λ n o e.
+    its-strikes _ (s .pre .0) _ _ (leb→le (s .args .m) 1023 (s .pre .1 .0)) _ _ _ (p .expiration-at .ensures .0)
+    (i .before .expiration-word .ensures) (i .is-word-at .ensures) n o e (u .before .if1 .left) _ (u .used .ensures) _ (c .first .ensures .0)
 
 pub look-up-expiration-spec : {M : Type 1} → statement M
 look-up-expiration-spec =
     tie.close
     (tie.spec
-    look-up-requires
-    enum-told
-    enum-known-at
-    add-begin
-    used-requires
-    mul-strikes-in
-    sub-strikes-in
-    part-strikes-in-start
-    part-strikes-in-end
-    strikes-in-requires
-    add-t10
-    add-t12
+    expiration-at-requires
+    expiration-word-requires
+    is-word-at-requires
     returns
+    add-from
+    used-requires
+    mul-first
+    sub-first
+    part-first-start
+    part-first-end
+    first-requires
+    add-t16
     returns-2)

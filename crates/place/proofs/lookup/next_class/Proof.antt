@@ -1,4 +1,4 @@
--- `next_class` finds the next class word: it is lent the words to the last one used, and none of them is of a lower kind.
+-- `next_class` finds the next class word: it is lent the words to the last one used, and none of them is of a lower kind. Assumes nothing.
 use native.Mathlib.Omega.{arith}
 use borrow.Author.Needs.{needs}
 use Rattle.place.proofs.Heads.{book-room}
@@ -21,9 +21,6 @@ part-first-start c = search needs
 part-first-end : tie.Need-part-first-end
 part-first-end c = omega (arith, book-room _ (c .before .before .pre .0))
 
-class-word-requires : tie.Need-class-word-requires
-class-word-requires c κs = search needs
-
 first-requires : tie.Need-first-requires
 first-requires c κs = search needs
 
@@ -32,12 +29,11 @@ add-result c = search needs
 
 returns : tie.Need-returns
 returns c =
-    let u = c .before .before .before in
+    let u = c .before .before in
     let p = u .before .before .pre in (
       rw (
         ← u .used .ensures,
         c .first .ensures .0,
-        c .before .class-word .ensures,
         next-class-word _ (p .0) _ _ (p .1 .0) (omega arith) (u .used .ensures),
       ),
       omega arith,
@@ -52,7 +48,6 @@ next-class-spec =
     sub-first
     part-first-start
     part-first-end
-    class-word-requires
     first-requires
     add-result
     returns)

@@ -1,4 +1,4 @@
--- `designation_in` reads the designation of a class word: the branch taken says whether the word is one.
+-- `designation_in` reads the designation of a class word: the branch taken says whether the word is one. Assumes nothing.
 use borrow.Author.Tests.{eq-eqb, ne-eqb}
 use borrow.Author.Needs.{needs}
 use Rattle.place.proofs.own.designation_in.Statement.{statement}

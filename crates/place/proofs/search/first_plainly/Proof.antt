@@ -1,4 +1,4 @@
--- `first_plainly` finds the first word: what is left of the words has it, until the word at the index is it or none is left.
+-- `first_plainly` finds the first word: what is left of the words has it, until the word at the index is it or none is left. Assumes nothing.
 use Prim.Native.Nat.{ℕ, _-_}
 use mathlib.Core.Path.{sym, ap, _∙_}
 use native.Mathlib.Omega.{arith}
@@ -12,10 +12,10 @@ use Rattle.place.proofs.search.first_plainly.Statement.{statement}
 use Rattle.place.proofs.search.first_plainly.Tie as tie
 
 abbrev Inv-loop : tie.InvT-loop
-Inv-loop words most i₀ i = Seeking (λ w. leb (rankOf w) most) words i
+Inv-loop words width most i₀ i = Seeking (λ w. leb (rankOf width w) most) words i
 
 abbrev μ-loop : tie.MeasureT-loop
-μ-loop words most i₀ i = length words - i
+μ-loop words width most i₀ i = length words - i
 
 loop-holds : tie.Need-loop-holds Inv-loop μ-loop
 loop-holds c = seek-start _ _

@@ -1,9 +1,10 @@
 -- `expire` lays out the facts after `M`: class by class, by the loop's law of expiring. Assumes nothing.
-use Prim.Native.Nat.{ℕ, _+_, _-_}
+use Prim.Native.Nat.{ℕ, _+_, _-_, _≤_}
 use mathlib.Core.Path.{_≡_, ap, _∙_}
 use mathlib.Core.Logic.{⊎-elim}
 use native.Mathlib.Omega.{arith}
 use lib.ListN.{length, length-set}
+use borrow.Rule.Slice.PartMut.{mid-len}
 use borrow.Author.Needs.{needs}
 use Rattle.place.proofs.Heads.{book-room, book-long}
 use Rattle.removal.proofs.Expiring.{Expiring, expire-start, AtClass, at-class, expire-stay, expire-move, expire-done}
@@ -21,13 +22,25 @@ here :
     (c : tie.In-loop Inv-loop μ-loop)
     → AtClass (c .before .before .before .before .before .args .m) (c .before .before .before .before .before .args .run .now)
     (c .before .loop .run) (c .before .loop .written) (c .before .loop .kept) (c .before .loop .at)
-here c = at-class _ _ (c .before .loop .inv) (omega (arith, c .before .before .used .ensures))
+here c =
+    at-class _ _ (c .before .loop .inv) (omega (arith, c .before .before .before .before .before .pre .1)) (omega (arith, c .before .before .used .ensures))
+
+-- what stays begins within the words used
+stays-within :
+    (c : tie.After-first Inv-loop μ-loop) → c .before .before .before .before .loop .at + 3 + c .first .result ≤ c .before .before .before .before .before .used .result
+stays-within c =
+    let at = c .before .before .before .before .loop in
+    let end = c .before .before .before .before .before .used in
+    let three = here (c .before .before .before) .three in
+    let room = at .inv .room in
+    let long = at .inv .long in
+    omega (arith, end .ensures, c .first .ensures .1, mid-len (at .at + 3) (end .result) (at .run) (omega (arith, end .ensures)))
 
 joined-long :
     (c : tie.Joined1 Inv-loop μ-loop)
-    → length (c .if1 .run) ≡ length (c .before .before .before .before .before .before .before .before .args .run .now)
+    → length (c .if1 .run) ≡ length (c .before .before .before .before .before .before .before .before .before .args .run .now)
 joined-long c =
-    let long = c .before .before .before .before .loop .inv .long in
+    let long = c .before .before .before .before .before .loop .inv .long in
     ⊎-elim (λ w. ap length (w .5) ∙ w .2 .kept .0 ∙ long) (λ w. ap length (w .1) ∙ long) (c .if1 .came)
 
 used-requires : tie.Need-used-requires Inv-loop μ-loop
@@ -39,46 +52,46 @@ loop-holds c = expire-start _ _ (c .before .before .before .pre .0)
 add-start : tie.Need-add-start Inv-loop μ-loop
 add-start c = omega (arith, book-long _ (c .before .before .before .before .before .pre .0))
 
-stays-from-requires : tie.Need-stays-from-requires Inv-loop μ-loop
-stays-from-requires c κs =
-    let end = c .before .before .before .used .ensures in
-    let three = here (c .before) .three in
-    omega (arith, c .before .before .loop .inv .room, c .before .before .loop .inv .long)
+mul-first : tie.Need-mul-first Inv-loop μ-loop
+mul-first c =
+    omega (arith, book-long _ (c .before .before .before .before .before .pre .0), book-room _ (c .before .before .before .before .before .pre .0), c .before .before .used .ensures)
+
+sub-first : tie.Need-sub-first Inv-loop μ-loop
+sub-first c = omega (arith, here c .three, c .before .before .used .ensures)
+
+part-first-start : tie.Need-part-first-start Inv-loop μ-loop
+part-first-start c = omega (arith, here (c .before) .three, c .before .before .before .used .ensures)
+
+part-first-end : tie.Need-part-first-end Inv-loop μ-loop
+part-first-end c = omega (arith, c .before .before .loop .inv .room, c .before .before .loop .inv .long, c .before .before .before .used .ensures)
+
+first-requires : tie.Need-first-requires Inv-loop μ-loop
+first-requires c κs = omega (arith, c .before .before .before .before .before .before .before .pre .1)
+
+add-stays : tie.Need-add-stays Inv-loop μ-loop
+add-stays c = omega arith
 
 move-to-requires : tie.Need-move-to-requires Inv-loop μ-loop
 move-to-requires c κs =
-    let three = here (c .before .before .before .before) .three in
-    omega (arith, c .before .before .before .before .before .loop .inv .room)
+    let three = here (c .before .before .before .before .before) .three in
+    omega (arith, c .before .before .before .before .before .before .loop .inv .room)
 
-mul-first : tie.Need-mul-first Inv-loop μ-loop
-mul-first c =
-    omega (
-      arith,
-      book-long _ (c .before .before .before .before .before .before .before .before .pre .0),
-      book-room _ (c .before .before .before .before .before .before .before .before .pre .0),
-      c .before .before .before .before .before .used .ensures,
-    )
+mul-first-2 : tie.Need-mul-first-2 Inv-loop μ-loop
+mul-first-2 c =
+    omega (arith, book-long _ (c .before .before .before .before .before .before .before .before .before .pre .0), book-room _ (c .before .before .before .before .before .before .before .before .before .pre .0), c .before .before .before .before .before .before .used .ensures)
 
-sub-first : tie.Need-sub-first Inv-loop μ-loop
-sub-first c = omega arith
+sub-first-2 : tie.Need-sub-first-2 Inv-loop μ-loop
+sub-first-2 c = omega (arith, stays-within (c .before))
 
-part-first-start : tie.Need-part-first-start Inv-loop μ-loop
-part-first-start c = omega arith
+part-first-start-2 : tie.Need-part-first-start-2 Inv-loop μ-loop
+part-first-start-2 c = omega (arith, stays-within (c .before .before))
 
-part-first-end : tie.Need-part-first-end Inv-loop μ-loop
-part-first-end c =
-    omega (
-      arith,
-      joined-long (c .before),
-      book-room _ (c .before .before .before .before .before .before .before .before .before .pre .0),
-      c .before .before .before .before .before .before .used .ensures,
-    )
+part-first-end-2 : tie.Need-part-first-end-2 Inv-loop μ-loop
+part-first-end-2 c =
+    omega (arith, joined-long (c .before), book-room _ (c .before .before .before .before .before .before .before .before .before .before .pre .0), c .before .before .before .before .before .before .before .used .ensures)
 
-class-word-requires : tie.Need-class-word-requires Inv-loop μ-loop
-class-word-requires c κs = search needs
-
-first-requires : tie.Need-first-requires Inv-loop μ-loop
-first-requires c κs = search needs
+first-requires-2 : tie.Need-first-requires-2 Inv-loop μ-loop
+first-requires-2 c κs = search needs
 
 add-at : tie.Need-add-at Inv-loop μ-loop
 add-at c = search needs
@@ -88,20 +101,21 @@ loop-less c = omega arith
 
 loop-again : tie.Need-loop-again Inv-loop μ-loop
 loop-again c =
-    let joined = c .before .before .before .before in
-    let turn = joined .before .before .before in
+    let joined = c .before .before .before in
+    let turn = joined .before .before .before .before in
     let end = turn .before .before .used .ensures in
-    let going = rw end at (joined .before .stays-from .ensures .0) in
-    let next = rw (end, c .before .class-word .ensures) at (c .first .ensures .0) in
+    let start = turn .before .loop .at + 3 in
+    let stays = start + joined .before .first .result in
+    let going = ap (λ (k : ℕ). start + k) (rw end at (joined .before .first .ensures .0)) in
+    let next = ap (λ (k : ℕ). stays + k) (rw end at (c .first2 .ensures .0)) in
     ⊎-elim
     (λ w.
     rw (w .5, w .6, w .7)
-    (expire-move _ _ (turn .before .loop .inv) (here turn) _ going _ _ _ (w .2 .kept .0) (omega arith) (w .2 .ensures .1)
-    (w .2 .ensures .0) (rw (w .5) at (ap (λ (k : ℕ). joined .before .stays-from .result + k) next))))
+    (expire-move _ _ (turn .before .loop .inv) (here turn) stays going _ _ _ (w .2 .kept .0) (omega arith) (w .2 .ensures .1)
+    (w .2 .ensures .0) (rw (w .5) at next)))
     (λ w.
     rw (w .1, w .2, w .3)
-    (expire-stay _ _ (turn .before .loop .inv) (here turn) _ going _ (w .0 .left)
-    (rw (w .1) at (ap (λ (k : ℕ). joined .before .stays-from .result + k) next))))
+    (expire-stay _ _ (turn .before .loop .inv) (here turn) stays going _ (w .0 .left) (rw (w .1) at next)))
     (joined .if1 .came)
 
 move-to-requires-2 : tie.Need-move-to-requires-2 Inv-loop μ-loop
@@ -159,14 +173,18 @@ expire-spec =
     used-requires
     loop-holds
     add-start
-    stays-from-requires
-    move-to-requires
     mul-first
     sub-first
     part-first-start
     part-first-end
-    class-word-requires
     first-requires
+    add-stays
+    move-to-requires
+    mul-first-2
+    sub-first-2
+    part-first-start-2
+    part-first-end-2
+    first-requires-2
     add-at
     loop-less
     loop-again

@@ -1,62 +1,126 @@
--- `rows_of` answers the rows with no spacing: each call ensures the grid or the range of its ground, and each branch asks for the range on the grid alone. Assumes nothing.
+-- `rows_of` answers the rows with no spacing: each call ensures a grid or an end, on each grid the ends tell the range, and the grids that are left out are empty. Assumes nothing.
 use mathlib.Core.Path.{_≡_, sym, _∙_}
-use mathlib.Core.Bool.{_&&_}
-use mathlib.Core.Logic.{⊎-elim}
+use mathlib.Core.Bool.{Bool, true, false, _&&_, and-assoc}
+use mathlib.Core.List.{[], _∷_}
+use Prim.Native.Nat.{ℕ, _+_, _*_, _/_, _≤_}
+use native.Mathlib.Omega.{arith}
+use lib.Dec.{leb}
 use borrow.Author.Needs.{needs}
-use Rattle.rule.specs.Grids.{gridOf}
+use Rattle.rule.specs.declared.terms.Setting.{Setting}
+use Rattle.rule.specs.Terms.{cents, isLong, price}
+use Rattle.rule.specs.Grids.{gridOf, wingBase}
 use Rattle.rule.specs.Ranges.{rangeOf}
+use Rattle.rule.specs.Ends.{halfEnd, lowEnd, highEnd}
+use Rattle.rule.specs.Judgement.{openRows}
+use Rattle.rule.proofs.Tests.{and-where}
+use Rattle.rule.proofs.Bound.{standard-ends, dollar-ends, half-ends, wing-ends}
 use Rattle.rule.proofs.judgement.rows_of.Statement.{statement}
 use Rattle.rule.proofs.judgement.rows_of.Tie as tie
+
+-- grid and range of each ground, by the ends
+module _ (s : Setting) (h : ℕ) where
+  abbrev between : Bool
+  between = leb (lowEnd (price s)) h && leb h (highEnd s)
+
+  standard-row : h ≤ 19999 → (gridOf s 0 h && between) ≡ (gridOf s 0 h && rangeOf s 0 h)
+  standard-row most = and-where (gridOf s 0 h) between (rangeOf s 0 h) (λ e. sym (standard-ends s h e most))
+
+  dollar-row : h ≤ 19999 → (gridOf s 1 h && between) ≡ (gridOf s 1 h && rangeOf s 1 h)
+  dollar-row most = and-where (gridOf s 1 h) between (rangeOf s 1 h) (λ e. sym (dollar-ends s h e most))
+
+  half-row : (gridOf s 2 h && leb h (halfEnd s)) ≡ (gridOf s 2 h && rangeOf s 2 h)
+  half-row = and-where (gridOf s 2 h) (leb h (halfEnd s)) (rangeOf s 2 h) (λ e. sym (half-ends s h e))
+
+  wing-row : {base : ℕ} → base ≡ wingBase (cents h) / 50 →
+      (gridOf s 3 h && leb (lowEnd (price s)) base && leb (base + 10) (highEnd s)) ≡ (gridOf s 3 h && rangeOf s 3 h)
+  wing-row {base} e =
+      let low : Bool = leb (lowEnd (price s)) base in
+      let high : Bool = leb (base + 10) (highEnd s) in
+      and-assoc (gridOf s 3 h) low high ∙ and-where (gridOf s 3 h) (low && high) (rangeOf s 3 h) (λ on. sym (wing-ends s h on ∙ rw e))
+
+  -- where the expiration is long Dollar and Half are empty
+  long-rows : {base : ℕ} → isLong s ≡ true → h ≤ 19999 → base ≡ wingBase (cents h) / 50 →
+      (gridOf s 0 h ∷ (gridOf s 0 h && between) ∷ false ∷ []) ∷ (false ∷ false ∷ false ∷ []) ∷ (false ∷ false ∷ false ∷ [])
+      ∷ (gridOf s 3 h ∷ (gridOf s 3 h && leb (lowEnd (price s)) base && leb (base + 10) (highEnd s)) ∷ false ∷ []) ∷ []
+      ≡ openRows s h
+  long-rows long most e = rw (standard-row most, wing-row e, long)
 
 cents-requires : tie.Need-cents-requires
 cents-requires c κs = search needs
 
-in-standard-range-requires : tie.Need-in-standard-range-requires
-in-standard-range-requires c κs = search needs
+low-end-requires : tie.Need-low-end-requires
+low-end-requires c κs = search needs
 
-on-half-requires : tie.Need-on-half-requires
-on-half-requires c κs = search needs
-
-on-wing-requires : tie.Need-on-wing-requires
-on-wing-requires c κs = search needs
+high-end-requires : tie.Need-high-end-requires
+high-end-requires c κs = search needs
 
 on-standard-requires : tie.Need-on-standard-requires
 on-standard-requires c κs = search needs
 
-on-dollar-requires : tie.Need-on-dollar-requires
-on-dollar-requires c κs = search needs
+is-long-requires : tie.Need-is-long-requires
+is-long-requires c κs = search needs
 
-in-half-range-requires : tie.Need-in-half-range-requires
-in-half-range-requires c κs = search needs
+on-wing-requires : tie.Need-on-wing-requires
+on-wing-requires c κs = search needs
 
-in-wing-range-requires : tie.Need-in-wing-range-requires
-in-wing-range-requires c κs = search needs
+mul-base : tie.Need-mul-base
+mul-base c = search needs
+
+add-t16 : tie.Need-add-t16
+add-t16 c = search needs
 
 returns : tie.Need-returns
 returns c =
-    let dollar = c .before .before in
-    let standard = dollar .before in
-    let wing = standard .before in
-    let half = wing .before in
-    let ranged = half .before in
-    let cents = ranged .before .before in
+    let long = c .before .before in
+    let standard = long .before in
+    let high = standard .before in
+    let low = high .before in
+    let cents = low .before in
     let s = cents .before .args .s in
     let h = cents .before .args .strike .0 in
-    let half-grid : half .on-half .result ≡ gridOf s 2 h = half .on-half .ensures ∙ rw (cents .cents .ensures) in
-    let wing-grid : wing .on-wing .result ≡ gridOf s 3 h = wing .on-wing .ensures ∙ rw (cents .cents .ensures) in
-    let half-range : c .before .if1 .t27 ≡ (gridOf s 2 h && rangeOf s 2 h) =
-    ⊎-elim (λ w. w .2 ∙ w .1 .ensures ∙ rw (sym half-grid ∙ w .0 .taken)) (λ w. w .1 ∙ w .0 .left ∙ rw (sym half-grid ∙ w .0 .left)) (c .before .if1 .came) in
-    let wing-range : c .if2 .t33 ≡ (gridOf s 3 h && rangeOf s 3 h) =
-    ⊎-elim (λ w. w .2 ∙ w .1 .ensures ∙ rw (sym wing-grid ∙ w .0 .taken)) (λ w. w .1 ∙ w .0 .left ∙ rw (sym wing-grid ∙ w .0 .left)) (c .if2 .came) in
+    let pre = cents .before .pre in
     rw (
-      half-grid,
-      wing-grid,
-      half-range,
-      wing-range,
+      c .on-wing .ensures,
+      standard .on-standard .ensures,
+      high .high-end .ensures,
+      low .low-end .ensures,
+      cents .cents .ensures,
+    )
+    (long-rows s h (sym (long .is-long .ensures) ∙ c .before .if1 .taken) (pre .strike) (omega arith))
+
+on-dollar-requires : tie.Need-on-dollar-requires
+on-dollar-requires c κs = search needs
+
+on-half-requires : tie.Need-on-half-requires
+on-half-requires c κs = search needs
+
+half-end-requires : tie.Need-half-end-requires
+half-end-requires c κs = search needs
+
+returns-2 : tie.Need-returns-2
+returns-2 c =
+    let half = c .before in
+    let dollar = half .before in
+    let long = dollar .before .before in
+    let standard = long .before in
+    let high = standard .before in
+    let low = high .before in
+    let cents = low .before in
+    let s = cents .before .args .s in
+    let h = cents .before .args .strike .0 in
+    let pre = cents .before .pre in
+    rw (
+      c .half-end .ensures,
+      half .on-half .ensures,
       dollar .on-dollar .ensures,
       standard .on-standard .ensures,
-      ranged .in-standard-range .ensures,
+      high .high-end .ensures,
+      low .low-end .ensures,
       cents .cents .ensures,
+      standard-row s h (pre .strike),
+      dollar-row s h (pre .strike),
+      half-row s h,
+      sym (long .is-long .ensures) ∙ dollar .before .if1 .left,
     )
 
 pub rows-of-spec : {M : Type 1} → statement M
@@ -64,11 +128,15 @@ rows-of-spec =
     tie.close
     (tie.spec
     cents-requires
-    in-standard-range-requires
-    on-half-requires
-    on-wing-requires
+    low-end-requires
+    high-end-requires
     on-standard-requires
+    is-long-requires
+    on-wing-requires
+    mul-base
+    add-t16
+    returns
     on-dollar-requires
-    in-half-range-requires
-    in-wing-range-requires
-    returns)
+    on-half-requires
+    half-end-requires
+    returns-2)

@@ -1,45 +1,48 @@
--- `ranked_of_32` says which words are of a rank up to `most`: the bits are the digits of the words before i. Assumes nothing.
-use Prim.Native.Nat.{ℕ, _-_, _^_, _≤_}
-use mathlib.Core.Path.{_≡_, refl, sym, ap, ap₂, _∙_}
+-- `ranked_of_16` says which words are of a rank up to `most`: the bits from bit 1 on are the digits of the words before i. Assumes nothing.
+use Prim.Native.Nat.{ℕ, _-_, _*_, _^_, _≤_, _<_}
+use mathlib.Core.Path.{_≡_, sym, ap, ap₂, _∙_}
 use mathlib.Core.Bool.{cond}
 use mathlib.Core.List.{List, map}
 use mathlib.Core.Logic.{⊎-elim}
+use native.Mathlib.Nat.{mod-eq-of-lt}
 use native.Mathlib.Omega.{arith}
 use lib.Bits.{bitOr}
 use lib.Dec.{leb}
 use lib.ListN.{take, getD}
+use lib.Pow.{pow-lt}
 use lib.Seq.{take-all}
 use borrow.Author.Needs.{needs}
 use borrow.Author.Tests.{le-leb, lt-leb}
 use Rattle.word.specs.Digits.{binary}
-use Rattle.word.proofs.Fields.{one-shifted}
-use Rattle.word.proofs.Digits.{digits-more}
 use Rattle.place.specs.Search.{rankOf}
-use Rattle.place.proofs.search.ranked_of_32.Statement.{statement}
-use Rattle.place.proofs.search.ranked_of_32.Tie as tie
+use Rattle.place.proofs.Firsts.{doubled-more}
+use Rattle.place.proofs.search.ranked_of_16.Statement.{statement}
+use Rattle.place.proofs.search.ranked_of_16.Tie as tie
 
 abbrev Inv-loop : tie.InvT-loop
-Inv-loop block most bits₀ i₀ bits i = (i ≤ 32) × (bits ≡ binary (map (λ w. leb (rankOf w) most) (take i block)))
+Inv-loop block width most bits₀ i₀ bits i =
+    (i ≤ 16) × (bits ≡ 2 * binary (map (λ w. leb (rankOf width w) most) (take i block)))
 
 abbrev μ-loop : tie.MeasureT-loop
-μ-loop block most bits₀ i₀ bits i = 32 - i
+μ-loop block width most bits₀ i₀ bits i = 16 - i
 
 -- the bit of the word at i
 word-bit :
     (c : tie.Joined1 Inv-loop μ-loop)
     → let l = c .before .before .before .before .loop in
     let a = c .before .before .before .before .before .before .args in
-    c .if1 .bit ≡ cond {A = ℕ} (leb (rankOf (getD (a .block .now) (l .i) 0)) (a .most)) (2 ^ l .i) 0
+    c .if1 .bit ≡ 2 * cond {A = ℕ} (leb (rankOf (a .width) (getD (a .block .now) (l .i) 0)) (a .most)) (2 ^ l .i) 0
 word-bit c =
     let k = c .before in
     let i = k .before .before .before .loop .i in
+    let wide : 2 ^ i < 2 ^ 31 = pow-lt {i = i} {j = 31} (omega arith) in
     ⊎-elim
-    (λ x. x .1 ∙ one-shifted i (omega arith) ∙ rw (sym (k .rank .ensures), le-leb _ _ (x .0 .taken)))
+    (λ x. x .1 ∙ mod-eq-of-lt (omega arith) ∙ rw (sym (k .rank .ensures), le-leb _ _ (x .0 .taken)))
     (λ x. x .1 ∙ rw (sym (k .rank .ensures), lt-leb _ _ (x .0 .left)))
     (c .if1 .came)
 
 loop-holds : tie.Need-loop-holds Inv-loop μ-loop
-loop-holds c = (omega arith, refl)
+loop-holds c = (omega arith, omega arith)
 
 mul-rank : tie.Need-mul-rank Inv-loop μ-loop
 mul-rank c = search needs
@@ -68,17 +71,17 @@ loop-again c =
     let a = s .before .before .args in (
       omega arith,
       ap₂ bitOr (s .loop .inv .1) (word-bit (c .before))
-          ∙ digits-more (λ w. leb (rankOf w) (a .most)) 0 (a .block .now) (s .loop .i) (omega arith),
+          ∙ doubled-more (λ w. leb (rankOf (a .width) w) (a .most)) 0 (a .block .now) (s .loop .i) (omega arith),
     )
 
 returns : tie.Need-returns Inv-loop μ-loop
 returns c =
     let s = c .before in
     let a = s .before .before .args in
-    s .loop .inv .1 ∙ ap (λ (l : List ℕ). binary (map (λ w. leb (rankOf w) (a .most)) l)) (take-all (s .loop .i) (a .block .now) (omega arith))
+    s .loop .inv .1 ∙ ap (λ (l : List ℕ). 2 * binary (map (λ w. leb (rankOf (a .width) w) (a .most)) l)) (take-all (s .loop .i) (a .block .now) (omega arith))
 
-pub ranked-of-32-spec : {M : Type 1} → statement M
-ranked-of-32-spec =
+pub ranked-of-16-spec : {M : Type 1} → statement M
+ranked-of-16-spec =
     tie.close
     (tie.spec
     Inv-loop

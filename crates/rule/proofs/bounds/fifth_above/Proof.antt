@@ -1,8 +1,8 @@
 -- `fifth_above` answers the closed form: each branch is one of its cases. Assumes nothing.
 use borrow.Author.Tests.{lt-ltb, le-ltb}
 use borrow.Author.Needs.{needs}
-use Rattle.rule.proofs.ranges.fifth_above.Statement.{statement}
-use Rattle.rule.proofs.ranges.fifth_above.Tie as tie
+use Rattle.rule.proofs.bounds.fifth_above.Statement.{statement}
+use Rattle.rule.proofs.bounds.fifth_above.Tie as tie
 
 mul-result : tie.Need-mul-result
 mul-result c = search needs

@@ -1,0 +1,46 @@
+-- `is_strike_at` meets its contract: from the count of the words used on there is none, and before it the word's kind is read. Assumes nothing.
+use mathlib.Core.Path.{ap, _∙_}
+use Prim.Native.Nat.{ℕ}
+use native.Mathlib.Omega.{arith}
+use lib.Dec.{eqb}
+use borrow.Author.Needs.{needs}
+use borrow.Author.Tests.{lt-ltb, le-ltb}
+use Rattle.book.specs.Layout.{used, factsOf}
+use Rattle.place.proofs.Heads.{book-room, book-long}
+use Rattle.strike_call.proofs.is_strike_at.Statement.{statement}
+use Rattle.strike_call.proofs.is_strike_at.Tie as tie
+
+used-requires : tie.Need-used-requires
+used-requires c κs = search needs
+
+returns : tie.Need-returns
+returns c =
+    let u = c .before in
+    let a = u .before .before .args in
+    rw (le-ltb (a .at) (used (factsOf (a .run .now))) (omega (arith, u .used .ensures)))
+
+mul-kind : tie.Need-mul-kind
+mul-kind c =
+    let s = c .before .before .before in
+    omega (arith, c .before .used .ensures, book-room (s .args .run .now) (s .pre), book-long (s .args .run .now) (s .pre))
+
+shared-slice-read-kind : tie.Need-shared-slice-read-kind
+shared-slice-read-kind c =
+    let e = c .before in
+    let s = e .before .before .before in
+    omega (arith, e .before .used .ensures, book-room (s .args .run .now) (s .pre))
+
+kind-requires : tie.Need-kind-requires
+kind-requires c κs = search needs
+
+returns-2 : tie.Need-returns-2
+returns-2 c =
+    let e = c .before .before in
+    let a = e .before .before .before .args in
+    ap (λ (k : ℕ). eqb k 6) (c .kind .ensures)
+    ∙ rw (lt-ltb (a .at) (used (factsOf (a .run .now))) (omega (arith, e .before .used .ensures)))
+
+pub is-strike-at-spec : {M : Type 1} → statement M
+is-strike-at-spec =
+    tie.close
+    (tie.spec used-requires returns mul-kind shared-slice-read-kind kind-requires returns-2)
