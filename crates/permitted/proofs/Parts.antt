@@ -1,13 +1,14 @@
 -- The four parts in which the permitted strikes are written are all of them: between the parts and above the last none is open. Assumes nothing.
 use mathlib.Core.Path.{_≡_, refl, sym, ap, ap₂, _∙_}
 use mathlib.Core.Bool.{Bool, true, false, not, cond, _&&_, true≢false}
-use mathlib.Core.List.{List, [], _∷_, _++_, map, append-assoc}
-use Prim.Native.Nat.{ℕ, suc, _+_, _-_, _/_, _≤_, min, max}
-use native.Mathlib.Nat.{zero-add, add-zero, add-sub-cancel}
+use mathlib.Core.List.{List, [], _++_, map, append-assoc}
+use Prim.Native.Nat.{ℕ, _+_, _-_, _/_, _≤_, min, max}
+use native.Mathlib.Nat.{zero-add, add-sub-cancel}
 use native.Mathlib.Omega.{arith}
 use lib.Dec.{leb, ltb}
-use lib.ListN.{length, length-append, set}
+use lib.ListN.{length, length-append}
 use lib.Seq.{sets}
+use Rattle.word.proofs.Stores.{sets-append}
 use Rattle.rule.specs.declared.terms.Setting.{Setting}
 use Rattle.rule.specs.Lists.{only, upFrom}
 use Rattle.rule.specs.Terms.{isHalfClass, isLong}
@@ -24,12 +25,6 @@ use Rattle.permitted.specs.Listing.{Listable, permittedIn, Continuable, 
 use Rattle.permitted.proofs.Filling.{left, left-skip, left-parts}
 use Rattle.permitted.proofs.Trying.{closed-refused, behind-more}
 
-sets-append : (o : List ℕ) (i : ℕ) (xs ys : List ℕ) → sets (sets o i xs) (i + length xs) ys ≡ sets o i (xs ++ ys)
-sets-append o i [] ys = rw add-zero
-sets-append o i (x ∷ xs) ys =
-    let e : i + suc (length xs) ≡ suc i + length xs = omega arith in
-    rw e (sets-append (set o i x) (suc i) xs ys)
-
 -- the strikes xs are written to the front of o, and counted
 record Written (o b : List ℕ) (done : Progress) (xs : List ℕ) : Type 0 where
   count : done .count ≡ length xs
@@ -43,7 +38,7 @@ written-more {s} {ws} {o} {xs = xs} {low} {high} w c =
       is =
           c .written
           ∙ ap₂ (λ (l : List ℕ) (n : ℕ). sets l n (permittedIn s ws low high)) (w .is) (w .count ∙ sym (zero-add (length xs)))
-          ∙ sets-append o 0 xs (permittedIn s ws low high);
+          ∙ sym (sets-append o 0 xs (permittedIn s ws low high));
     }
 
 max-within : (a b c : ℕ) → b ≤ c → max (max a b) c ≡ max a c

@@ -8,7 +8,7 @@ use lib.ListN.{length, length-append}
 use lib.Seq.{sets}
 use borrow.Author.Tests.{eq-eqb, ne-eqb}
 use Rattle.text.specs.Printing.{decimal, spacedNumber, spacedNumbers, valueOrNone, afterNumber, answerText}
-use Rattle.text.proofs.Decimals.{sets-append}
+use Rattle.word.proofs.Stores.{sets-append}
 
 -- the stores of a second part, after those of the first
 pub stores-after : (out₀ out last a b : List ℕ) (at next : ℕ) → next ≡ at + length a → out ≡ sets out₀ at a → last ≡ sets out next b

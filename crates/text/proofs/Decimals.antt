@@ -1,12 +1,11 @@
--- The digits of a number, and stores in two parts: by recursion on the bound of the digits, which does not matter once it is the number or more.
+-- The digits of a number: by recursion on the bound of the digits, which does not matter once it is the number or more.
 use mathlib.Core.Path.{_≡_, refl, sym, ap, _∙_}
 use mathlib.Core.Logic.{⊎-elim}
 use Prim.Native.Nat.{ℕ, zero, suc, _+_, _/_, _%_, _^_, _≤_, _<_}
-use native.Mathlib.Nat.{div-lt-self, add-zero, le-of-eq, div-lt-iff-lt-mul, pow-suc}
+use native.Mathlib.Nat.{div-lt-self, le-of-eq, div-lt-iff-lt-mul, pow-suc}
 use native.Mathlib.Omega.{arith}
 use mathlib.Core.List.{List, [], _∷_, _++_}
-use lib.ListN.{length, set, length-append}
-use lib.Seq.{sets}
+use lib.ListN.{length, length-append}
 use borrow.Author.Tests.{lt-ltb, le-ltb}
 use Rattle.text.specs.Printing.{decimalBy, decimal}
 use Rattle.text.proofs.Cases.{lt-or-le}
@@ -44,10 +43,6 @@ decimal-more zero h = absurd (omega arith)
 decimal-more (suc u) h =
     let less : suc u / 10 < suc u = div-lt-self (omega arith) (omega arith) in
     by-more u (suc u) h ∙ ap (λ (r : List ℕ). r ++ ((48 + suc u % 10) ∷ [])) (by-same u (suc u / 10) (suc u / 10) (omega arith) (omega arith))
-
-pub sets-append : (l : List ℕ) (i : ℕ) (a b : List ℕ) → sets l i (a ++ b) ≡ sets (sets l i a) (i + length a) b
-sets-append l i [] b = ap (λ (k : ℕ). sets l k b) (sym (add-zero i))
-sets-append l i (x ∷ a) b = sets-append (set l i x) (suc i) a b ∙ ap (λ (k : ℕ). sets (sets (set l i x) (suc i) a) k b) (omega arith)
 
 pub length-small : (v : ℕ) → v < 10 → length (decimal v) ≡ 1
 length-small v h = ap length (decimal-small v h)

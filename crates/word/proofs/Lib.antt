@@ -1,4 +1,5 @@
 -- The laws that the functions' proofs and other crates cite.
+pub mod Stores
 pub mod Tests
 pub mod Fields
 pub mod Digits

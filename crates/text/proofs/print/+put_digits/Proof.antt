@@ -3,7 +3,8 @@ use Prim.Native.Nat.{ℕ, _/_, _<_}
 use borrow.Author.Needs.{needs}
 use native.Mathlib.Omega.{arith}
 use native.Mathlib.Nat.{div-lt-self}
-use Rattle.text.proofs.Decimals.{decimal-small, decimal-more, length-small, length-more, sets-append}
+use Rattle.word.proofs.Stores.{sets-append}
+use Rattle.text.proofs.Decimals.{decimal-small, decimal-more, length-small, length-more}
 use borrow.Fn.Kinds.{In}
 use borrow.Fn.PlainCycle.{Measures, is, falls, and}
 use Rattle.text.proofs.print.put_digits.Reads as put-digits
