@@ -1,11 +1,12 @@
--- The permitted strikes are written where all have a place; where that is not plain they are counted before, with no place lent: writing to no place changes nothing. Assumes nothing.
-use Prim.Native.Nat.{ℕ, _≤_, _<_}
-use mathlib.Core.Path.{_≡_, refl, ap, _∙_}
-use mathlib.Core.List.{List, [], _∷_, _++_}
+-- The permitted strikes are written where all have a place; where that is not plain a first turn counts them, with no place lent: writing to no place changes nothing. Assumes nothing.
+use Prim.Native.Nat.{ℕ, _-_, _≤_, _<_}
+use mathlib.Core.Path.{_≡_, refl, sym, ap, ap₂, _∙_}
+use mathlib.Core.List.{List, [], _∷_, _++_, append-nil}
+use mathlib.Core.Logic.{_⊎_, inr, ⊎-elim}
 use native.Mathlib.Nat.{zero-add}
 use native.Mathlib.Omega.{arith}
-use lib.ListN.{length}
-use lib.Seq.{sets, sets-eq}
+use lib.ListN.{length, take, drop, drop-of-length-le}
+use lib.Seq.{sets, sets-eq, length-sets, length-front, take-all}
 use borrow.Author.Tests.{lt-ltb, le-ltb}
 use Rattle.word.specs.declared.answer.Answer.the-variants.{Listed, Refused}
 use Rattle.word.specs.declared.answer.Refusal.the-variants.{OutOfWords}
@@ -15,30 +16,60 @@ sets-none : (vs : List ℕ) (i : ℕ) → sets [] i vs ≡ []
 sets-none [] i = refl
 sets-none (v ∷ vs) i = sets-none vs _
 
--- the run v is lent again as v₁, and has a place for each strike
-pub record Room (strikes v v₁ : List ℕ) : Type 0 where
-  pub same : v₁ ≡ v
-  pub enough : length strikes ≤ length v
+-- a turn begins: the run `second` is as it came, v, and lends no place, or all places where they are enough
+pub record Turn (strikes v second : List ℕ) (room : ℕ) : Type 0 where
+  pub same : second ≡ v
+  pub lent : (room ≡ 0) ⊎ ((room ≡ length v) × (length strikes ≤ length v))
 
-module _ (strikes v : List ℕ) where
-  -- `part` is what comes back of no place
-  module _ {part : List ℕ} {count : ℕ} (none : part ≡ sets [] 0 strikes) (all : count ≡ length strikes) where
-    same-part : part ++ v ≡ v
-    same-part = ap (λ (l : List ℕ). l ++ v) (none ∙ sets-none strikes 0)
+module _ {strikes v second : List ℕ} {room : ℕ} (t : Turn strikes v second room) where
+  pub turn-within : room ≤ length second
+  turn-within =
+      ⊎-elim (λ (e : room ≡ 0). omega arith) (λ (e : (room ≡ length v) × (length strikes ≤ length v)). omega (arith, ap length (t .same))) (t .lent)
 
-    pub filled-not : length (part ++ v) < count → Filled strikes v (Refused (OutOfWords count)) (part ++ v)
+  -- `part` is what comes back of the places that are lent
+  module _ {part : List ℕ} {count : ℕ} (done : (count ≡ length strikes) × (part ≡ sets (take (room - 0) second) 0 strikes)) where
+    abbrev back : List ℕ
+    back = part ++ drop (room - 0) second
+
+    pub same-long : length back ≡ length v
+    same-long = length-front second part (room - 0) (ap length (done .1) ∙ length-sets (take (room - 0) second) 0 strikes) ∙ ap length (t .same)
+
+    unchanged : room ≡ 0 → back ≡ v
+    unchanged e =
+        let none : part ≡ [] = done .1 ∙ rw e (sets-none strikes 0) in
+        rw (none, e) (t .same)
+
+    pub filled-not : length back < count → Filled strikes v (Refused (OutOfWords count)) back
     filled-not few =
-        let short : length v < length strikes = omega (arith, few, ap length same-part, all) in
-        record { answer = rw (lt-ltb (length v) (length strikes) short, all); second = rw (lt-ltb (length v) (length strikes) short) same-part }
+        let short : length v < length strikes = omega (arith, same-long) in
+        record {
+          answer = rw (lt-ltb (length v) (length strikes) short, done .0);
+          second =
+              rw (lt-ltb (length v) (length strikes) short)
+              (⊎-elim unchanged (λ (e : (room ≡ length v) × (length strikes ≤ length v)). absurd (omega arith)) (t .lent));
+        }
 
-    pub room-counted : {v₁ : List ℕ} → v₁ ≡ part ++ v → count ≤ length (part ++ v) → Room strikes v v₁
-    room-counted e l = record { same = e ∙ same-part; enough = omega (arith, l, ap length same-part, all) }
+    pub filled-all : count ≤ length back → room ≡ length back → Filled strikes v (Listed count) back
+    filled-all enough whole =
+        let fits : length strikes ≤ length v = omega (arith, same-long) in
+        let long : length second ≤ room - 0 = omega (arith, same-long, ap length (t .same)) in
+        record {
+          answer = rw (le-ltb (length v) (length strikes) fits, done .0);
+          second =
+              rw (le-ltb (length v) (length strikes) fits)
+              (ap₂ _++_ (done .1 ∙ ap (λ (l : List ℕ). sets l 0 strikes) (take-all (room - 0) second long ∙ t .same)) (drop-of-length-le second long)
+              ∙ append-nil (sets v 0 strikes)
+              ∙ sets-eq strikes v 0 (rw zero-add fits)
+              ∙ rw zero-add);
+        }
 
-  pub filled-all : {v₁ v₂ : List ℕ} {count : ℕ} → Room strikes v v₁ → count ≡ length strikes → v₂ ≡ sets v₁ 0 strikes → Filled strikes v (Listed count) v₂
-  filled-all r all written =
-      record {
-        answer = rw (le-ltb (length v) (length strikes) (r .enough), all);
-        second =
-            rw (le-ltb (length v) (length strikes) (r .enough))
-            (written ∙ ap (λ (l : List ℕ). sets l 0 strikes) (r .same) ∙ sets-eq strikes v 0 (rw zero-add (r .enough)) ∙ rw zero-add);
-      }
+    -- a turn that isn't the last had no place, and the next one has all
+    module _ (partly : room ≡ length back → ⊥) where
+      counted : room ≡ 0
+      counted = ⊎-elim (λ (e : room ≡ 0). e) (λ (e : (room ≡ length v) × (length strikes ≤ length v)). absurd (partly (e .0 ∙ sym same-long))) (t .lent)
+
+      pub turn-less : length back - length back < length second - room
+      turn-less = omega (arith, counted, same-long, ap length (t .same))
+
+      pub turn-again : count ≤ length back → Turn strikes v back (length back)
+      turn-again enough = record { same = unchanged counted; lent = inr (same-long, omega (arith, same-long)) }

@@ -1,12 +1,12 @@
 -- The words of standing strikes that rise, parted at the indices that a search finds: all strikes before and behind are far from the one tried. Assumes nothing.
-use mathlib.Core.Path.{_≡_, sym, _∙_}
-use mathlib.Core.Bool.{Bool, true, false, not, and-false}
+use mathlib.Core.Path.{_≡_, refl, sym, _∙_}
+use mathlib.Core.Bool.{Bool, true, false, not, cond, and-false}
 use mathlib.Core.List.{List, [], _∷_, map}
 use Prim.Native.Nat.{ℕ, zero, suc, _+_, _-_, _≤_, _<_}
 use native.Mathlib.Omega.{arith}
-use lib.Dec.{leb, eqb}
+use lib.Dec.{leb, ltb, eqb}
 use lib.ListN.{length, getD, take, drop}
-use borrow.Author.Tests.{leb-true, eq-eqb}
+use borrow.Author.Tests.{leb-true, ltb-true, lt-ltb, eq-eqb}
 use Rattle.rule.specs.declared.terms.Setting.{Setting}
 use Rattle.rule.specs.Lists.{some, every}
 use Rattle.rule.specs.Ends.{reachOf, isOpen}
@@ -14,7 +14,7 @@ use Rattle.rule.specs.Spacing.{standingIn}
 use Rattle.rule.specs.Judgement.{isPermittedBeside}
 use Rattle.rule.proofs.Walks.{every-map, First, first-found}
 use Rattle.rule.proofs.Near.{reach-most, not-some, Between, words-permitted, rising-at}
-use Rattle.permitted.specs.Listing.{strikeIn, strikeFrom, Triable}
+use Rattle.permitted.specs.Listing.{strikeIn, strikeAt, strikeFrom, Triable}
 
 pub absent-words : (ws : List ℕ) (h : ℕ) →
     not (some (λ t. eqb (t .strike) h) (map standingIn ws)) ≡ every (λ w. not (eqb (strikeIn w) h)) ws
@@ -65,14 +65,18 @@ module _ {s : Setting} {ws : List ℕ} {from h : ℕ} (t : Triable s ws from h) 
     near-permits = words-permitted between
 
   -- an open strike is permitted where the first that isn't below is beyond reach
-  pub open-permitted : isOpen s h ≡ true → (from < length ws → h + reachOf s < strikeIn (getD ws from 0)) →
-      true ≡ isPermittedBeside s (map standingIn ws) h
-  open-permitted is-open above =
+  pub open-permitted : isOpen s h ≡ true → h + reachOf s < strikeAt ws from → true ≡ isPermittedBeside s (map standingIn ws) h
+  open-permitted is-open beyond =
+      let above : from < length ws → h + reachOf s < strikeIn (getD ws from 0) = λ l. (rw (lt-ltb from (length ws) l) at beyond) in
       let ahead : Ahead s ws from from h = record { start = omega arith; end = t .behind .within; above = above } in
       let none : from - from ≡ 0 = omega arith in
       sym is-open ∙ (rw none at (near-permits ahead))
 
-  pub standing-refused : from < length ws → strikeIn (getD ws from 0) ≡ h → false ≡ isPermittedBeside s (map standingIn ws) h
-  standing-refused l e =
-      let none = absent-words ws h ∙ every-not (λ w. not (eqb (strikeIn w) h)) 0 ws from l (rw (eq-eqb _ _ e)) in
-      rw none
+  pub standing-refused : strikeAt ws from ≡ h → false ≡ isPermittedBeside s (map standingIn ws) h
+  standing-refused = go (ltb from (length ws)) refl
+    where
+      go : (u : Bool) → ltb from (length ws) ≡ u → cond {A = ℕ} u (strikeIn (getD ws from 0)) 65535 ≡ h → false ≡ isPermittedBeside s (map standingIn ws) h
+      go true q e =
+          let none = absent-words ws h ∙ every-not (λ w. not (eqb (strikeIn w) h)) 0 ws from (ltb-true from (length ws) q) (rw (eq-eqb _ _ e)) in
+          rw none
+      go false q e = absurd (omega (arith, t .judged .strike))

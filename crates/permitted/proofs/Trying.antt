@@ -59,6 +59,14 @@ pub record Trying (s : Setting) (ws o : List ℕ) (low high step at reach : ℕ)
   pub fewer : n < min h (max low (high + 1))
   pub filling : Filling (permittedIn s ws low high) o at b n (left (isPermittedBeside s (map standingIn ws)) (high + 1) h)
 
+-- what was behind is so still, whether a search passes more strikes or not
+module _ {s : Setting} {ws o b : List ℕ} {low high step at reach from n h : ℕ} (t : Trying s ws o low high step at reach b from n h) where
+  pub trying-kept : Behind s ws from h
+  trying-kept = behind-more (omega arith) (t .behind)
+
+  pub trying-passed : (from′ : ℕ) → from′ ≡ strikeFrom ws from (h - reach) → Behind s ws from′ h
+  trying-passed from′ = behind-found trying-kept from′ reach (t .reaches)
+
 module _ {s : Setting} {ws : List ℕ} {all : Bool} {low high step : ℕ} {done : Progress} (p : Continuable s ws all low high step done) where
   abbrev test : ℕ → Bool
   test h = isPermittedBeside s (map standingIn ws) h
@@ -98,6 +106,14 @@ module _ {s : Setting} {ws : List ℕ} {all : Bool} {low high step : ℕ} {done 
         fewer = omega (arith, p .fewer);
       }
 
+  pub trying-here : {from h : ℕ} → h ≤ high → Behind s ws from h → Triable s ws from h
+  trying-here l behind =
+      record {
+        judged = record { close = p .listable .close; current = p .listable .current; strike = omega (arith, p .last) };
+        rising = p .listable .rising;
+        behind = behind;
+      }
+
   module _ {o b : List ℕ} {at reach from n h : ℕ} (t : Trying s ws o low high step at reach b from n h) where
     pub trying-reach : h ≤ high → reach ≤ h
     trying-reach l = go (ltb h step) refl
@@ -107,14 +123,6 @@ module _ {s : Setting} {ws : List ℕ} {all : Bool} {low high step : ℕ} {done 
             let none : h % step ≡ h = mod-eq-of-lt (ltb-true h step q) in
             absurd (omega (arith, p .lows, t .least, t .multiple))
         go false q = omega (arith, t .reaches, ltb-false h step q, p .reach (omega (arith, t .least)))
-
-    pub trying-here : h ≤ high → (from′ : ℕ) → from′ ≡ strikeFrom ws from (h - reach) → Triable s ws from′ h
-    trying-here l from′ e =
-        record {
-          judged = record { close = p .listable .close; current = p .listable .current; strike = omega (arith, p .last) };
-          rising = p .listable .rising;
-          behind = behind-found (behind-more (omega arith) (t .behind)) from′ reach (t .reaches) e;
-        }
 
     pub trying-open : h ≤ high → all ≡ true → isOpen s h ≡ true
     trying-open l e = p .multiples .each e h (t .least) l (t .multiple)
@@ -129,27 +137,27 @@ module _ {s : Setting} {ws : List ℕ} {all : Bool} {low high step : ℕ} {done 
         (λ i k m u. untried i (omega (arith, t .least)) u (λ q. between-multiples step h i (t .multiple) q (omega arith) (omega arith)))
         ∙ ap (left test (high + 1)) e)
 
-    trying-next : h ≤ high → (from′ n′ : ℕ) (b′ : List ℕ) → from′ ≡ strikeFrom ws from (h - reach) → n′ ≤ n + 1 →
+    trying-next : h ≤ high → {from′ n′ : ℕ} {b′ : List ℕ} → Behind s ws from′ h → n′ ≤ n + 1 →
         Filling (permittedIn s ws low high) o at b′ n′ (left test (high + 1) (h + step)) →
         Trying s ws o low high step at reach b′ from′ n′ (h + step)
-    trying-next l from′ n′ b′ e k filling =
+    trying-next l behind k filling =
         record {
           reaches = t .reaches;
           least = omega (arith, t .least);
           multiple = add-mod-right h step ∙ t .multiple;
-          behind = behind-more (omega (arith, p .steps)) (trying-here l from′ e .behind);
+          behind = behind-more (omega (arith, p .steps)) behind;
           fewer = omega (arith, t .fewer, p .steps);
           filling = filling;
         }
 
-    pub trying-taken : h ≤ high → test h ≡ true → (from′ : ℕ) → from′ ≡ strikeFrom ws from (h - reach) →
+    pub trying-taken : h ≤ high → test h ≡ true → {from′ : ℕ} → Behind s ws from′ h →
         Trying s ws o low high step at reach (set b n h) from′ (n + 1) (h + step)
-    trying-taken l e from′ q =
-        trying-next l from′ (n + 1) (set b n h) q (omega arith) (filling-one (filling-as (left-turn l ∙ rw e) (t .filling)))
+    trying-taken l e behind =
+        trying-next l behind (omega arith) (filling-one (filling-as (left-turn l ∙ rw e) (t .filling)))
 
-    pub trying-skipped : h ≤ high → test h ≡ false → (from′ : ℕ) → from′ ≡ strikeFrom ws from (h - reach) →
+    pub trying-skipped : h ≤ high → test h ≡ false → {from′ : ℕ} → Behind s ws from′ h →
         Trying s ws o low high step at reach b from′ n (h + step)
-    trying-skipped l e from′ q = trying-next l from′ n b q (omega arith) (filling-as (left-turn l ∙ rw e) (t .filling))
+    trying-skipped l e behind = trying-next l behind (omega arith) (filling-as (left-turn l ∙ rw e) (t .filling))
 
   pub trying-done : {o b : List ℕ} {reach from n h : ℕ} → Trying s ws o low high step (done .count) reach b from n h → high < h →
       Continued s ws low high done o (record { from = from; count = n }) b

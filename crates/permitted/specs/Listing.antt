@@ -21,6 +21,10 @@ use Rattle.permitted.specs.declared.Progress.{Progress}
 abbrev pub strikeIn : ℕ → ℕ
 strikeIn w = field w 0 15
 
+-- the strike at an index, or one above all strikes where the words end
+abbrev pub strikeAt : List ℕ → ℕ → ℕ
+strikeAt ws at = cond {A = ℕ} (ltb at (length ws)) (strikeIn (getD ws at 0)) 65535
+
 -- the first index from `at` on whose strike is at least `low`, or the length
 abbrev pub strikeFrom : List ℕ → ℕ → ℕ → ℕ
 strikeFrom ws at low = firstFrom (λ i. leb low (strikeIn (getD ws i 0))) (length ws - at) at

@@ -10,7 +10,7 @@ ghost use Rattle.rule.specs.Lists.{some};
 ghost use Rattle.rule.specs.Ends.{reachOf, isOpen};
 ghost use Rattle.rule.specs.Spacing.{standingIn};
 ghost use Rattle.rule.specs.Judgement.{isPermittedBeside, permitted};
-ghost use Rattle.permitted.specs.Listing.{Listable, Triable, Continuable, Continued, strikeFrom, Filled};
+ghost use Rattle.permitted.specs.Listing.{Listable, Triable, Continuable, Continued, strikeAt, strikeFrom, Filled};
 use rule::bounds::fine_end;
 use rule::bounds::fine_step;
 use rule::bounds::half_end;
@@ -48,6 +48,16 @@ fn strike_from(standing: &[u32], at: usize, low: u32) -> usize
     i
 }
 
+// The strike at an index, or one above all strikes where the words end.
+fn strike_at(standing: &[u32], at: usize) -> u32
+    ensures { λ r. ⌜ r ≡ strikeAt (now (standing .entry)) at ⌝ }
+{
+    if at < standing.len() {
+        return field_of(standing[at], 0, 15);
+    }
+    65535
+}
+
 // Whether the strike h is none of those of the words.
 fn is_absent(near: &[u32], h: u32) -> bool
     ensures { λ r. ⌜ r ≡ not (some (λ t. eqb (t .strike) h) (map standingIn (now (near .entry)))) ⌝ }
@@ -72,19 +82,15 @@ fn is_permitted_at(s: Setting, standing: &[u32], from: usize, h: u32) -> bool
     is_absent(near, h) && is_accepted(s, Strike(h), near)
 }
 
-// The same of a strike that the rules accept beside none, by the first standing strike within `reach`, where that decides.
-fn is_open_at(s: Setting, standing: &[u32], from: usize, h: u32, reach: u32) -> bool
-    requires { ⌜ Triable s (now standing) from h × ((reach ≡ reachOf s) × (isOpen s h ≡ true)) ⌝ }
+// The same of a strike that the rules accept beside none, by the standing strike at `from`, where that decides.
+fn is_open_at(s: Setting, standing: &[u32], from: usize, next: u32, h: u32, reach: u32) -> bool
+    requires { ⌜ (Triable s (now standing) from h × (next ≡ strikeAt (now standing) from)) × ((reach ≡ reachOf s) × (isOpen s h ≡ true)) ⌝ }
     ensures { λ r. ⌜ r ≡ isPermittedBeside s (map standingIn (now (standing .entry))) h ⌝ }
 {
-    if from == standing.len() {
+    if h + reach < next {
         return true;
     }
-    let t = field_of(standing[from], 0, 15);
-    if h + reach < t {
-        return true;
-    }
-    if t == h {
+    if next == h {
         return false;
     }
     is_permitted_at(s, standing, from, h)
@@ -113,17 +119,18 @@ fn write_multiples(
     requires { ⌜ Continuable s (now standing) all low high step done ⌝ }
     ensures { λ r. ⌜ Continued s (now (standing .entry)) low high done (now (out .entry)) r (now (out .exit)) ⌝ }
 {
-    if high < low {
-        return done;
-    }
     let reach = if is_long(s) { 2 } else { 1 };
     let mut from = done.from;
     let mut count = done.count;
     let mut h = (low + (step - 1)) / step * step;
+    let mut next = strike_at(standing, from);
     while h <= high {
-        from = strike_from(standing, from, h - reach);
+        if next <= h + reach {
+            from = strike_from(standing, from, h - reach);
+            next = strike_at(standing, from);
+        }
         let permitted = if all {
-            is_open_at(s, standing, from, h, reach)
+            is_open_at(s, standing, from, next, h, reach)
         } else {
             is_permitted_at(s, standing, from, h)
         };
@@ -136,7 +143,7 @@ fn write_multiples(
     Progress { from, count }
 }
 
-// Writes the permitted strikes, rising, as far as `out` has places, and answers how many there are.
+// Writes the permitted strikes, rising, as far as `out` has places, and answers how many there are. Most stretches are empty, and are passed without a call.
 pub fn write_permitted(s: Setting, standing: &[u32], out: &mut [u32]) -> u32
     requires { ⌜ Listable s (now standing) ⌝ }
     ensures { λ r. ⌜ r ≡ length (permitted s (map standingIn (now (standing .entry)))) ⌝ }
@@ -148,43 +155,45 @@ pub fn write_permitted(s: Setting, standing: &[u32], out: &mut [u32]) -> u32
     let high = high_end(s);
     let end = fine_end(class);
     let open = !(is_long(s) & is_program_class(class));
-    let none = Progress { from: 0, count: 0 };
-    let halves = write_multiples(s, standing, true, 1, half, 1, none, out);
-    let fine = write_multiples(
-        s,
-        standing,
-        open,
-        low,
-        lower_of(high, end),
-        fine_step(class),
-        halves,
-        out,
-    );
-    let fives = write_multiples(
-        s,
-        standing,
-        true,
-        higher_of(low, end + 1),
-        lower_of(high, 400),
-        10,
-        fine,
-        out,
-    );
-    let all = write_multiples(s, standing, true, higher_of(low, 401), high, 20, fives, out);
-    all.count
+    let mut done = Progress { from: 0, count: 0 };
+    if 0 < half {
+        done = write_multiples(s, standing, true, 1, half, 1, done, out);
+    }
+    let fine = lower_of(high, end);
+    if low <= fine {
+        done = write_multiples(s, standing, open, low, fine, fine_step(class), done, out);
+    }
+    let fives = higher_of(low, end + 1);
+    let last = lower_of(high, 400);
+    if fives <= last {
+        done = write_multiples(s, standing, true, fives, last, 10, done, out);
+    }
+    let tens = higher_of(low, 401);
+    if tens <= high {
+        done = write_multiples(s, standing, true, tens, high, 20, done, out);
+    }
+    done.count
 }
 
-// Writes the permitted strikes to the second run where it has places for all of them, and nothing else: unless it has a place for each multiple, they are counted before.
+// Writes the permitted strikes to the second run where it has places for all of them, and nothing else: unless it has a place for each multiple, they are counted before, by a first turn that has no place.
 pub fn list_permitted(s: Setting, standing: &[u32], second: &mut [u32]) -> Answer
     requires { ⌜ Listable s (now standing) ⌝ }
     ensures { λ r. ⌜ Filled (permitted s (map standingIn (now (standing .entry)))) (now (second .entry)) r (now (second .exit)) ⌝ }
 {
-    let most = half_end(s) + high_end(s) / fine_step(s.class);
-    if second.len() < most as usize {
-        let count = write_permitted(s, standing, &mut second[0..0]);
+    let most = half_end(s) + high_end(s) / 2;
+    let mut room = if second.len() < most as usize {
+        0
+    } else {
+        second.len()
+    };
+    loop {
+        let count = write_permitted(s, standing, &mut second[0..room]);
         if second.len() < count as usize {
             return Answer::Refused(Refusal::OutOfWords(count));
         }
+        if room == second.len() {
+            return Answer::Listed(count);
+        }
+        room = second.len();
     }
-    Answer::Listed(write_permitted(s, standing, second))
 }
