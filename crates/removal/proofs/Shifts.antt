@@ -1,11 +1,12 @@
 -- Words moved down over a gap, one or more a turn, for any distance: those before i are the moved ones, the others as they were. Assumes nothing.
-use Prim.Native.Nat.{ℕ, suc, _+_, _-_, _≤_, _<_}
+use Prim.Native.Nat.{ℕ, zero, suc, _+_, _-_, _≤_, _<_}
 use mathlib.Core.Path.{_≡_, refl, sym, ap, _∙_}
 use mathlib.Core.List.{List, [], _∷_, _++_}
 use native.Mathlib.Omega.{arith}
 use lib.ListN.{length, getD, set, take, drop, replicate, length-append, length-drop}
-use lib.Seq.{take-all, take-add, take-at, drop-at, drop-drop, drop-cons, length-take-le, sets, sets-eq, length-sets}
+use lib.Seq.{take-all, take-add, take-suc, take-append-le, take-take, take-at, drop-at, drop-drop, drop-cons, getD-drop, length-take-le, sets, sets-eq, length-sets}
 use borrow.Rule.Slice.PartMut.{putMid}
+use Rattle.word.proofs.Stores.{sets-append}
 use Rattle.removal.specs.Runs.{movedDown, Shifting, closed}
 use Rattle.removal.proofs.Parts.{tail-zeroed}
 use Rattle.removal.proofs.Stretches.{drop-later}
@@ -14,34 +15,37 @@ pub shift-start : (gap : ℕ) (xs : List ℕ) → gap ≤ length xs → Shifting
 shift-start gap xs h = record { room = omega arith; long = refl; moved = refl }
 
 module _ {gap : ℕ} {xs s : List ℕ} {i : ℕ} (S : Shifting gap xs s i) where
-  -- a turn that stores n words as they stood before it
-  pub shift-on : (n : ℕ) → i + n + gap ≤ length xs → Shifting gap xs (sets s i (take n (drop (i + gap) s))) (i + n)
-  shift-on n h =
+  -- a turn that stores the n words from k on as they stood before it: those before i for the second time
+  pub shift-on :
+      (k n : ℕ) → (k ≤ i) × ((i ≤ k + gap) × ((i ≤ k + n) × (k + n + gap ≤ length xs)))
+      → Shifting gap xs (sets s k (take n (drop (k + gap) s))) (k + n)
+  shift-on k n h =
       let ys = drop gap xs in
-      let k : length ys ≡ length xs - gap = length-drop gap xs in
-      let p : length (take i ys) ≡ i = length-take-le i ys (omega arith) in
-      let front : take i s ≡ take i ys = ap (take i) (S .moved) ∙ take-at (take i ys) (drop i xs) i p in
+      let l : length ys ≡ length xs - gap = length-drop gap xs in
+      let p : length (take i ys) ≡ i = length-take-le i ys (omega (arith, S .room)) in
+      let front : take k s ≡ take k ys =
+      ap (take k) (S .moved) ∙ take-append-le k (take i ys) (drop i xs) (omega arith) ∙ take-take k i ys (h .0) in
       let unread : drop i s ≡ drop i xs = ap (drop i) (S .moved) ∙ drop-at (take i ys) (drop i xs) i p in
-      let swap : i + gap ≡ gap + i = omega arith in
-      let next : drop (i + gap) s ≡ drop i ys =
-      drop-later i (i + gap) s xs (omega arith) unread ∙ ap (λ (j : ℕ). drop j xs) swap ∙ sym (drop-drop i gap xs) in
+      let swap : k + gap ≡ gap + k = omega arith in
+      let next : drop (k + gap) s ≡ drop k ys =
+      drop-later i (k + gap) s xs (h .1 .0) unread ∙ ap (λ (j : ℕ). drop j xs) swap ∙ sym (drop-drop k gap xs) in
       let same = S .long in
-      let count : length (take n (drop (i + gap) s)) ≡ n =
-      length-take-le n (drop (i + gap) s) (simp length-drop (omega arith)) in
+      let count : length (take n (drop (k + gap) s)) ≡ n =
+      length-take-le n (drop (k + gap) s) (simp length-drop (omega arith)) in
       record {
-        room = h;
-        long = length-sets s i (take n (drop (i + gap) s)) ∙ S .long;
+        room = h .1 .1 .1;
+        long = length-sets s k (take n (drop (k + gap) s)) ∙ S .long;
         moved =
-            sets-eq (take n (drop (i + gap) s)) s i (omega arith)
-            ∙ (λ j. (front j ++ take n (next j)) ++ drop (i + count j) s)
-            ∙ (λ j. sym (take-add i n ys) j ++ drop-later i (i + n) s xs (omega arith) unread j);
+            sets-eq (take n (drop (k + gap) s)) s k (omega arith)
+            ∙ (λ j. (front j ++ take n (next j)) ++ drop (k + count j) s)
+            ∙ (λ j. sym (take-add k n ys) j ++ drop-later i (k + n) s xs (h .1 .1 .0) unread j);
       }
 
   pub shift-more : i + gap < length xs → Shifting gap xs (set s i (getD s (i + gap) 0)) (i + 1)
   shift-more h =
       let same = S .long in
       let one : take 1 (drop (i + gap) s) ≡ getD s (i + gap) 0 ∷ [] = rw (drop-cons s (i + gap) 0 (omega arith)) in
-      rw one at (shift-on 1 (omega arith))
+      rw one at (shift-on i 1 (omega arith))
 
   pub shift-done : length xs - gap ≤ i → s ≡ movedDown gap xs
   shift-done h =
@@ -49,41 +53,24 @@ module _ {gap : ℕ} {xs s : List ℕ} {i : ℕ} (S : Shifting gap xs s i) where
       let n : length (drop gap xs) ≡ length xs - gap = length-drop gap xs in
       S .moved ∙ rw (take-all i (drop gap xs) (omega arith), e)
 
--- eight words as they stood before the first store
-pub eight-stored :
-    (xs : List ℕ) (to from : ℕ) → from + 8 ≤ length xs
-    → set (set (set (set (set (set (set (set xs
-    to (getD xs from 0))
-    (to + 1) (getD xs (from + 1) 0))
-    (to + 2) (getD xs (from + 2) 0))
-    (to + 3) (getD xs (from + 3) 0))
-    (to + 4) (getD xs (from + 4) 0))
-    (to + 5) (getD xs (from + 5) 0))
-    (to + 6) (getD xs (from + 6) 0))
-    (to + 7) (getD xs (from + 7) 0)
-    ≡ sets xs to (take 8 (drop from xs))
-eight-stored xs to from h =
-    let a : to + 1 ≡ suc to = omega arith in
-    let b : to + 2 ≡ suc (to + 1) = omega arith in
-    let c : to + 3 ≡ suc (to + 2) = omega arith in
-    let d : to + 4 ≡ suc (to + 3) = omega arith in
-    let e : to + 5 ≡ suc (to + 4) = omega arith in
-    let f : to + 6 ≡ suc (to + 5) = omega arith in
-    let g : to + 7 ≡ suc (to + 6) = omega arith in
-    rw (
-      next from (from + 1) (omega arith),
-      next (from + 1) (from + 2) (omega arith),
-      next (from + 2) (from + 3) (omega arith),
-      next (from + 3) (from + 4) (omega arith),
-      next (from + 4) (from + 5) (omega arith),
-      next (from + 5) (from + 6) (omega arith),
-      next (from + 6) (from + 7) (omega arith),
-      next (from + 7) (from + 8) (omega arith),
-    )
-    (cc)
-  where
-    next : (j k : ℕ) → (j < length xs) × (k ≡ suc j) → drop j xs ≡ getD xs j 0 ∷ drop k xs
-    next j k l = drop-cons xs j 0 (l .0) ∙ ap (λ (n : ℕ). getD xs j 0 ∷ drop n xs) (sym (l .1))
+module _ (xs : List ℕ) (to from : ℕ) where
+  -- a word and the n after it stored as they stood before the first store, one after another
+  abbrev pub stored : ℕ → List ℕ
+  stored zero = set xs to (getD xs from 0)
+  stored (suc n) = set (stored n) (to + suc n) (getD xs (from + suc n) 0)
+
+  pub stored-all : (n : ℕ) → from + suc n ≤ length xs → stored n ≡ sets xs to (take (suc n) (drop from xs))
+  stored-all zero h = rw (drop-cons xs from 0 (omega arith))
+  stored-all (suc n) h =
+      let ys = drop from xs in
+      let l : length ys ≡ length xs - from = length-drop from xs in
+      let count : length (take (suc n) ys) ≡ suc n = length-take-le (suc n) ys (omega arith) in
+      let more : take (suc (suc n)) ys ≡ take (suc n) ys ++ (getD xs (from + suc n) 0 ∷ []) =
+      take-suc ys (suc n) 0 (omega arith) ∙ ap (λ (v : ℕ). take (suc n) ys ++ (v ∷ [])) (getD-drop from xs (suc n) 0) in
+      ap (λ (l : List ℕ). set l (to + suc n) (getD xs (from + suc n) 0)) (stored-all n (omega arith))
+      ∙ ap (λ (j : ℕ). set (sets xs to (take (suc n) ys)) (to + j) (getD xs (from + suc n) 0)) (sym count)
+      ∙ sym (sets-append xs to (take (suc n) ys) (getD xs (from + suc n) 0 ∷ []))
+      ∙ ap (sets xs to) (sym more)
 
 -- what is freed zeroed
 pub gap-closed :

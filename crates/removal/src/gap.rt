@@ -68,15 +68,21 @@ fn move_rest(words: &mut [u32], gap: usize, done: usize)
     }
 }
 
+// Moves the words after a gap to its front, eight at a time. Over a gap of eight or more the last eight stand unchanged until they are moved, so that what is left goes with them, some of it for the second time.
 pub fn move_down_by(words: &mut [u32], gap: usize)
     requires { ⌜ gap ≤ length (now words) ⌝ }
     ensures { λ _. ⌜ now (words .exit) ≡ movedDown gap (now (words .entry)) ⌝ }
 {
     let count = words.len() - gap;
     let mut i = 0;
-    while 8 <= count - i {
+    while i + 8 <= count {
         move_eight(words, i, i + gap);
         i += 8;
+    }
+    if (8 <= gap) & (8 <= count) {
+        let last = count - 8;
+        move_eight(words, last, last + gap);
+        return;
     }
     move_rest(words, gap, i);
 }

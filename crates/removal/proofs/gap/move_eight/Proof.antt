@@ -1,7 +1,7 @@
 -- `move_eight` stores the eight words from `from` on at `to`: each is read before one is written, so that what is stored is what stood there. Assumes nothing.
 use native.Mathlib.Omega.{arith}
 use lib.ListN.{length-set}
-use Rattle.removal.proofs.Shifts.{eight-stored}
+use Rattle.removal.proofs.Shifts.{stored-all}
 use Rattle.removal.proofs.gap.move_eight.Statement.{statement}
 use Rattle.removal.proofs.gap.move_eight.Tie as tie
 
@@ -149,7 +149,7 @@ same-length c = simp length-set
 returns : tie.Need-returns
 returns c =
     let s = c .before .before .before .before .before .before .before .before in
-    eight-stored (s .args .words .now) (s .args .to) (s .args .from) (s .pre .1)
+    stored-all (s .args .words .now) (s .args .to) (s .args .from) 7 (s .pre .1)
 
 pub move-eight-spec : {M : Type 1} → statement M
 move-eight-spec =
