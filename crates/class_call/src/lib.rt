@@ -1,4 +1,4 @@
-// The calls on months and classes, over a run that is known to be a book: `M`, `O`, `C`, `V`, `D` and `R`.
+// The calls on months and classes, over a run that is known to be a book: `M`, `O`, `C`, `V`, `D` and `R`. `near` is where the class is looked for first: any number will do.
 ghost use mathlib.Core.List.{[]};
 ghost use lib.Dec.{T};
 ghost use Rattle.book.specs.Books.{isBook};
@@ -47,14 +47,14 @@ pub fn set_month(run: &mut [u32], m: u32) -> Answer
 }
 
 // `O`: opens a class.
-pub fn open_class(run: &mut [u32], c: u32) -> Answer
+pub fn open_class(run: &mut [u32], near: usize, c: u32) -> Answer
     requires { ⌜ T (isBook (now run)) ⌝ }
     ensures { λ r. ⌜ Made (callO c) (now (run .entry)) [] r (now (run .exit)) [] ⌝ }
 {
     if !is_class_number(c) {
         return Answer::Refused(Refusal::BeyondLimits);
     }
-    let at = class_at(run, c);
+    let at = class_at(run, near, c);
     if is_open_at(run, at, c) {
         return Answer::Refused(Refusal::AlreadyOpen);
     }
@@ -66,14 +66,14 @@ pub fn open_class(run: &mut [u32], c: u32) -> Answer
 }
 
 // `C`: sets the close.
-pub fn set_close(run: &mut [u32], c: u32, p: u32) -> Answer
+pub fn set_close(run: &mut [u32], near: usize, c: u32, p: u32) -> Answer
     requires { ⌜ T (isBook (now run)) ⌝ }
     ensures { λ r. ⌜ Made (callC c p) (now (run .entry)) [] r (now (run .exit)) [] ⌝ }
 {
     if !(is_class_number(c) & is_price(p)) {
         return Answer::Refused(Refusal::BeyondLimits);
     }
-    let at = class_at(run, c);
+    let at = class_at(run, near, c);
     if !is_open_at(run, at, c) {
         return Answer::Refused(Refusal::NotOpen);
     }
@@ -83,14 +83,14 @@ pub fn set_close(run: &mut [u32], c: u32, p: u32) -> Answer
 }
 
 // `V`: sets the volume.
-pub fn set_volume(run: &mut [u32], c: u32, n: u32) -> Answer
+pub fn set_volume(run: &mut [u32], near: usize, c: u32, n: u32) -> Answer
     requires { ⌜ T (isBook (now run)) ⌝ }
     ensures { λ r. ⌜ Made (callV c n) (now (run .entry)) [] r (now (run .exit)) [] ⌝ }
 {
     if !(is_class_number(c) & is_volume(n)) {
         return Answer::Refused(Refusal::BeyondLimits);
     }
-    let at = class_at(run, c);
+    let at = class_at(run, near, c);
     if !is_open_at(run, at, c) {
         return Answer::Refused(Refusal::NotOpen);
     }
@@ -100,14 +100,14 @@ pub fn set_volume(run: &mut [u32], c: u32, n: u32) -> Answer
 }
 
 // `D`: gives the program p the designation d.
-pub fn designate(run: &mut [u32], c: u32, p: u32, d: u32) -> Answer
+pub fn designate(run: &mut [u32], near: usize, c: u32, p: u32, d: u32) -> Answer
     requires { ⌜ T (isBook (now run)) ⌝ }
     ensures { λ r. ⌜ Made (callD c p d) (now (run .entry)) [] r (now (run .exit)) [] ⌝ }
 {
     if !(is_class_number(c) & (is_program(p) & is_designation(d))) {
         return Answer::Refused(Refusal::BeyondLimits);
     }
-    let at = class_at(run, c);
+    let at = class_at(run, near, c);
     if !is_open_at(run, at, c) {
         return Answer::Refused(Refusal::NotOpen);
     }
@@ -121,14 +121,14 @@ pub fn designate(run: &mut [u32], c: u32, p: u32, d: u32) -> Answer
 }
 
 // `R`: the review.
-pub fn review_class(run: &mut [u32], c: u32) -> Answer
+pub fn review_class(run: &mut [u32], near: usize, c: u32) -> Answer
     requires { ⌜ T (isBook (now run)) ⌝ }
     ensures { λ r. ⌜ Made (callR c) (now (run .entry)) [] r (now (run .exit)) [] ⌝ }
 {
     if !is_class_number(c) {
         return Answer::Refused(Refusal::BeyondLimits);
     }
-    let at = class_at(run, c);
+    let at = class_at(run, near, c);
     if !is_open_at(run, at, c) {
         return Answer::Refused(Refusal::NotOpen);
     }

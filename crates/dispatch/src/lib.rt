@@ -1,4 +1,4 @@
-// The call that a letter and its numbers name, made on a run that is known to be a book.
+// The call that a letter and its numbers name, made on a run that is known to be a book. `near` is where its class is looked for first: any number will do.
 ghost use mathlib.Core.List.{[], _∷_};
 ghost use lib.Dec.{T};
 ghost use lib.ListN.{length, take};
@@ -20,53 +20,69 @@ use word::answer::Answer;
 use word::answer::Refusal;
 
 // `M`, `O` and `R`.
-fn make_of_one(run: &mut [u32], letter: u32, a: u32) -> Answer
+fn make_of_one(run: &mut [u32], near: usize, letter: u32, a: u32) -> Answer
     requires { ⌜ T (isBook (now run)) ⌝ }
     ensures { λ r. ⌜ Made (callOfOne letter a) (now (run .entry)) [] r (now (run .exit)) [] ⌝ }
 {
     match letter {
         77 => set_month(run, a),
-        79 => open_class(run, a),
-        82 => review_class(run, a),
+        79 => open_class(run, near, a),
+        82 => review_class(run, near, a),
         _ => Answer::Refused(Refusal::BeyondLimits),
     }
 }
 
 // `C`, `V` and `A`.
-fn make_of_two(run: &mut [u32], second: &mut [u32], letter: u32, a: u32, b: u32) -> Answer
+fn make_of_two(
+    run: &mut [u32],
+    second: &mut [u32],
+    near: usize,
+    letter: u32,
+    a: u32,
+    b: u32,
+) -> Answer
     requires { ⌜ T (isBook (now run)) ⌝ }
     ensures { λ r. ⌜ Made (callOfTwo (length (now (second .entry))) letter a b)
         (now (run .entry)) (now (second .entry)) r (now (run .exit)) (now (second .exit)) ⌝ }
 {
     match letter {
-        67 => set_close(run, a, b),
-        86 => set_volume(run, a, b),
-        65 => list_permitted(run, second, a, b),
+        67 => set_close(run, near, a, b),
+        86 => set_volume(run, near, a, b),
+        65 => list_permitted(run, second, near, a, b),
         _ => Answer::Refused(Refusal::BeyondLimits),
     }
 }
 
 // `D`, `L`, `J` and `X`.
-fn make_of_three(run: &mut [u32], letter: u32, a: u32, b: u32, c: u32) -> Answer
+fn make_of_three(run: &mut [u32], near: usize, letter: u32, a: u32, b: u32, c: u32) -> Answer
     requires { ⌜ T (isBook (now run)) ⌝ }
     ensures { λ r. ⌜ Made (callOfThree letter a b c) (now (run .entry)) [] r (now (run .exit)) [] ⌝ }
 {
     match letter {
-        68 => designate(run, a, b, c),
-        76 => list_strike(run, a, b, c),
-        74 => judge_strike(run, a, b, c),
-        88 => delist_strike(run, a, b, c),
+        68 => designate(run, near, a, b, c),
+        76 => list_strike(run, near, a, b, c),
+        74 => judge_strike(run, near, a, b, c),
+        88 => delist_strike(run, near, a, b, c),
         _ => Answer::Refused(Refusal::BeyondLimits),
     }
 }
 
 // `I`.
-fn make_of_five(run: &mut [u32], letter: u32, a: u32, b: u32, c: u32, d: u32, e: u32) -> Answer
+fn make_of_five(
+    run: &mut [u32],
+    near: usize,
+    letter: u32,
+    a: u32,
+    b: u32,
+    c: u32,
+    d: u32,
+    e: u32,
+) -> Answer
     requires { ⌜ T (isBook (now run)) ⌝ }
     ensures { λ r. ⌜ Made (callOfFive letter a b c d e) (now (run .entry)) [] r (now (run .exit)) [] ⌝ }
 {
     if letter == 73 {
-        return mark_strike(run, a, b, c, d, e);
+        return mark_strike(run, near, a, b, c, d, e);
     }
     Answer::Refused(Refusal::BeyondLimits)
 }
@@ -75,6 +91,7 @@ fn make_of_five(run: &mut [u32], letter: u32, a: u32, b: u32, c: u32, d: u32, e:
 pub fn make_call(
     run: &mut [u32],
     second: &mut [u32],
+    near: usize,
     letter: u32,
     count: usize,
     a: u32,
@@ -89,10 +106,10 @@ pub fn make_call(
 {
     match count {
         0 => Answer::Refused(Refusal::BeyondLimits),
-        1 => make_of_one(run, letter, a),
-        2 => make_of_two(run, second, letter, a, b),
-        3 => make_of_three(run, letter, a, b, c),
+        1 => make_of_one(run, near, letter, a),
+        2 => make_of_two(run, second, near, letter, a, b),
+        3 => make_of_three(run, near, letter, a, b, c),
         4 => Answer::Refused(Refusal::BeyondLimits),
-        _ => make_of_five(run, letter, a, b, c, d, e),
+        _ => make_of_five(run, near, letter, a, b, c, d, e),
     }
 }

@@ -19,7 +19,7 @@ use Rattle.book.specs.Calls.{callI, callO, class, isStanding, update, changed}
 use Rattle.book.specs.Places.{classPlace, hasExpiration, strikePlace}
 use Rattle.book.proofs.LegalWords.{fits, strike-legal, figures-legal}
 use Rattle.book.proofs.Tests.{and-intro}
-use Rattle.book.proofs.Splices.{place-inside, figures-spliced, opened-spliced, listed-spliced, marking}
+use Rattle.book.proofs.Splices.{figures-spliced, opened-spliced, listed-spliced, marking}
 use Rattle.place.proofs.Heads.{book-good}
 use Rattle.edit.specs.Insertion.{insertWords}
 use Rattle.edit.proofs.Runs.{old-read, stored, inserted}
@@ -74,9 +74,6 @@ module _ (ws : List ℕ) (t : T (isBook ws)) (at : ℕ) (c : ℕ) where
       let ground = ap (λ (w : ℕ). field w 15 3) old ∙ read .1 in
       (λ i. set ws (e i) (packed (Strike (strike i) (ground i) a b)))
       ∙ stored ws t (one .spliced a b) refl
-
-  pub class-inside : T (not (isOpen c (f .classes))) → at ≡ classPlace c f → at ≤ used f
-  class-inside o e = omega (arith, place-inside (opened-spliced (length ws) f c (book-good ws t) o))
 
   pub class-inserted :
       T (not (isOpen c (f .classes))) → at ≡ classPlace c f

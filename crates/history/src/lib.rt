@@ -37,6 +37,7 @@ fn make_record(run: &mut [u32], pool: &mut [u32], calls: &[u32], at: usize) -> A
     make_call(
         run,
         &mut pool[0..room],
+        0,
         calls[at],
         calls[at + 1] as usize,
         calls[at + 2],

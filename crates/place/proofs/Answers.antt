@@ -18,9 +18,9 @@ use Rattle.book.specs.Calls.{class, isStanding}
 use Rattle.book.specs.Places.{classPlace, hasExpiration, expirationPlace, strikesPlace, strikesEnd, strikePlace}
 use Rattle.book.proofs.Parts.{isUnder, isEqual, some-both}
 use Rattle.book.proofs.Expirations.{monthOf, strikeOf}
-use Rattle.place.specs.Search.{firstAt, isUpTo}
+use Rattle.place.specs.Search.{firstAt, isHolding, isUpTo}
 use Rattle.place.specs.Lookups.{expirationOf, strikeSearchOf}
-use Rattle.place.proofs.Found.{isStrikeOf, none-in, expiration-sought, expiration-found, strikes-ended, strike-sought, strike-found}
+use Rattle.place.proofs.Found.{none-in, expiration-sought, expiration-found, strikes-ended, strike-sought, strike-found}
 
 -- ---- a test of a word, where it is one of those used
 
@@ -111,7 +111,7 @@ module _
     pub its-strike :
         (h k : ℕ) (standing : Bool) → h < 2 ^ 28
         → k ≡ firstAt (isUpTo 6 15 h) (take (end - (place + 1)) (drop (place + 1) ws))
-        → standing ≡ (ltb (place + 1 + k) (used facts) && isStrikeOf h (getD ws (place + 1 + k) 0))
+        → standing ≡ (ltb (place + 1 + k) (used facts) && isHolding 6 15 h (getD ws (place + 1 + k) 0))
         → record { at = place + 1 + k; expiration = true; standing = standing } ≡ strikeSearchOf c m h facts
     its-strike h k standing small q s =
         let at : place + 1 + k ≡ strikePlace c m h facts =

@@ -28,7 +28,7 @@ use Rattle.book.proofs.Expirations.{monthOf, strikeOf, series-words, low, place
 use Rattle.book.proofs.Splits.{every-split}
 use Rattle.book.proofs.ClassWords.{class-good, series-good, class-words, numbers-rise}
 use Rattle.book.proofs.Runs.{bookWords, run-part, run-word}
-use Rattle.place.specs.Search.{firstAt, isOfKind, isNoLower, isUpTo, isFrom, Rises, figuresAt}
+use Rattle.place.specs.Search.{firstAt, isOfKind, isNoLower, isUpTo, isFrom, isHolding, Rises, figuresAt}
 use Rattle.place.proofs.Heads.{book-good, book-form, book-is, book-room, book-long}
 use Rattle.place.proofs.Words.{keyIn, first-from, isKeyed, key-said, from-packed, isEnding, up-to-packed}
 use Rattle.place.proofs.Laid.{begins, first-after, kinds-packed, stops-anywhere, ends-there, from-there, two-parts, sought, found, every-series, not-from, strikes-laid, class-kinds, no-class, classes-laid}
@@ -64,15 +64,11 @@ module _
       let after : m < s .month = ltb→lt m (s .month) (search ands) in
       rw (eqb·zero-suc (s .month)) (of-month (s .month) _ after)
 
--- a strike word that holds h
-abbrev pub isStrikeOf : ℕ → ℕ → Bool
-isStrikeOf h w = isOfKind 6 w && eqb (field w 0 15) h
-
-strike-said : (h : ℕ) (w : Word) → isLegal w ≡ true → kindIn w ≡ 6 → isStrikeOf h (packed w) ≡ eqb (keyIn w) h
+strike-said : (h : ℕ) (w : Word) → isLegal w ≡ true → kindIn w ≡ 6 → isHolding 6 15 h (packed w) ≡ eqb (keyIn w) h
 strike-said h w legal e =
     rw (kind-packed w (packed w) (legal-fits w legal) refl, e, key-said 6 w legal e)
 
-no-strike : (h : ℕ) (w : Word) → isLegal w ≡ true → eqb (kindIn w) 6 ≡ false → isStrikeOf h (packed w) ≡ false
+no-strike : (h : ℕ) (w : Word) → isLegal w ≡ true → eqb (kindIn w) 6 ≡ false → isHolding 6 15 h (packed w) ≡ false
 no-strike h w legal e = rw (kind-packed w (packed w) (legal-fits w legal) refl, e)
 
 -- ---- classes
@@ -163,15 +159,26 @@ module _ (ws : List ℕ) (b : T (isBook ws)) where
       let q = sought number 2 (λ xs. classesWords xs []) classes-laid c (facts .classes) (numbers c) legal in
       omega (arith, ap (firstAt (isFrom 2 14 c)) (body end d))
 
+  -- the book's words, parted where a class stands or would stand
+  class-parted :
+      (c : ℕ)
+      → bookWords (length ws) facts
+      ≡ (Head (facts .now) (used facts) ∷ classesWords (only (isUnder number c) (facts .classes)) [])
+      ++ classesWords (only (isEqual number c) (facts .classes) ++ only (isOver number c) (facts .classes)) []
+  class-parted c =
+      ap (λ (l : List Word). Head (facts .now) (used facts) ∷ l)
+      (two-parts number 2 (λ xs. classesWords xs []) classes-laid c (facts .classes) (numbers c) legal)
+
+  pub class-within : (c : ℕ) → classPlace c facts ≤ used facts
+  class-within c = omega (arith, simp length-append at (ap length (class-parted c)))
+
   pub class-found :
       (c at : ℕ) → at ≡ classPlace c facts
       → (ltb at (used facts) && eqb (field (getD ws at 0) 0 14) c) ≡ isOpen c (facts .classes)
   class-found c at e =
       let test : ℕ → Bool = λ w. eqb (field w 0 14) c in
-      let head = Head (facts .now) (used facts) in
       let from = classesWords (only (isEqual number c) (facts .classes) ++ only (isOver number c) (facts .classes)) [] in
-      word-there test at (head ∷ classesWords (only (isUnder number c) (facts .classes)) []) from
-      (ap (λ (l : List Word). head ∷ l) (two-parts number 2 (λ xs. classesWords xs []) classes-laid c (facts .classes) (numbers c) legal)) e
+      word-there test at (Head (facts .now) (used facts) ∷ classesWords (only (isUnder number c) (facts .classes)) []) from (class-parted c) e
       ∙ ap (begins test) (sym (append-nil from))
       ∙ found number 2 (λ xs. classesWords xs []) classes-laid c (facts .classes) (numbers c) legal test
       (λ w legal k. ap (λ (n : ℕ). eqb n c) (key-said 2 w legal k)) [] refl
@@ -401,15 +408,15 @@ module _ (ws : List ℕ) (b : T (isBook ws)) where
           -- .. and its word stands there where it stands
           pub strike-found :
               (at : ℕ) → at ≡ strikePlace c m h facts
-              → (ltb at (used facts) && isStrikeOf h (getD ws at 0)) ≡ isStanding facts c m h
+              → (ltb at (used facts) && isHolding 6 15 h (getD ws at 0)) ≡ isStanding facts c m h
           strike-found at e =
               let before = (lower ++ figures) ++ (early ++ (Expiration m ∷ [])) in
               let one : cond {A = ℕ} has 1 0 ≡ 1 = rw stands in
-              word-there (isStrikeOf h) at (before ++ lows) (highs ++ late)
+              word-there (isHolding 6 15 h) at (before ++ lows) (highs ++ late)
               (strikes-around ∙ ap (λ (l : List Word). before ++ l) two ∙ sym (append-assoc before lows (highs ++ late)))
               (e ∙ sym (simp (length-append, length-map) (omega (arith, before-length))))
-              ∙ found strikeOf 6 (map strikeWord) strikes-laid h here parts here-legal (isStrikeOf h) (strike-said h) late
-              (later (λ l. T (every isLegal l) → begins (isStrikeOf h) l ≡ false) (λ t. refl)
+              ∙ found strikeOf 6 (map strikeWord) strikes-laid h here parts here-legal (isHolding 6 15 h) (strike-said h) late
+              (later (λ l. T (every isLegal l) → begins (isHolding 6 15 h) l ≡ false) (λ t. refl)
               (λ n d k l t. no-strike h (Class n d k) (T-true (isLegal (Class n d k)) (search ands)) refl)
               (λ n l k t. no-strike h (Expiration n) (T-true (isLegal (Expiration n)) (search ands)) refl)
               (every-split isLegal strikes late strikes-legal .1))

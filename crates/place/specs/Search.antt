@@ -35,6 +35,10 @@ isUpTo kind width key w = leb (rankOf width w) (kind * 2 ^ 28 + (2 ^ 28 - 1 - ke
 abbrev pub isFrom : ℕ → ℕ → ℕ → ℕ → Bool
 isFrom kind width key w = isOfKind kind w && leb key (field w 0 width)
 
+-- a word of the kind whose lowest field, of `width` bits, holds the key
+abbrev pub isHolding : ℕ → ℕ → ℕ → ℕ → Bool
+isHolding kind width key w = isOfKind kind w && eqb (field w 0 width) key
+
 -- words of the kind that hold less than the key stand before the first that holds at least the key, and one that holds the key is that first
 pub record Rises (kind width key : ℕ) (ws : List ℕ) : Type 0 where
   pub below :

@@ -4,21 +4,22 @@ ghost use mathlib.Core.Bool.{_&&_};
 ghost use Prim.Native.Nat.{ℕ, _+_, _-_, _<_, _≤_};
 ghost use lib.Dec.{T, eqb, ltb};
 ghost use lib.ListN.{drop, getD, length, take};
-ghost use Rattle.word.specs.Field.{field};
 ghost use Rattle.word.specs.Limits.{isClassNumber, isMonth, isStrike};
 ghost use Rattle.book.specs.Facts.{isOpen};
 ghost use Rattle.book.specs.Layout.{factsOf, used};
 ghost use Rattle.book.specs.Books.{isBook};
 ghost use Rattle.book.specs.Places.{classPlace};
-ghost use Rattle.place.specs.Search.{firstAt, isFrom, isOfKind, isUpTo, figuresAt};
-ghost use Rattle.place.specs.Lookups.{expirationOf, strikeSearchOf};
+ghost use Rattle.place.specs.Search.{firstAt, isFrom, isHolding, isUpTo, figuresAt};
+ghost use Rattle.place.specs.Lookups.{expirationOf, rememberedPlace, strikeSearchOf};
 use crate::head;
 use crate::search::first;
 use crate::search::first_rising;
+use crate::search::found_near;
+use crate::search::holds;
 use word::class::ClassRecord;
 use word::codec::expiration_word;
-use word::codec::kind;
 use word::field::field_of;
+use word::limits::is_class_number;
 
 // Where the strikes of an expiration stand; where it has none, both are the index before which its word would stand.
 pub struct Expiration {
@@ -56,13 +57,35 @@ pub fn next_class(run: &[u32], from: usize) -> usize
     from + first(&run[from..used], 2, 14, 0)
 }
 
-// Where the class c stands, or where its words would be put.
-pub fn class_at(run: &[u32], c: u32) -> usize
+// Where the class c stands, or where its words would be put. It is looked for first about `near`, which may be any number; 0 where nothing is known.
+pub fn class_at(run: &[u32], near: usize, c: u32) -> usize
     requires { ⌜ T (isBook (now run)) × T (isClassNumber c) ⌝ }
     ensures { λ r. ⌜ r ≡ classPlace c (factsOf (now (run .entry))) ⌝ }
 {
     let used = head::used(run);
-    1 + first_rising(&run[1..used], 2, 14, c)
+    let words = &run[1..used];
+    if 0 < near {
+        let found = found_near(words, near - 1, 2, 14, c);
+        if found < words.len() {
+            return 1 + found;
+        }
+    }
+    1 + first_rising(words, 2, 14, c)
+}
+
+// Where the class c stands, or where its words would be put, in a book of more than 256 words; 0 in a shorter one, where a search costs less than to remember. `places` holds where classes
+// were found, by the last ten bits of their numbers: they move little from call to call. Any numbers will do, since they only shorten the search.
+pub fn remembered_place(run: &[u32], places: &mut [u32], c: u32) -> usize
+    requires { ⌜ T (isBook (now run)) × (length (now places) ≡ 1024) ⌝ }
+    ensures { λ r. ⌜ r ≡ rememberedPlace c (factsOf (now (run .entry))) ⌝ }
+{
+    if !is_class_number(c) | (head::used(run) <= 256) {
+        return 0;
+    }
+    let slot = (c % 1024) as usize;
+    let at = class_at(run, places[slot] as usize, c);
+    places[slot] = at as u32;
+    at
 }
 
 // Whether the class c is open, by the word where it would stand.
@@ -100,12 +123,12 @@ fn is_word_at(run: &[u32], at: usize, w: u32) -> bool
 // Whether the words used have a strike there, and it is h.
 fn is_strike_at(run: &[u32], at: usize, h: u32) -> bool
     requires { ⌜ T (isBook (now run)) ⌝ }
-    ensures { λ r. ⌜ r ≡ (ltb at (used (factsOf (now (run .entry)))) && (isOfKind 6 (getD (now (run .entry)) at 0) && eqb (field (getD (now (run .entry)) at 0) 0 15) h)) ⌝ }
+    ensures { λ r. ⌜ r ≡ (ltb at (used (factsOf (now (run .entry)))) && isHolding 6 15 h (getD (now (run .entry)) at 0)) ⌝ }
 {
     if head::used(run) <= at {
         return false;
     }
-    (kind(run[at]) == 6) & (field_of(run[at], 0, 15) == h)
+    holds(run[at], 6, 15, h)
 }
 
 // The expiration m of the open class at `class`.

@@ -1,12 +1,13 @@
 // The first word of a kind that holds at least a key, or of a lower kind, 16 words at a time; and the first of a kind from a key on, by guesses where the words of the kind rise.
 ghost use mathlib.Core.Path.{_≡_};
+ghost use mathlib.Core.Bool.{true};
 ghost use Prim.Native.Nat.{_*_, _^_, _<_, _≤_};
 ghost use mathlib.Core.List.{map};
 ghost use lib.Dec.{T, leb};
-ghost use lib.ListN.{length};
+ghost use lib.ListN.{getD, length};
 ghost use Rattle.word.specs.Digits.{binary};
 ghost use Rattle.rule.specs.Lists.{every};
-ghost use Rattle.place.specs.Search.{firstAt, isFrom, isNoLower, rankOf, isUpTo, Rises};
+ghost use Rattle.place.specs.Search.{firstAt, isFrom, isHolding, isNoLower, rankOf, isUpTo, Rises};
 use word::codec::kind;
 use word::field::field_of;
 
@@ -68,6 +69,37 @@ pub fn first(words: &[u32], kind: u32, width: u32, key: u32) -> usize
         i += 16;
     }
     i + first_plainly(&words[i..words.len()], width, most)
+}
+
+// Whether a word is of the kind and holds the key.
+pub fn holds(w: u32, of: u32, width: u32, key: u32) -> bool
+    requires { ⌜ width ≤ 28 ⌝ }
+    ensures { λ r. ⌜ r ≡ isHolding of width key w ⌝ }
+{
+    (kind(w) == of) & (field_of(w, 0, width) == key)
+}
+
+// The index of a word of the kind that holds the key, where it stands at `near` or a few words from it; else the length.
+pub fn found_near(words: &[u32], near: usize, of: u32, width: u32, key: u32) -> usize
+    requires { ⌜ (of < 16) × ((width ≤ 28) × (key < 2 ^ 28)) ⌝ }
+    ensures { λ r. ⌜ (r ≤ length (now (words .entry))) × (r < length (now (words .entry)) → isHolding of width key (getD (now (words .entry)) r 0) ≡ true) ⌝ }
+{
+    let n = words.len();
+    if (near < 8) | (n < 32) {
+        return n;
+    }
+    if n - 24 <= near {
+        return n;
+    }
+    if holds(words[near], of, width, key) {
+        return near;
+    }
+    let from = near - 8;
+    let at = from + first(&words[from..from + 32], of, width, key);
+    if holds(words[at], of, width, key) {
+        return at;
+    }
+    n
 }
 
 // Where a key is to be expected among `span` words, before which `below` is held, and behind which `above`: a little before, since the search goes up from there; in the middle where they say

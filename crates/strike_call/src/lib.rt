@@ -1,4 +1,5 @@
-// The calls on strikes, over a run that is known to be a book: `L`, `J`, `X`, `I` and `A`.
+// The calls on strikes, over a run that is known to be a book: `L`, `J`, `X`, `I` and `A`. `near` is where the class is looked for first: any number will do.
+// `J` and `A`, which only read the run, take a slice of all of it first: that one stays in registers, where the lent one would be copied in memory.
 ghost use mathlib.Core.Bool.{_&&_};
 ghost use mathlib.Core.List.{[]};
 ghost use mathlib.Core.Path.{_≡_};
@@ -88,30 +89,31 @@ fn judge_found(run: &[u32], class: usize, found: StrikeSearch, m: u32, h: u32) -
 }
 
 // `J`: the judgement of a strike.
-pub fn judge_strike(run: &[u32], c: u32, m: u32, h: u32) -> Answer
+pub fn judge_strike(run: &[u32], near: usize, c: u32, m: u32, h: u32) -> Answer
     requires { ⌜ T (isBook (now run)) ⌝ }
     ensures { λ r. ⌜ Made (callJ c m h) (now (run .entry)) [] r (now (run .entry)) [] ⌝ }
 {
+    let words = &run[..];
     if !is_written(c, m, h) {
         return Answer::Refused(Refusal::BeyondLimits);
     }
-    let class = class_at(run, c);
-    if !is_open_at(run, class, c) {
+    let class = class_at(words, near, c);
+    if !is_open_at(words, class, c) {
         return Answer::Refused(Refusal::NotOpen);
     }
-    let found = look_up_strike(run, class, m, h);
-    judge_found(run, class, found, m, h)
+    let found = look_up_strike(words, class, m, h);
+    judge_found(words, class, found, m, h)
 }
 
 // `L`: adds a strike.
-pub fn list_strike(run: &mut [u32], c: u32, m: u32, h: u32) -> Answer
+pub fn list_strike(run: &mut [u32], near: usize, c: u32, m: u32, h: u32) -> Answer
     requires { ⌜ T (isBook (now run)) ⌝ }
     ensures { λ r. ⌜ Made (callL c m h) (now (run .entry)) [] r (now (run .exit)) [] ⌝ }
 {
     if !is_written(c, m, h) {
         return Answer::Refused(Refusal::BeyondLimits);
     }
-    let class = class_at(run, c);
+    let class = class_at(run, near, c);
     if !is_open_at(run, class, c) {
         return Answer::Refused(Refusal::NotOpen);
     }
@@ -129,14 +131,14 @@ pub fn list_strike(run: &mut [u32], c: u32, m: u32, h: u32) -> Answer
 }
 
 // `X`: delists a strike.
-pub fn delist_strike(run: &mut [u32], c: u32, m: u32, h: u32) -> Answer
+pub fn delist_strike(run: &mut [u32], near: usize, c: u32, m: u32, h: u32) -> Answer
     requires { ⌜ T (isBook (now run)) ⌝ }
     ensures { λ r. ⌜ Made (callX c m h) (now (run .entry)) [] r (now (run .exit)) [] ⌝ }
 {
     if !is_written(c, m, h) {
         return Answer::Refused(Refusal::BeyondLimits);
     }
-    let class = class_at(run, c);
+    let class = class_at(run, near, c);
     if !is_open_at(run, class, c) {
         return Answer::Refused(Refusal::NotOpen);
     }
@@ -154,14 +156,14 @@ pub fn delist_strike(run: &mut [u32], c: u32, m: u32, h: u32) -> Answer
 }
 
 // `I`: sets the marks of open interest.
-pub fn mark_strike(run: &mut [u32], c: u32, m: u32, h: u32, a: u32, b: u32) -> Answer
+pub fn mark_strike(run: &mut [u32], near: usize, c: u32, m: u32, h: u32, a: u32, b: u32) -> Answer
     requires { ⌜ T (isBook (now run)) ⌝ }
     ensures { λ r. ⌜ Made (callI c m h a b) (now (run .entry)) [] r (now (run .exit)) [] ⌝ }
 {
     if !(is_written(c, m, h) & (is_mark(a) & is_mark(b))) {
         return Answer::Refused(Refusal::BeyondLimits);
     }
-    let class = class_at(run, c);
+    let class = class_at(run, near, c);
     if !is_open_at(run, class, c) {
         return Answer::Refused(Refusal::NotOpen);
     }
@@ -174,21 +176,22 @@ pub fn mark_strike(run: &mut [u32], c: u32, m: u32, h: u32, a: u32, b: u32) -> A
 }
 
 // `A`: writes the permitted strikes to the second run.
-pub fn list_permitted(run: &[u32], second: &mut [u32], c: u32, m: u32) -> Answer
+pub fn list_permitted(run: &[u32], second: &mut [u32], near: usize, c: u32, m: u32) -> Answer
     requires { ⌜ T (isBook (now run)) ⌝ }
     ensures { λ r. ⌜ Made (callA c m (length (now (second .entry)))) (now (run .entry)) (now (second .entry)) r (now (run .entry)) (now (second .exit)) ⌝ }
 {
+    let words = &run[..];
     if !(is_class_number(c) & is_month(m)) {
         return Answer::Refused(Refusal::BeyondLimits);
     }
-    let at = class_at(run, c);
-    if !is_open_at(run, at, c) {
+    let at = class_at(words, near, c);
+    if !is_open_at(words, at, c) {
         return Answer::Refused(Refusal::NotOpen);
     }
-    let class = figures_at(run, at);
+    let class = figures_at(words, at);
     let setting = Setting {
         class,
-        current: head::current(run),
+        current: head::current(words),
         month: m,
     };
     if is_outside(setting) {
@@ -197,8 +200,8 @@ pub fn list_permitted(run: &[u32], second: &mut [u32], c: u32, m: u32) -> Answer
     if class.close == 0 {
         return Answer::Refused(Refusal::NoClose);
     }
-    let found = look_up_expiration(run, at, m);
+    let found = look_up_expiration(words, at, m);
     let from = found.from;
     let to = found.to;
-    permitted::list_permitted(setting, &run[from..to], second)
+    permitted::list_permitted(setting, &words[from..to], second)
 }

@@ -16,6 +16,7 @@ use crate::line::feed;
 use crate::line::read_line;
 use crate::print::put_answer;
 use crate::sheet::make_line;
+use place::lookup::remembered_place;
 
 // How far a piece has been read, the line that has not ended, and how many bytes were printed.
 pub struct Progress {
@@ -47,13 +48,20 @@ fn strikes_listed(letter: u8, number: u32, value: u32) -> usize
     0
 }
 
-// Makes the call of a line that has ended, and prints its answer from `at` on.
-fn print_line(run: &mut [u32], second: &mut [u32], line: Line, out: &mut [u8], at: usize) -> usize
+// Makes the call of a line that has ended, whose class is looked for first at `near`, and prints its answer from `at` on.
+fn print_line(
+    run: &mut [u32],
+    second: &mut [u32],
+    near: usize,
+    line: Line,
+    out: &mut [u8],
+    at: usize,
+) -> usize
     requires { ⌜ T (isBook (now run)) × (at + lineRoom (length (now second)) ≤ length (now out)) ⌝ }
     ensures { λ r. ⌜ Ended (callHeld (length (now (second .entry))) line) (now (run .entry)) (now (second .entry)) (now (out .entry)) at
         r (now (run .exit)) (now (second .exit)) (now (out .exit)) ⌝ }
 {
-    let answer = make_line(run, second, line);
+    let answer = make_line(run, second, near, line);
     let letter = line.letter;
     let number = answer.number();
     let value = answer.value();
@@ -67,10 +75,10 @@ pub fn end_line(run: &mut [u32], second: &mut [u32], line: Line, out: &mut [u8],
     ensures { λ r. ⌜ Ended (callHeld (length (now (second .entry))) (endOf line)) (now (run .entry)) (now (second .entry)) (now (out .entry)) at
         r (now (run .exit)) (now (second .exit)) (now (out .exit)) ⌝ }
 {
-    print_line(run, second, end(line), out, at)
+    print_line(run, second, 0, end(line), out, at)
 }
 
-// Reads the lines that begin at `from` or later and end in the piece, as far as `out` has room for their answers.
+// Reads the lines that begin at `from` or later and end in the piece, as far as `out` has room for their answers. Where the class of a line was found is remembered for the lines after it.
 fn read_lines(
     run: &mut [u32],
     second: &mut [u32],
@@ -83,6 +91,7 @@ fn read_lines(
     ensures { λ r. ⌜ LinesRead (now (run .entry)) (now (second .entry)) (now (piece .entry)) from (now (out .entry)) at
         r (now (run .exit)) (now (second .exit)) (now (out .exit)) ⌝ }
 {
+    let mut places = [0; 1024];
     let mut put = at;
     let mut read = from;
     while read < piece.len() {
@@ -92,7 +101,8 @@ fn read_lines(
             return Lines { read, put };
         }
         let line = whole.line;
-        put = print_line(run, second, line, out, put);
+        let near = remembered_place(run, &mut places, line.numbers[0]);
+        put = print_line(run, second, near, line, out, put);
         read = end + 1;
     }
     Lines { read, put }

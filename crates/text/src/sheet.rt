@@ -13,12 +13,13 @@ ghost use Rattle.text.specs.Sheets.{SheetRun};
 use crate::line::Line;
 use crate::line::read_line;
 use dispatch::make_call;
+use place::lookup::remembered_place;
 use scan::is_book;
 use word::answer::Answer;
 use word::answer::Refusal;
 
-// Makes the call of a line that has ended.
-pub fn make_line(run: &mut [u32], second: &mut [u32], line: Line) -> Answer
+// Makes the call of a line that has ended, whose class is looked for first at `near`.
+pub fn make_line(run: &mut [u32], second: &mut [u32], near: usize, line: Line) -> Answer
     requires { ⌜ T (isBook (now run)) ⌝ }
     ensures { λ r. ⌜ Made (callHeld (length (now (second .entry))) line)
         (now (run .entry)) (now (second .entry)) r (now (run .exit)) (now (second .exit)) ⌝ }
@@ -27,6 +28,7 @@ pub fn make_line(run: &mut [u32], second: &mut [u32], line: Line) -> Answer
     make_call(
         run,
         second,
+        near,
         line.letter as u32,
         line.count,
         numbers[0],
@@ -38,7 +40,7 @@ pub fn make_line(run: &mut [u32], second: &mut [u32], line: Line) -> Answer
 }
 
 // Makes the call of a line that has ended, where `tested` says whether the run is a book.
-fn answer_line(run: &mut [u32], second: &mut [u32], tested: bool, line: Line) -> Answer
+fn answer_line(run: &mut [u32], second: &mut [u32], near: usize, tested: bool, line: Line) -> Answer
     requires { ⌜ tested ≡ isBook (now run) ⌝ }
     ensures { λ r. ⌜ ((bytes : List ℕ) → line ≡ lineOf bytes
         → Made (callIn (length (now (second .entry))) bytes) (now (run .entry)) (now (second .entry)) r (now (run .exit)) (now (second .exit))) ⌝ }
@@ -46,7 +48,7 @@ fn answer_line(run: &mut [u32], second: &mut [u32], tested: bool, line: Line) ->
     if !tested {
         return Answer::Refused(Refusal::NotABook);
     }
-    make_line(run, second, line)
+    make_line(run, second, near, line)
 }
 
 // Writes a number where there is a place for it, and answers the place after it.
@@ -60,13 +62,14 @@ fn put(answers: &mut [u32], at: usize, number: u32) -> usize
     at
 }
 
-// Reads a sheet to its end, makes the call of each line in turn, and answers how many lines there are.
+// Reads a sheet to its end, makes the call of each line in turn, and answers how many lines there are. Where the class of a line was found is remembered for the lines after it.
 // The number and the value of each answer are written to `answers`, two words a line, as far as it has places.
 pub fn run_sheet(run: &mut [u32], second: &mut [u32], sheet: &[u8], answers: &mut [u32]) -> usize
     ensures { λ r. ⌜ SheetRun (now (run .entry)) (now (second .entry)) (now (sheet .entry)) (now (answers .entry))
         r (now (run .exit)) (now (second .exit)) (now (answers .exit)) ⌝ }
 {
     let tested = is_book(run);
+    let mut places = [0; 1024];
     let mut lines = 0;
     let mut at = 0;
     let mut from = 0;
@@ -74,7 +77,12 @@ pub fn run_sheet(run: &mut [u32], second: &mut [u32], sheet: &[u8], answers: &mu
         let whole = read_line(sheet, from);
         let end = whole.end;
         let line = whole.line;
-        let answer = answer_line(run, second, tested, line);
+        let near = if tested {
+            remembered_place(run, &mut places, line.numbers[0])
+        } else {
+            0
+        };
+        let answer = answer_line(run, second, near, tested, line);
         let number = answer.number();
         at = put(answers, at, number);
         at = put(answers, at, answer.value());

@@ -73,8 +73,8 @@ next-class-requires c κs =
 review-requires : tie.Need-review-requires
 review-requires c κs = search needs
 
-cast-t23 : tie.Need-cast-t23
-cast-t23 c =
+cast-t24 : tie.Need-cast-t24
+cast-t24 c =
     let n = c .before .before .before .before in
     let g = n .before .before .before .before in
     let o = g .before .before in
@@ -124,6 +124,6 @@ review-class-spec =
     add-from
     next-class-requires
     review-requires
-    cast-t23
+    cast-t24
     same-length-3
     returns-4)

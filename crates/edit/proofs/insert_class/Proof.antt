@@ -1,11 +1,13 @@
 -- `edit::insert_class` meets its contract: the three words are those of a class as it is opened. Assumes nothing.
 use borrow.Author.Needs.{needs}
+use native.Mathlib.Omega.{arith}
 use mathlib.Core.Path.{_∙_}
 use mathlib.Core.List.{[], _∷_}
 use Rattle.word.specs.Class.{opened}
 use Rattle.book.proofs.Tests.{and-intro}
+use Rattle.place.proofs.Found.{class-within}
 use Rattle.edit.specs.Insertion.{insertWords}
-use Rattle.edit.proofs.Edits.{figures-fit, class-inside, class-inserted}
+use Rattle.edit.proofs.Edits.{figures-fit, class-inserted}
 use Rattle.edit.proofs.insert_class.Statement.{statement}
 use Rattle.edit.proofs.insert_class.Tie as tie
 
@@ -24,7 +26,7 @@ insert3-requires : tie.Need-insert3-requires
 insert3-requires c κs =
     let p = c .before .before .before .before .before .pre in
     let a = c .before .before .before .before .before .args in
-    (p .0, (class-inside (a .run .now) (p .0) (a .at) (a .c) (p .1 .1 .0) (p .1 .1 .1 .0), p .1 .1 .1 .1))
+    (p .0, (omega (arith, p .1 .1 .1 .0, class-within (a .run .now) (p .0) (a .c)), p .1 .1 .1 .1))
 
 same-length : tie.Need-same-length
 same-length c = search needs

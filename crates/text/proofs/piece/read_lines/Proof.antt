@@ -1,21 +1,23 @@
 -- `read_lines` reads whole lines as far as there is room: `Onward` holds at each, and where the loop is left it is what the contract says. Assumes nothing.
 use Prim.Native.Nat.{_-_}
+use mathlib.Core.Path.{_≡_, _∙_}
 use native.Mathlib.Omega.{arith}
 use lib.ListN.{length}
+use borrow.Author.Needs.{needs}
 use Rattle.text.proofs.Readers.{Onward, onward-start, onward-room, onward-more}
 use Rattle.text.proofs.piece.read_lines.Statement.{statement}
 use Rattle.text.proofs.piece.read_lines.Tie as tie
 
 abbrev Inv-loop : tie.InvT-loop
-Inv-loop run₀ second₀ piece from out₀ at put₀ read₀ run second out put read = Onward run₀ second₀ piece from out₀ at run second out put read
+Inv-loop run₀ second₀ piece from out₀ at places₀ put₀ read₀ run second out places put read = Onward run₀ second₀ piece from out₀ at run second out put read × (length places ≡ 1024)
 
 abbrev μ-loop : tie.MeasureT-loop
-μ-loop run₀ second₀ piece from out₀ at put₀ read₀ run second out put read = length piece - read
+μ-loop run₀ second₀ piece from out₀ at places₀ put₀ read₀ run second out places put read = length piece - read
 
 loop-holds : tie.Need-loop-holds Inv-loop μ-loop
 loop-holds c =
     let start = c .before .before .before .before in
-    onward-start _ _ _ _ _ _ (start .pre .0) (start .pre .1 .1 .0) (start .pre .1 .1 .1)
+    (onward-start _ _ _ _ _ _ (start .pre .0) (start .pre .1 .1 .0) (start .pre .1 .1 .1), search needs)
 
 read-line-requires : tie.Need-read-line-requires Inv-loop μ-loop
 read-line-requires c κs = omega arith
@@ -39,16 +41,27 @@ same-length-3 : tie.Need-same-length-3 Inv-loop μ-loop
 same-length-3 c = omega arith
 
 returns : tie.Need-returns Inv-loop μ-loop
-returns c = c .before .before .before .loop .inv .lines
+returns c = c .before .before .before .loop .inv .0 .lines
+
+slice-aggregate-remembered-place : tie.Need-slice-aggregate-remembered-place Inv-loop μ-loop
+slice-aggregate-remembered-place c = search needs
+
+element-copy-out-remembered-place : tie.Need-element-copy-out-remembered-place Inv-loop μ-loop
+element-copy-out-remembered-place c = search needs
+
+remembered-place-requires : tie.Need-remembered-place-requires Inv-loop μ-loop
+remembered-place-requires c κs = (c .before .before .before .before .before .before .before .loop .inv .0 .lines .book, search needs)
 
 print-line-requires : tie.Need-print-line-requires Inv-loop μ-loop
 print-line-requires c κs =
-    let tested = c .before .before .before .before in
-    let going = tested .before .before .before .loop .inv in
+    let tested = c .before .before .before .before .before .before .before .before .before in
+    let going = tested .before .before .before .loop .inv .0 in
     (going .lines .book, onward-room going (tested .before .read-line .result .end) (tested .if1 .left))
 
 add-read : tie.Need-add-read Inv-loop μ-loop
-add-read c = omega arith
+add-read c =
+    let read = c .before .before .before .before .before .before .before .before .before .before .before .before .before .before .before .before .before in
+    omega (arith, read .read-line .ensures .within, read .before .before .before .before .before .before .before .good .1 .1 .0)
 
 loop-less : tie.Need-loop-less Inv-loop μ-loop
 loop-less c = omega arith
@@ -56,10 +69,12 @@ loop-less c = omega arith
 loop-again : tie.Need-loop-again Inv-loop μ-loop
 loop-again c =
     let printed = c .before .before .before .before .before .before in
-    let tested = printed .before .before .before .before .before in
-    let whole = tested .before in
-    onward-more (whole .before .before .loop .inv) (whole .read-line .result .end) (tested .if1 .left) (whole .read-line .ensures) (printed .print-line .ensures)
-    (printed .print-line .kept .0) (printed .print-line .kept .1 .0) (printed .print-line .kept .1 .1 .1 .0)
+    let tested = printed .before .before .before .before .before .before .before .before .before .before in
+    let whole = tested .before in (
+      onward-more (whole .before .before .loop .inv .0) (whole .read-line .result .end) (tested .if1 .left) (whole .read-line .ensures) (printed .print-line .ensures)
+          (printed .print-line .kept .0) (printed .print-line .kept .1 .0) (printed .print-line .kept .1 .1 .1 .1 .0),
+      printed .before .before .before .before .before .remembered-place .kept .1 .0 ∙ whole .before .before .loop .inv .1,
+    )
 
 same-length-4 : tie.Need-same-length-4 Inv-loop μ-loop
 same-length-4 c = omega arith
@@ -71,7 +86,7 @@ same-length-6 : tie.Need-same-length-6 Inv-loop μ-loop
 same-length-6 c = omega arith
 
 returns-2 : tie.Need-returns-2 Inv-loop μ-loop
-returns-2 c = c .before .loop .inv .lines
+returns-2 c = c .before .loop .inv .0 .lines
 
 pub read-lines-spec : {M : Type 1} → statement M
 read-lines-spec =
@@ -88,6 +103,9 @@ read-lines-spec =
     same-length-2
     same-length-3
     returns
+    slice-aggregate-remembered-place
+    element-copy-out-remembered-place
+    remembered-place-requires
     print-line-requires
     add-read
     loop-less
