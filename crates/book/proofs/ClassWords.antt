@@ -6,8 +6,7 @@ use mathlib.Core.List.{List, [], _∷_, _++_, map, append-assoc}
 use native.Mathlib.Omega.{arith}
 use lib.Dec.{T, eqb, ltb→lt}
 use borrow.Author.Tests.{eq-eqb, ne-eqb}
-use Rattle.word.specs.declared.codec.Word.{Word}
-use Rattle.word.specs.declared.codec.Word.the-variants.{Head}
+use Rattle.word.specs.Codec.{Word, Head}
 use Rattle.rule.specs.Lists.{every, only}
 use Rattle.book.specs.Facts.{OpenClass, Facts, number, isOpen, classOf, putClass, isBelow, inMonth}
 use Rattle.book.specs.Layout.{strikeWord, expirationUnless, seriesWords, figuresWords, classesWords, used}

@@ -8,8 +8,7 @@ use native.Mathlib.Omega.{arith}
 use lib.ListN.{length, length-append, length-map}
 use lib.Dec.{T, eqb, leb, ltb, leb→le, le→leb, ltb→lt, lt→ltb, eqb→eq, eqb-refl, not-T}
 use borrow.Author.Tests.{ltb-true, ltb-false, eq-eqb, ne-eqb, not-true}
-use Rattle.word.specs.declared.codec.Word.{Word}
-use Rattle.word.specs.declared.codec.Word.the-variants.{Expiration}
+use Rattle.word.specs.Codec.{Word, Expiration}
 use Rattle.rule.specs.Lists.{every, some, only, Rising}
 use Rattle.book.specs.Facts.{Series, isAt, stands, inMonth, withMarks, precedes, insertSeries}
 use Rattle.book.specs.Layout.{strikeWord, expirationUnless, seriesWords}

@@ -8,10 +8,8 @@ use native.Mathlib.Omega.{arith}
 use lib.ListN.{length, replicate, length-append, length-map, length-replicate}
 use lib.Dec.{T, eqb, leb, leb→le, le→leb, eqb→eq, eqb-refl, eqb·suc-suc, eqb·zero-suc}
 use borrow.Author.Tests.{eqb-true}
-use Rattle.word.specs.declared.codec.Word.{Word}
-use Rattle.word.specs.declared.codec.Word.the-variants.{Head, Invalid}
+use Rattle.word.specs.Codec.{Word, Head, Invalid, isLegal, packed, reading}
 use Rattle.word.specs.Limits.{isLength, isMonth}
-use Rattle.word.specs.Codec.{isLegal, packed, reading}
 use Rattle.word.proofs.Tests.{and-both}
 use Rattle.word.proofs.Words.{reading-packed}
 use Rattle.rule.specs.Lists.{every}

@@ -2,10 +2,8 @@
 use Prim.Native.Nat.{ℕ}
 use lib.Dec.{T}
 use Rattle.word.specs.declared.class.ClassRecord.{ClassRecord}
-use Rattle.word.specs.declared.codec.Word.{Word}
-use Rattle.word.specs.declared.codec.Word.the-variants.{Class, Close, Volume}
+use Rattle.word.specs.Codec.{Word, Class, Close, Volume, isLegal, Fits}
 use Rattle.word.specs.Limits.{isMonth}
-use Rattle.word.specs.Codec.{isLegal, Fits}
 use Rattle.word.proofs.Words.{legal-fits}
 use Rattle.book.specs.Facts.{Series}
 use Rattle.book.specs.Layout.{strikeWord}

@@ -8,10 +8,8 @@ use lib.ListN.{length, take, drop, getD, replicate, length-append, length-map}
 use lib.Seq.{take-at, drop-at, getD-append-add}
 use lib.Dec.{T, eqb, ltb}
 use borrow.Author.Tests.{ltb-true, ltb-false, eqb-true, eqb-false, lt-ltb, le-ltb, eq-eqb, ne-eqb}
-use Rattle.word.specs.declared.codec.Word.{Word}
-use Rattle.word.specs.declared.codec.Word.the-variants.{Head}
+use Rattle.word.specs.Codec.{Word, Head, packed}
 use Rattle.word.specs.Field.{field}
-use Rattle.word.specs.Codec.{packed}
 use Rattle.word.proofs.Fields.{field-packed}
 use Rattle.word.proofs.Words.{strike-fields}
 use Rattle.rule.specs.Lists.{every, some, only}

@@ -4,9 +4,7 @@ use mathlib.Core.Path.{_≡_, sym, ap, _∙_}
 use mathlib.Core.List.{List, _∷_, _++_, map}
 use lib.Dec.{T}
 use lib.ListN.{length, replicate, length-map}
-use Rattle.word.specs.declared.codec.Word.{Word}
-use Rattle.word.specs.declared.codec.Word.the-variants.{Head}
-use Rattle.word.specs.Codec.{packed}
+use Rattle.word.specs.Codec.{Word, Head, packed}
 use Rattle.book.specs.Facts.{Facts}
 use Rattle.book.specs.Layout.{used, layout, factsOf}
 use Rattle.book.specs.Books.{isBook}

@@ -8,7 +8,7 @@ use lib.ListN.{length, length-append}
 use lib.Dec.{T, eqb, ltb, ltb→lt, eqb-refl, not-T}
 use Rattle.word.specs.declared.class.ClassRecord.{ClassRecord}
 use Rattle.word.specs.Class.{opened}
-use Rattle.word.specs.declared.codec.Word.{Word}
+use Rattle.word.specs.Codec.{Word}
 use Rattle.rule.specs.Lists.{some, only}
 use Rattle.book.specs.Facts.{Series, OpenClass, Facts, number, newClass, isOpen, insertClass, withFigures, withSeries, isBelow, isAt, withMarks, insertSeries, wordsOf, wordsTaken}
 use Rattle.book.specs.Layout.{strikeWord, expirationUnless, seriesWords, figuresWords, classesWords, used}

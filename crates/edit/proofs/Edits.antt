@@ -7,8 +7,7 @@ use native.Mathlib.Omega.{arith}
 use lib.Dec.{T}
 use lib.ListN.{length, getD, set}
 use Rattle.word.specs.declared.class.ClassRecord.{ClassRecord}
-use Rattle.word.specs.declared.codec.Word.the-variants.{Class, Close, Volume, Strike}
-use Rattle.word.specs.Codec.{packed, Fits}
+use Rattle.word.specs.Codec.{Class, Close, Volume, Strike, packed, Fits}
 use Rattle.word.specs.Field.{field}
 use Rattle.word.specs.Limits.{isStrike, isGround}
 use Rattle.word.proofs.Words.{strike-fields}

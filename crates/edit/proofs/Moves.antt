@@ -7,8 +7,7 @@ use native.Mathlib.Omega.{arith}
 use lib.ListN.{length, getD, set, take, drop, take-append-drop, length-append, length-set, List·getD-append}
 use lib.Seq.{length-take-le, take-length, drop-length, take-suc, drop-cons, append-snoc, set-at, getD-append-add, getD-take, sets, sets-eq, take-take, take-append-add, take-append-seam, drop-at}
 use borrow.Rule.Slice.PartMut.{midOf, putMid, post-is, mid-len}
-use Rattle.word.specs.declared.codec.Word.the-variants.{Head}
-use Rattle.word.specs.Codec.{packed}
+use Rattle.word.specs.Codec.{Head, packed}
 use Rattle.book.specs.Layout.{used, factsOf}
 use Rattle.edit.specs.Insertion.{pushed, insertWords}
 

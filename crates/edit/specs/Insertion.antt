@@ -3,8 +3,7 @@ use Prim.Native.Nat.{ℕ, _+_, _-_, _≤_}
 use mathlib.Core.List.{List, _++_}
 use lib.Dec.{T}
 use lib.ListN.{length, take, drop, set}
-use Rattle.word.specs.declared.codec.Word.the-variants.{Head}
-use Rattle.word.specs.Codec.{packed}
+use Rattle.word.specs.Codec.{Head, packed}
 use Rattle.book.specs.Books.{isBook}
 use Rattle.book.specs.Layout.{used, factsOf}
 

@@ -7,8 +7,7 @@ use native.Mathlib.Omega.{arith}
 use lib.ListN.{length, take, drop, getD}
 use lib.Dec.{T, eqb, ltb}
 use borrow.Author.Tests.{not-true, not-false, ltb-true, lt-ltb, le-ltb}
-use Rattle.word.specs.declared.codec.Word.the-variants.{Expiration as ExpirationWord}
-use Rattle.word.specs.Codec.{packed}
+use Rattle.word.specs.Codec.{Expiration as ExpirationWord, packed}
 use Rattle.word.proofs.Tests.{and-both}
 use Rattle.rule.specs.Lists.{some, only}
 use Rattle.book.specs.Facts.{Series, Facts, isOpen, inMonth}

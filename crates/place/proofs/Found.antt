@@ -9,10 +9,8 @@ use lib.Seq.{drop-drop, length-take-le, take-add}
 use lib.Dec.{T, eqb, leb, ltb, eqb·zero-suc, leb·zero, leb→le, ltb→lt}
 use borrow.Author.Tests.{eq-eqb, ne-eqb, le-leb, lt-ltb, le-ltb}
 use Rattle.word.specs.declared.class.ClassRecord.{ClassRecord}
-use Rattle.word.specs.declared.codec.Word.{Word}
-use Rattle.word.specs.declared.codec.Word.the-variants.{Head, Class, Close, Volume, Expiration}
+use Rattle.word.specs.Codec.{Word, Head, Class, Close, Volume, Expiration, isLegal, packed}
 use Rattle.word.specs.Field.{field}
-use Rattle.word.specs.Codec.{isLegal, packed}
 use Rattle.word.proofs.Words.{legal-fits, kindIn, kind-packed, class-fields}
 use Rattle.rule.specs.Lists.{every, only}
 use Rattle.book.specs.Facts.{Series, OpenClass, Facts, number, isOpen, inMonth}

@@ -5,9 +5,8 @@ use mathlib.Core.List.{List, [], _∷_}
 use native.Mathlib.Omega.{arith}
 use lib.ListN.{length, getD}
 use lib.Dec.{T, leb→le}
-use Rattle.word.specs.declared.codec.Word.the-variants.{Head}
+use Rattle.word.specs.Codec.{Head, packed}
 use Rattle.word.specs.Field.{field}
-use Rattle.word.specs.Codec.{packed}
 use Rattle.word.proofs.Words.{head-fields}
 use Rattle.book.specs.Layout.{used, layout, factsOf, classesWords}
 use Rattle.book.specs.Books.{isWellFormed, isBook}

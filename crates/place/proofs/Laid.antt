@@ -7,9 +7,7 @@ use native.Mathlib.Omega.{arith}
 use lib.ListN.{length}
 use lib.Dec.{T, eqb, leb, ltb, leb·zero, ltb→lt}
 use borrow.Author.Tests.{not-true, eq-eqb, le-ltb, lt-leb}
-use Rattle.word.specs.declared.codec.Word.{Word}
-use Rattle.word.specs.declared.codec.Word.the-variants.{Class, Close, Volume, Expiration}
-use Rattle.word.specs.Codec.{isLegal, packed, kindOf}
+use Rattle.word.specs.Codec.{Word, Class, Close, Volume, Expiration, isLegal, packed, kindOf}
 use Rattle.word.proofs.Words.{legal-fits, kindIn, kind-packed}
 use Rattle.rule.specs.Lists.{every, some, only}
 use Rattle.book.specs.Facts.{Series, OpenClass, number}

@@ -8,11 +8,9 @@ use native.Mathlib.Omega.{arith}
 use lib.ListN.{length, take, drop, getD}
 use lib.Seq.{drop-cons}
 use lib.Dec.{T, eqb}
-use Rattle.word.specs.declared.codec.Word.{Word}
-use Rattle.word.specs.declared.codec.Word.the-variants.{Head, Class, Close, Volume, Expiration, Strike, Invalid}
+use Rattle.word.specs.Codec.{Word, Head, Class, Close, Volume, Expiration, Strike, Invalid, isLegal, packed, Fits}
 use Rattle.word.specs.Field.{field}
 use Rattle.word.specs.Caps.{own}
-use Rattle.word.specs.Codec.{isLegal, packed, Fits}
 use Rattle.word.proofs.Words.{kindIn, kind-packed, class-fields}
 use Rattle.rule.specs.Lists.{every}
 use Rattle.book.specs.Facts.{Series, OpenClass, Facts, sum, owned}

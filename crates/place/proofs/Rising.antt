@@ -7,10 +7,8 @@ use native.Mathlib.Omega.{arith}
 use lib.ListN.{length, getD}
 use lib.Dec.{T, eqb, leb, ltb}
 use borrow.Author.Tests.{eqb-true, leb-true, ltb-true, le-leb, lt-leb}
-use Rattle.word.specs.declared.codec.Word.{Word}
-use Rattle.word.specs.declared.codec.Word.the-variants.{Class}
+use Rattle.word.specs.Codec.{Word, Class, isLegal, packed}
 use Rattle.word.specs.Field.{field}
-use Rattle.word.specs.Codec.{isLegal, packed}
 use Rattle.word.proofs.Tests.{and-both}
 use Rattle.word.proofs.Words.{legal-fits, kindIn, kind-packed}
 use Rattle.rule.specs.Lists.{every}

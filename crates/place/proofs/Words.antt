@@ -9,10 +9,8 @@ use lib.ListN.{take, drop}
 use lib.Pow.{pow-pos, pow-mono}
 use lib.Dec.{T, eqb, leb, ltb, leb→le}
 use borrow.Author.Tests.{eqb-true, eqb-false, leb-true, leb-false, ltb-true, ltb-false, le-leb, lt-leb}
-use Rattle.word.specs.declared.codec.Word.{Word}
-use Rattle.word.specs.declared.codec.Word.the-variants.{Head, Class, Close, Volume, Expiration, Strike, Invalid}
+use Rattle.word.specs.Codec.{Word, Head, Class, Close, Volume, Expiration, Strike, Invalid, isLegal, packed, Fits, kindOf}
 use Rattle.word.specs.Field.{field}
-use Rattle.word.specs.Codec.{isLegal, packed, Fits, kindOf}
 use Rattle.word.proofs.Words.{legal-fits, kindIn, kind-packed}
 use Rattle.rule.specs.Lists.{every}
 use Rattle.book.proofs.Tests.{ands}

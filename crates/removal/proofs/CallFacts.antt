@@ -5,9 +5,7 @@ use mathlib.Core.List.{List, [], _∷_, _++_, map}
 use native.Mathlib.Omega.{arith}
 use lib.Dec.{T}
 use lib.ListN.{length, replicate, length-append, length-map}
-use Rattle.word.specs.declared.codec.Word.{Word}
-use Rattle.word.specs.declared.codec.Word.the-variants.{Head}
-use Rattle.word.specs.Codec.{packed}
+use Rattle.word.specs.Codec.{Word, Head, packed}
 use Rattle.rule.specs.Lists.{every}
 use Rattle.book.specs.Facts.{Series, Facts, isOpen, withSeries}
 use Rattle.book.specs.Layout.{seriesWords, used, layout, factsOf}

@@ -7,8 +7,7 @@ use native.Mathlib.Nat.{le-refl}
 use native.Mathlib.Omega.{arith}
 use lib.Dec.{T, eqb}
 use borrow.Author.Tests.{eqb-true, eqb-false, eq-eqb, ne-eqb}
-use Rattle.word.specs.declared.codec.Word.the-variants.{Expiration}
-use Rattle.word.specs.Codec.{packed}
+use Rattle.word.specs.Codec.{Expiration, packed}
 use Rattle.rule.specs.Lists.{every, only}
 use Rattle.book.specs.Facts.{Series, isMarked, precedes}
 use Rattle.book.specs.Layout.{strikeWord, expirationUnless, seriesWords}

@@ -7,8 +7,7 @@ use native.Mathlib.Omega.{arith}
 use lib.ListN.{length}
 use lib.Dec.{T, leb, ltb→lt, leb·zero, eqb·zero-suc}
 use borrow.Author.Tests.{lt-leb}
-use Rattle.word.specs.declared.codec.Word.{Word}
-use Rattle.word.specs.Codec.{isLegal, packed}
+use Rattle.word.specs.Codec.{Word, isLegal, packed}
 use Rattle.rule.specs.Lists.{every, only}
 use Rattle.book.specs.Facts.{Series, inMonth, OpenClass, number, withSeries}
 use Rattle.book.specs.Layout.{seriesWords, figuresWords, classesWords}

@@ -7,9 +7,7 @@ use lib.Dec.{T}
 use lib.ListN.{length, take, drop, set, replicate, length-append, length-map}
 use lib.Seq.{drop-drop, drop-at, length-take-le}
 use borrow.Rule.Slice.PartMut.{putMid, mid-len}
-use Rattle.word.specs.declared.codec.Word.{Word}
-use Rattle.word.specs.declared.codec.Word.the-variants.{Head}
-use Rattle.word.specs.Codec.{packed}
+use Rattle.word.specs.Codec.{Word, Head, packed}
 use Rattle.rule.specs.Lists.{every}
 use Rattle.book.specs.Facts.{OpenClass, Facts}
 use Rattle.book.specs.Layout.{figuresWords, classesWords, used, layout, factsOf}

@@ -8,9 +8,7 @@ use native.Mathlib.Omega.{arith}
 use lib.Dec.{T, eqb}
 use lib.ListN.{length}
 use borrow.Author.Tests.{eqb-true, eq-eqb, ne-eqb}
-use Rattle.word.specs.declared.codec.Word.{Word}
-use Rattle.word.specs.declared.codec.Word.the-variants.{Expiration}
-use Rattle.word.specs.Codec.{packed}
+use Rattle.word.specs.Codec.{Word, Expiration, packed}
 use Rattle.rule.specs.Lists.{only}
 use Rattle.book.specs.Facts.{Series}
 use Rattle.book.specs.Layout.{strikeWord, expirationUnless, seriesWords}

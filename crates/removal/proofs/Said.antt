@@ -4,9 +4,7 @@ use mathlib.Core.Path.{_≡_, refl, ap}
 use mathlib.Core.Bool.{Bool, true, false, cond}
 use lib.Dec.{T, eqb}
 use borrow.Author.Tests.{eqb-true, ne-eqb}
-use Rattle.word.specs.declared.codec.Word.{Word}
-use Rattle.word.specs.declared.codec.Word.the-variants.{Head, Class, Close, Volume, Expiration, Strike, Invalid}
-use Rattle.word.specs.Codec.{isLegal, packed, fieldsAs, kindOf}
+use Rattle.word.specs.Codec.{Word, Head, Class, Close, Volume, Expiration, Strike, Invalid, isLegal, packed, fieldsAs, kindOf}
 use Rattle.word.proofs.Words.{fields-packed}
 use Rattle.book.proofs.LegalWords.{fits}
 use Rattle.removal.specs.Marks.{said, byKind}

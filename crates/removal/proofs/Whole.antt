@@ -6,8 +6,7 @@ use native.Mathlib.Omega.{arith}
 use lib.ListN.{length, set, replicate, length-append, length-replicate}
 use lib.Seq.{drop-at}
 use borrow.Rule.Slice.PartMut.{midOf, putMid}
-use Rattle.word.specs.declared.codec.Word.the-variants.{Head}
-use Rattle.word.specs.Codec.{packed}
+use Rattle.word.specs.Codec.{Head, packed}
 use Rattle.removal.specs.Runs.{closed}
 use Rattle.removal.specs.Compaction.{compacted, Compacted, Parted, Removed}
 use Rattle.removal.proofs.Parts.{part-is, put-part}

@@ -5,9 +5,7 @@ use mathlib.Core.Bool.{Bool, cond, not, _&&_, _||_}
 use mathlib.Core.List.{List, [], _∷_, _++_}
 use lib.Dec.{eqb, leb, ltb}
 use lib.ListN.{length, take, replicate}
-use Rattle.word.specs.declared.codec.Word.{Word}
-use Rattle.word.specs.declared.codec.Word.the-variants.{Head}
-use Rattle.word.specs.Codec.{packed}
+use Rattle.word.specs.Codec.{Word, Head, packed}
 use Rattle.rule.specs.Terms.{cents}
 use Rattle.rule.specs.Spacing.{apart}
 use Rattle.removal.specs.declared.marks.Bounds.{Bounds}

@@ -2,17 +2,16 @@
 use Prim.Native.Nat.{ℕ, zero, suc, _+_, _-_, _^_, _/_, _*_, _≤_}
 use mathlib.Core.Path.{_≡_, refl, sym, ap, _∙_}
 use mathlib.Core.Logic.{_↔_}
-use mathlib.Core.Bool.{true, false, not, _||_}
+use mathlib.Core.Bool.{true, false, not}
 use mathlib.Core.List.{List, [], _∷_, _++_, map}
 use native.Mathlib.Omega.{arith}
 use lib.ListN.{length, take, drop, getD, replicate, length-map, length-drop, length-replicate, take-append-drop}
 use lib.Seq.{drop-cons, drop-drop, take-nil, take-all, take-at, drop-at, length-take-le}
 use lib.Dec.{T, eqb, leb, ltb, leb→le, le→leb, eqb→eq}
-use borrow.Author.Tests.{le-leb, ne-eqb, not-true, not-false}
-use Rattle.word.specs.declared.codec.Word.the-variants.{Head}
+use borrow.Author.Tests.{not-true, not-false}
+use Rattle.word.specs.Codec.{Head, isLegal, packed}
 use Rattle.word.specs.Limits.{isLength, isMonth}
 use Rattle.word.specs.Field.{field}
-use Rattle.word.specs.Codec.{isLegal, packed}
 use Rattle.rule.specs.Lists.{every}
 use Rattle.book.specs.Facts.{OpenClass, Facts, number, capOf, owned, wordsTaken}
 use Rattle.book.specs.Layout.{classesWords, used, layout, factsOf}
@@ -23,7 +22,7 @@ use Rattle.book.proofs.Tests.{and-intro, ands, true-T, same-bool}
 use Rattle.book.proofs.Layouts.{used-taken, book-facts, book-exactly}
 use Rattle.scan.specs.Tests.{isZero, isHeadWord}
 use Rattle.scan.specs.Stretches.{leads, Classes}
-use Rattle.scan.proofs.Tests.{refuted, above-not}
+use Rattle.scan.proofs.Tests.{refuted}
 use Rattle.scan.proofs.Words.{head-packed, head-top}
 use Rattle.scan.proofs.Zeros.{zeros-replicate, replicate-zeros}
 
@@ -177,20 +176,8 @@ book-parts ws = (
 
 -- ---- what each test of the code tells
 
--- the test of a run's length
-length-test : (n : ℕ) → (eqb n 0 || ltb 65535 n) ≡ not (isLength n)
-length-test zero = refl
-length-test (suc n) =
-    rw (ne-eqb (suc n) 0 (λ e. omega arith), le-leb 1 (suc n) (omega arith)) (above-not 65535 (suc n))
-
-pub bad-length : (n : ℕ) → (eqb n 0 || ltb 65535 n) ≡ true → isLength n ≡ false
-bad-length n t = not-true (isLength n) (sym (length-test n) ∙ t)
-
-pub good-length : (n : ℕ) → (eqb n 0 || ltb 65535 n) ≡ false → T (isLength n)
-good-length n t = true-T (isLength n) (not-false (isLength n) (sym (length-test n) ∙ t))
-
-pub some-words : (n : ℕ) → (eqb n 0 || ltb 65535 n) ≡ false → 1 ≤ n
-some-words n t = let long = good-length n t in leb→le 1 n (search ands)
+pub some-words : (n : ℕ) → isLength n ≡ true → 1 ≤ n
+some-words n t = let long = true-T (isLength n) t in leb→le 1 n (search ands)
 
 module _ (ws : List ℕ) where
   good-head : not (isHeadWord (length ws) (getD ws 0 0)) ≡ false → T (isHeadWord (length ws) (getD ws 0 0))
@@ -203,9 +190,8 @@ module _ (ws : List ℕ) where
       let head = good-head t in
       (leb→le 1 (usedIn ws) (search ands), leb→le (usedIn ws) (length ws) (search ands))
 
-  pub wrong-length : (eqb (length ws) 0 || ltb 65535 (length ws)) ≡ true → false ≡ isBook ws
-  wrong-length t =
-      refuted (isBook ws) (λ b. rw (bad-length (length ws) t) at (book-parts ws .0 b .long))
+  pub wrong-length : isLength (length ws) ≡ false → false ≡ isBook ws
+  wrong-length t = refuted (isBook ws) (λ b. rw t at (book-parts ws .0 b .long))
 
   pub wrong-head : not (isHeadWord (length ws) (getD ws 0 0)) ≡ true → false ≡ isBook ws
   wrong-head t =
@@ -217,10 +203,10 @@ module _ (ws : List ℕ) where
 
   -- all tests but the last one passed
   pub zeros-left :
-      (eqb (length ws) 0 || ltb 65535 (length ws)) ≡ false → not (isHeadWord (length ws) (getD ws 0 0)) ≡ false
+      isLength (length ws) ≡ true → not (isHeadWord (length ws) (getD ws 0 0)) ≡ false
       → Classes (monthIn ws) 0 0 0 (front ws) → every isZero (past ws) ≡ isBook ws
   zeros-left l h classes =
-      let long = good-length (length ws) l in
+      let long = true-T (isLength (length ws)) l in
       same-bool (every isZero (past ws)) (isBook ws)
       (λ z. book-parts ws .1 (record { long = long; head = good-head h; classes = classes; zeros = z }))
       (λ b. book-parts ws .0 b .zeros)

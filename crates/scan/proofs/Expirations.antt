@@ -11,8 +11,7 @@ use lib.Dec.{T, leb→le}
 use borrow.Author.Tests.{not-true, not-false}
 use Rattle.word.specs.Limits.{between}
 use Rattle.word.specs.Field.{field}
-use Rattle.word.specs.declared.codec.Word.the-variants.{Expiration}
-use Rattle.word.specs.Codec.{packed, kindOf}
+use Rattle.word.specs.Codec.{Expiration, packed, kindOf}
 use Rattle.rule.specs.Lists.{every}
 use Rattle.book.specs.Facts.{OpenClass}
 use Rattle.book.specs.Books.{isClass}

@@ -7,10 +7,9 @@ use mathlib.Core.List.{List, [], _∷_, map}
 use native.Mathlib.Omega.{arith}
 use lib.ListN.{length}
 use lib.Dec.{T, ltb, le→leb}
-use Rattle.word.specs.declared.codec.Word.the-variants.{Class, Close, Volume}
+use Rattle.word.specs.Codec.{Class, Close, Volume, isLegal, packed}
 use Rattle.word.specs.Limits.{isClose, isVolume}
 use Rattle.word.specs.Field.{field}
-use Rattle.word.specs.Codec.{isLegal, packed}
 use Rattle.word.specs.Caps.{own}
 use Rattle.rule.specs.Lists.{every}
 use Rattle.book.specs.Facts.{Series, OpenClass, number, precedes, capOf, owned}

@@ -1,9 +1,7 @@
 -- Tests joined by `or`, and what a failed test tells: by cases on the tests. Assumes nothing.
-use Prim.Native.Nat.{ℕ}
 use mathlib.Core.Path.{_≡_, refl}
-use mathlib.Core.Bool.{Bool, true, false, not, _||_}
-use lib.Dec.{T, leb, ltb}
-use borrow.Author.Tests.{leb-true, leb-false, lt-ltb, le-ltb}
+use mathlib.Core.Bool.{Bool, true, false, _||_}
+use lib.Dec.{T}
 
 pub or-else : (a b : Bool) → T (a || b) → (T a → ⊥) → T b
 or-else true b t fails = absurd (fails tt)
@@ -16,10 +14,3 @@ or-none false b e = (refl, e)
 pub refuted : (a : Bool) → (T a → ⊥) → false ≡ a
 refuted true fails = absurd (fails tt)
 refuted false fails = refl
-
-pub above-not : (m n : ℕ) → ltb m n ≡ not (leb n m)
-above-not m n = go (leb n m) refl
-  where
-    go : (within : Bool) → leb n m ≡ within → ltb m n ≡ not within
-    go true e = le-ltb m n (leb-true n m e)
-    go false e = lt-ltb m n (leb-false n m e)

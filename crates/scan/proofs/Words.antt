@@ -6,10 +6,9 @@ use native.Mathlib.Omega.{arith}
 use lib.Dec.{T, eqb, leb, ltb, leb→le, ltb→lt, lt→ltb, le→leb, eqb→eq}
 use lib.Pow.{shr-shr}
 use Rattle.word.specs.declared.class.ClassRecord.{ClassRecord}
-use Rattle.word.specs.declared.codec.Word.the-variants.{Head, Class, Close, Volume, Expiration}
+use Rattle.word.specs.Codec.{Head, Class, Close, Volume, Expiration, isLegal, packed, Fits, kindOf}
 use Rattle.word.specs.Limits.{between, isMonth, isVolume, isDesignation, isClose, isGround, isMark}
 use Rattle.word.specs.Field.{field}
-use Rattle.word.specs.Codec.{isLegal, packed, Fits, kindOf}
 use Rattle.word.proofs.Words.{class-fields, strike-fields}
 use Rattle.book.specs.Facts.{Series}
 use Rattle.book.specs.Layout.{strikeWord}

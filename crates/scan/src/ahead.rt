@@ -6,6 +6,7 @@ ghost use Rattle.word.specs.Codec.{kindOf};
 ghost use Rattle.scan.specs.Tests.{isNextStrike, nextLength, orderOf};
 ghost use Rattle.scan.specs.Ahead.{otherBits, Tells};
 use word::field::field_of;
+use word::limits::is_ground;
 
 // The others, words that are no next strikes, from `at` on: `bits` has one bit for each of the 64 words from `base` on, lowest first, which is 1 for an other.
 pub struct Ahead {
@@ -25,7 +26,8 @@ fn order_of(w: u32) -> u32
 fn is_next_strike(before: u32, w: u32) -> bool
     ensures { λ r. ⌜ r ≡ isNextStrike before w ⌝ }
 {
-    (field_of(w, 20, 12) == 1536) & ((field_of(w, 15, 3) <= 3) & (order_of(before) < order_of(w)))
+    (field_of(w, 20, 12) == 1536)
+        & (is_ground(field_of(w, 15, 3)) & (order_of(before) < order_of(w)))
 }
 
 // The others among the words after the first, a bit for each.

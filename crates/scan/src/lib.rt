@@ -24,6 +24,10 @@ use word::codec::expiration_word;
 use word::codec::head_word;
 use word::codec::kind;
 use word::field::field_of;
+use word::limits::is_close;
+use word::limits::is_designation;
+use word::limits::is_length;
+use word::limits::is_volume;
 use word::zeros::zero_all;
 
 mod ahead;
@@ -39,19 +43,20 @@ fn is_class_above(w: u32, above: u32) -> bool
     ensures { λ r. ⌜ r ≡ isClassAbove above w ⌝ }
 {
     (field_of(w, 18, 14) == 2048)
-        & ((above < field_of(w, 0, 14)) & ((field_of(w, 14, 2) <= 2) & (field_of(w, 16, 2) <= 2)))
+        & ((above < field_of(w, 0, 14))
+            & (is_designation(field_of(w, 14, 2)) & is_designation(field_of(w, 16, 2))))
 }
 
 fn is_close_word(w: u32) -> bool
     ensures { λ r. ⌜ r ≡ isCloseWord w ⌝ }
 {
-    (kind(w) == 3) & (field_of(w, 0, 28) <= 999999)
+    (kind(w) == 3) & is_close(field_of(w, 0, 28))
 }
 
 fn is_volume_word(w: u32) -> bool
     ensures { λ r. ⌜ r ≡ isVolumeWord w ⌝ }
 {
-    (kind(w) == 4) & (field_of(w, 0, 28) <= 9999999)
+    (kind(w) == 4) & is_volume(field_of(w, 0, 28))
 }
 
 // The last month that may stand in a book of the month `current`.
@@ -153,7 +158,7 @@ pub fn is_book(run: &[u32]) -> bool
     ensures { λ r. ⌜ r ≡ isBook (now (run .entry)) ⌝ }
 {
     let n = run.len();
-    if (n == 0) | (65535 < n) {
+    if !is_length(n) {
         return false;
     }
     let head = run[0];
@@ -172,7 +177,7 @@ pub fn fresh(run: &mut [u32]) -> Answer
     ensures { λ r. ⌜ Begun (now (run .entry)) r (now (run .exit)) ⌝ }
 {
     let n = run.len();
-    if (n == 0) | (65535 < n) {
+    if !is_length(n) {
         return Answer::Refused(Refusal::NotABook);
     }
     zero_all(run);

@@ -8,9 +8,7 @@ use lib.Dec.{T, eqb, leb, ltb, eqb·zero-suc, le→leb}
 use lib.ListN.{length, getD, take, drop, replicate, length-append, length-drop, length-map}
 use lib.Seq.{getD-take, getD-drop, length-take-le}
 use borrow.Author.Tests.{ltb-true, ltb-false, lt-ltb, le-ltb, eq-eqb, ne-eqb}
-use Rattle.word.specs.declared.codec.Word.{Word}
-use Rattle.word.specs.declared.codec.Word.the-variants.{Head, Class, Close, Volume, Expiration}
-use Rattle.word.specs.Codec.{isLegal, packed, kindOf}
+use Rattle.word.specs.Codec.{Word, Head, Class, Close, Volume, Expiration, isLegal, packed, kindOf}
 use Rattle.word.proofs.Words.{legal-fits, kindIn, kind-packed}
 use Rattle.rule.specs.Lists.{every, only}
 use Rattle.rule.proofs.Tests.{and-left}

@@ -4,12 +4,10 @@ use mathlib.Core.Bool.{Bool, true, false, cond, _&&_}
 use Prim.Native.Nat.{ℕ, _+_, _*_, _^_}
 use native.Mathlib.Omega.{arith}
 use lib.Dec.{eqb}
-use borrow.Author.Tests.{leb-true, eqb-true, eq-eqb, ne-eqb}
+use borrow.Author.Tests.{leb-true, eqb-true, eq-eqb}
 use Rattle.word.specs.Limits.{isStrike, isMonth, isClassNumber, isLength, isDesignation, isGround, isMark}
 use Rattle.word.specs.Field.{field}
-use Rattle.word.specs.Codec.{isLegal, packed, Fits, fieldsAs, kindOf, reading}
-use Rattle.word.specs.declared.codec.Word.{Word}
-use Rattle.word.specs.declared.codec.Word.the-variants.{Head, Class, Close, Volume, Expiration, Strike, Invalid}
+use Rattle.word.specs.Codec.{isLegal, packed, Fits, fieldsAs, kindOf, reading, Word, Head, Class, Close, Volume, Expiration, Strike, Invalid}
 use Rattle.word.proofs.Tests.{and-both, between-high}
 use Rattle.word.proofs.Fields.{field-packed}
 
@@ -31,10 +29,6 @@ legal-fits (Strike h ground put call) legal =
     let s = and-both (isMark put) (isMark call) (q .1) in
     omega (arith, leb-true, between-high)
 legal-fits Invalid legal = omega arith
-
--- a kind beside the six has no fields
-pub fields-other : (k w : ℕ) → (k ≡ 1 → ⊥) → (k ≡ 2 → ⊥) → (k ≡ 3 → ⊥) → (k ≡ 4 → ⊥) → (k ≡ 5 → ⊥) → (k ≡ 6 → ⊥) → fieldsAs k w ≡ Invalid
-fields-other k w a b c d e f = simp (ne-eqb k 1 a, ne-eqb k 2 b, ne-eqb k 3 c, ne-eqb k 4 d, ne-eqb k 5 e, ne-eqb k 6 f)
 
 -- the kind and the fields of a packed word are those that were packed
 

@@ -4,8 +4,16 @@ use mathlib.Core.Bool.{Bool, false, cond, _&&_}
 use lib.Dec.{eqb}
 use Rattle.word.specs.Limits.{isStrike, isMonth, isClassNumber, isVolume, isLength, isDesignation, isClose, isGround, isMark}
 use Rattle.word.specs.Field.{field}
-use Rattle.word.specs.declared.codec.Word.{Word}
-use Rattle.word.specs.declared.codec.Word.the-variants.{Head, Class, Close, Volume, Expiration, Strike, Invalid}
+
+-- what a word of the book says, by its kind; Invalid where it is none
+pub data Word : Type 0 where
+  Head : (now used : ℕ) → Word
+  Class : (number dollar half : ℕ) → Word
+  Close : (price : ℕ) → Word
+  Volume : (contracts : ℕ) → Word
+  Expiration : (month : ℕ) → Word
+  Strike : (h ground put call : ℕ) → Word
+  Invalid : Word
 
 -- "with every field in its limits"; the head itself is a word used
 abbrev pub isLegal : Word → Bool

@@ -35,7 +35,7 @@ pub fn is_volume(n: u32) -> bool
 }
 
 // The length of a run that can be a book.
-pub fn is_length(n: u32) -> bool
+pub fn is_length(n: usize) -> bool
     ensures { λ r. ⌜ r ≡ isLength n ⌝ }
 {
     (1 <= n) & (n <= 65535)

@@ -3,8 +3,7 @@ use mathlib.Core.Path.{ap, _∙_}
 use Prim.Native.Nat.{ℕ}
 use native.Mathlib.Omega.{arith}
 use borrow.Author.Needs.{needs}
-use Rattle.word.specs.declared.codec.Word.the-variants.{Head}
-use Rattle.word.specs.Codec.{packed}
+use Rattle.word.specs.Codec.{Head, packed}
 use Rattle.place.proofs.Heads.{book-long, book-month}
 use Rattle.edit.proofs.head_counting.Statement.{statement}
 use Rattle.edit.proofs.head_counting.Tie as tie

@@ -5,8 +5,7 @@ use native.Mathlib.Omega.{arith}
 use lib.ListN.{length, drop, getD}
 use lib.Dec.{T}
 use borrow.Author.Needs.{needs}
-use Rattle.word.specs.declared.codec.Word.the-variants.{Expiration}
-use Rattle.word.specs.Codec.{packed, kindOf}
+use Rattle.word.specs.Codec.{Expiration, packed, kindOf}
 use Rattle.scan.specs.Tests.{nextLength}
 use Rattle.scan.specs.Ahead.{Tells}
 use Rattle.scan.proofs.Words.{isBetween, between-kind}

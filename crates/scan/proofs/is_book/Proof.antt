@@ -1,14 +1,16 @@
 -- `is_book` tests what a book is: each return is one law of the parts of a book.
-use Prim.Native.Nat.{_-_, _/_, _^_, _≤_}
-use mathlib.Core.Path.{_≡_, _∙_}
+use Prim.Native.Nat.{ℕ, _/_, _^_, _≤_}
+use mathlib.Core.Path.{_≡_, sym, _∙_}
 use mathlib.Core.Logic.{_↔_}
-use mathlib.Core.Bool.{false, not}
+use mathlib.Core.Bool.{true, false, not}
+use mathlib.Core.List.{List}
 use native.Mathlib.Omega.{arith}
 use lib.ListN.{length, getD, length-take}
 use lib.Dec.{T}
 use borrow.Author.Needs.{needs}
 use borrow.Author.Tests.{not-true, not-false}
 use Rattle.word.specs.Field.{field}
+use Rattle.word.specs.Limits.{isLength}
 use Rattle.book.proofs.Tests.{true-T}
 use Rattle.scan.specs.Tests.{isHeadWord}
 use Rattle.scan.specs.Stretches.{Classes}
@@ -16,49 +18,54 @@ use Rattle.scan.proofs.Books.{monthIn, front, used-front, some-words, h
 use Rattle.scan.proofs.is_book.Statement.{statement}
 use Rattle.scan.proofs.is_book.Tie as tie
 
+-- the run that is lent
+abbrev words : tie.After-is-length → List ℕ
+words c = c .before .before .args .run .now
+
+-- the place where its length has passed its test, from the reads of the head on
+abbrev measured : tie.After-field-of2 → tie.Else1
+measured c = c .before .before .before
+
+long : (c : tie.Else1) → isLength (length (words (c .before))) ≡ true
+long c = sym (c .before .is-length .ensures) ∙ not-false _ (c .if1 .left)
+
 returns : tie.Need-returns
-returns c = wrong-length (c .before .before .args .run .now) (c .if1 .taken)
+returns c = wrong-length (words (c .before)) (sym (c .before .is-length .ensures) ∙ not-true _ (c .if1 .taken))
 
 -- the bits from 26 on are all that a word of 32 bits has above them
-top :
-    (c : tie.After-field-of2)
-    → let w = getD (c .before .before .before .before .before .args .run .now) 0 0 in
-    field w 26 6 ≡ w / 2 ^ 26
+top : (c : tie.After-field-of2) → let w = getD (words (measured c .before)) 0 0 in field w 26 6 ≡ w / 2 ^ 26
 top c = omega (arith, c .before .before .shared-slice-known2 .given 0)
 
 -- the head passed its test
-headed :
-    (c : tie.Else2)
-    → let ws = c .before .before .before .before .before .before .args .run .now in
-    not (isHeadWord (length ws) (getD ws 0 0)) ≡ false
+headed : (c : tie.Else2) → let ws = words (measured (c .before) .before) in not (isHeadWord (length ws) (getD ws 0 0)) ≡ false
 headed c =
     let reads = c .before in
     simp (reads .before .field-of .ensures, reads .field-of2 .ensures, top reads) at (c .if2 .left)
 
 -- so its count of words is within the run
 within :
-    (c : tie.Else2)
-    → let u = c .before .before .field-of .result in
-    (1 ≤ u) × (u ≤ length (c .before .before .before .before .before .before .args .run .now))
+    (c : tie.Else2) → let u = c .before .before .field-of .result in (1 ≤ u) × (u ≤ length (words (measured (c .before) .before)))
 within c =
-    let ws = c .before .before .before .before .before .before .args .run .now in
-    rw (c .before .before .field-of .ensures) (head-within ws (headed c))
+    omega (arith, c .before .before .field-of .ensures, head-within (words (measured (c .before) .before)) (headed c))
+
+-- the place where the head has passed its test, from the test of the classes on
+abbrev passed : tie.After-are-classes → tie.Else2
+passed c = c .before .before .before
 
 -- the words used are tested as the head says
 classes :
-    (c : tie.After-are-classes)
-    → let ws = c .before .before .before .before .before .before .before .before .before .args .run .now in
+    (c : tie.After-are-classes) → let ws = words (measured (passed c .before) .before) in
     T (c .are-classes .result) ↔ Classes (monthIn ws) 0 0 0 (front ws)
 classes c =
-    let month = c .before .before in
-    let used = month .before .before .before .field-of in
-    let ws = month .before .before .before .before .before .before .before .args .run .now in
-    rw (← month .field-of3 .ensures, ← used .ensures, ← used-front (used .result) ws) (c .are-classes .ensures)
+    let used = passed c .before .before .field-of in
+    let ws = words (measured (passed c .before) .before) in
+    rw (← c .before .before .field-of3 .ensures, ← used .ensures, ← used-front (used .result) ws) (c .are-classes .ensures)
+
+is-length-requires : tie.Need-is-length-requires
+is-length-requires c κs = search needs
 
 shared-slice-read-head : tie.Need-shared-slice-read-head
-shared-slice-read-head c =
-    let some = some-words (length (c .before .before .before .args .run .now)) (c .before .if1 .left) in
-    search needs
+shared-slice-read-head c = let some = some-words (length (words (c .before .before))) (long (c .before)) in search needs
 
 field-of-requires : tie.Need-field-of-requires
 field-of-requires c κs = search needs
@@ -72,7 +79,7 @@ field-of-requires-2 c κs = search needs
 returns-2 : tie.Need-returns-2
 returns-2 c =
     let reads = c .before in
-    wrong-head (reads .before .before .before .before .before .args .run .now)
+    wrong-head (words (measured reads .before))
     (simp (reads .before .field-of .ensures, reads .field-of2 .ensures, top reads) at (c .if2 .taken))
 
 field-of-requires-3 : tie.Need-field-of-requires-3
@@ -95,7 +102,7 @@ are-classes-requires c κs =
 returns-3 : tie.Need-returns-3
 returns-3 c =
     let test = c .before in
-    wrong-classes (test .before .before .before .before .before .before .before .before .before .args .run .now)
+    wrong-classes (words (measured (passed test .before) .before))
     (λ r. rw (not-true (test .are-classes .result) (c .if3 .taken)) at (classes test .1 r))
 
 mul-are-zero : tie.Need-mul-are-zero
@@ -115,18 +122,19 @@ are-zero-requires c κs = search needs
 
 returns-4 : tie.Need-returns-4
 returns-4 c =
-    let passed = c .before .before in
-    let test = passed .before in
-    let head = test .before .before .before in
-    let start = head .before .before .before .before in
+    let left = c .before .before in
+    let test = left .before in
+    let head = passed test in
+    let start = measured (head .before) in
     rw (head .before .before .field-of .ensures) at (c .are-zero .ensures)
-    ∙ zeros-left (start .before .before .args .run .now) (start .if1 .left) (headed head)
-    (classes test .0 (true-T (test .are-classes .result) (not-false (test .are-classes .result) (passed .if3 .left))))
+    ∙ zeros-left (words (start .before)) (long start) (headed head)
+    (classes test .0 (true-T (test .are-classes .result) (not-false (test .are-classes .result) (left .if3 .left))))
 
 pub is-book-spec : {M : Type 1} → statement M
 is-book-spec =
     tie.close
     (tie.spec
+    is-length-requires
     returns
     shared-slice-read-head
     field-of-requires

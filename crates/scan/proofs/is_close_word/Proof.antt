@@ -9,8 +9,11 @@ kind-requires c κs = search needs
 field-of-requires : tie.Need-field-of-requires
 field-of-requires c κs = search needs
 
+is-close-requires : tie.Need-is-close-requires
+is-close-requires c κs = search needs
+
 returns : tie.Need-returns
-returns c = simp (c .before .kind .ensures, c .field-of .ensures)
+returns c = simp (c .before .before .kind .ensures, c .before .field-of .ensures, c .is-close .ensures)
 
 pub is-close-word-spec : {M : Type 1} → statement M
-is-close-word-spec = tie.close (tie.spec kind-requires field-of-requires returns)
+is-close-word-spec = tie.close (tie.spec kind-requires field-of-requires is-close-requires returns)
