@@ -1,21 +1,26 @@
--- The decision over the rows of the grounds, one row at a time: what is decided is said of the rows that are left. It needs the spacing of no ground but the first that passes. Assumes nothing.
+-- The decision over the rows of the grounds, one row at a time: what is decided is said of the rows that are left. Of
+-- the spacing it needs only which ground is the first that passes. Assumes nothing.
 use mathlib.Core.Path.{_≡_, refl, sym, ap, _∙_}
 use mathlib.Core.Bool.{Bool, true, false, cond, _&&_, _||_, or-assoc, or-false, and-false, and-self-left}
-use mathlib.Core.List.{List, [], _∷_}
+use mathlib.Core.List.{List, [], _∷_, map}
 use Prim.Native.Nat.{ℕ, zero, suc, _+_, _≤_, _<_}
 use native.Mathlib.Numerals.{add-one}
 use native.Mathlib.Omega.{arith}
-use lib.ListN.{length, getD, drop, drop-of-length-le}
+use lib.ListN.{length, getD, set, drop, drop-of-length-le}
 use lib.Seq.{drop-cons}
+use borrow.Author.Tests.{eq-eqb, ne-eqb}
 use Rattle.word.specs.declared.answer.Refusal.the-variants.{OffGrid, OutOfRange, TooClose}
 use Rattle.word.specs.declared.answer.Answer.{Answer}
 use Rattle.word.specs.declared.answer.Answer.the-variants.{Ground, Refused}
 use Rattle.rule.specs.declared.terms.Setting.{Setting}
-use Rattle.rule.specs.Lists.{some}
+use Rattle.rule.specs.Lists.{some, upFrom}
 use Rattle.rule.specs.Grids.{gridOf}
 use Rattle.rule.specs.Ranges.{rangeOf}
-use Rattle.rule.specs.Spacing.{Standing}
-use Rattle.rule.specs.Judgement.{rowOf, rowsOf, passes, passesGrid, passesRange, refusalOf, groundFrom, decided, openRows, firstGround, judgement, isAccepted}
+use Rattle.rule.specs.Spacing.{Standing, spacingOf}
+use Rattle.rule.specs.Judgement.{rowOf, rowsOf, passes, passesGrid, passesRange, refusalOf, groundFrom, decided}
+use Rattle.rule.specs.Judgement.{foundRow, foundRows, firstFrom, firstGround, judgement, isAccepted}
+use Rattle.rule.proofs.Tests.{and-left}
+use Rattle.rule.proofs.Walks.{first-found}
 
 first-step : (rows : List (List Bool)) (g : ℕ) → g < length rows → (v : Answer) →
     groundFrom v g (drop g rows) ≡ cond (passes (getD rows g [])) (Ground g) (groundFrom v (g + 1) (drop (g + 1) rows))
@@ -29,36 +34,33 @@ some-step test rows i b b′ l s e =
 
 -- what is known before row g: no row below g passes, and whether one of them passes its grid, and its range too
 pub record Seen (rows : List (List Bool)) (onGrid inRange : Bool) (g : ℕ) : Type 0 where
-  pub bound : g ≤ 4
-  pub four : length rows ≡ 4
+  pub bound : g ≤ length rows
   pub first : (v : Answer) → groundFrom v 0 rows ≡ groundFrom v g (drop g rows)
   pub grids : some passesGrid rows ≡ (onGrid || some passesGrid (drop g rows))
   pub ranges : some passesRange rows ≡ (inRange || some passesRange (drop g rows))
 
-pub seen-none : {rows : List (List Bool)} → length rows ≡ 4 → Seen rows false false 0
-seen-none l = record { bound = omega arith; four = l; first = λ v. refl; grids = refl; ranges = refl }
+pub seen-none : {rows : List (List Bool)} → Seen rows false false 0
+seen-none = record { bound = omega arith; first = λ v. refl; grids = refl; ranges = refl }
 
 module _ {rows : List (List Bool)} {onGrid inRange : Bool} {g : ℕ} (seen : Seen rows onGrid inRange g) where
-  pub seen-here : g < 4 → passes (getD rows g []) ≡ true → Ground g ≡ decided rows
-  seen-here h p =
-      let l : g < length rows = omega (arith, seen .four) in
+  pub seen-here : g < length rows → passes (getD rows g []) ≡ true → Ground g ≡ decided rows
+  seen-here l p =
       sym (seen .first (Refused (refusalOf rows)) ∙ first-step rows g l (Refused (refusalOf rows)) ∙ rw p)
 
-  pub seen-step : g < 4 → passes (getD rows g []) ≡ false → {onGrid′ inRange′ : Bool} → onGrid′ ≡ (onGrid || passesGrid (getD rows g [])) →
+  pub seen-step : g < length rows → passes (getD rows g []) ≡ false → {onGrid′ inRange′ : Bool} →
+      onGrid′ ≡ (onGrid || passesGrid (getD rows g [])) →
       inRange′ ≡ (inRange || passesRange (getD rows g [])) → Seen rows onGrid′ inRange′ (g + 1)
-  seen-step h p {onGrid′} {inRange′} e₁ e₂ =
-      let l : g < length rows = omega (arith, seen .four) in
+  seen-step l p {onGrid′} {inRange′} e₁ e₂ =
       record {
         bound = omega arith;
-        four = seen .four;
         first = λ v. seen .first v ∙ first-step rows g l v ∙ rw p;
         grids = some-step passesGrid rows g onGrid onGrid′ l (seen .grids) e₁;
         ranges = some-step passesRange rows g inRange inRange′ l (seen .ranges) e₂;
       }
 
-  pub seen-all : 4 ≤ g → Refused (cond inRange TooClose (cond onGrid OutOfRange OffGrid)) ≡ decided rows
-  seen-all h =
-      let e : drop g rows ≡ [] = drop-of-length-le rows {i = g} (omega (arith, seen .four)) in
+  pub seen-all : length rows ≤ g → Refused (cond inRange TooClose (cond onGrid OutOfRange OffGrid)) ≡ decided rows
+  seen-all l =
+      let e : drop g rows ≡ [] = drop-of-length-le rows {i = g} l in
       let a : some passesGrid rows ≡ onGrid = seen .grids ∙ rw (e, or-false) in
       let b : some passesRange rows ≡ inRange = seen .ranges ∙ rw (e, or-false) in
       sym (seen .first (Refused (refusalOf rows)) ∙ rw (e, a, b))
@@ -81,47 +83,64 @@ accepted-passes rows = accepted-from (Refused (refusalOf rows)) (go (some passes
     go false true = refl
     go false false = refl
 
--- ---- the rows with no spacing
+-- ---- the rows as the search leaves them
 
-pub open-range : (s : Setting) (h g : ℕ) → g < 4 → passesRange (getD (openRows s h) g []) ≡ (gridOf s g h && rangeOf s g h)
-open-range s h zero l = and-self-left (gridOf s 0 h) (rangeOf s 0 h)
-open-range s h (suc zero) l = and-self-left (gridOf s 1 h) (rangeOf s 1 h)
-open-range s h (suc (suc zero)) l = and-self-left (gridOf s 2 h) (rangeOf s 2 h)
-open-range s h (suc (suc (suc zero))) l = and-self-left (gridOf s 3 h) (rangeOf s 3 h)
-open-range s h (suc (suc (suc (suc g)))) l = absurd (omega arith)
+-- the ground that was found is noted in its row
+abbrev pub note : ℕ → List (List Bool) → List (List Bool)
+note g rows = set rows g (getD (getD rows g []) 0 false ∷ getD (getD rows g []) 1 false ∷ true ∷ [])
 
--- the first of the four grounds, by which of them pass, and the judgement
-abbrev firstOf : Bool → Bool → Bool → Bool → ℕ
-firstOf a b c d = cond a 0 (cond b 1 (cond c 2 (cond {A = ℕ} d 3 4)))
+module _ (s : Setting) (h : ℕ) where
+  pub found-range : (g : ℕ) → g < 4 → passesRange (getD (foundRows s h 4) g []) ≡ (gridOf s g h && rangeOf s g h)
+  found-range zero l = and-self-left (gridOf s 0 h) (rangeOf s 0 h)
+  found-range (suc zero) l = and-self-left (gridOf s 1 h) (rangeOf s 1 h)
+  found-range (suc (suc zero)) l = and-self-left (gridOf s 2 h) (rangeOf s 2 h)
+  found-range (suc (suc (suc zero))) l = and-self-left (gridOf s 3 h) (rangeOf s 3 h)
+  found-range (suc (suc (suc (suc g)))) l = absurd (omega arith)
 
-abbrev judgedOf : Answer → Bool → Bool → Bool → Bool → Answer
-judgedOf v a b c d = cond a (Ground 0) (cond b (Ground 1) (cond c (Ground 2) (cond d (Ground 3) v)))
+  pub found-noted : (g : ℕ) → g < 4 → note g (foundRows s h 4) ≡ foundRows s h g
+  found-noted zero l = refl
+  found-noted (suc zero) l = refl
+  found-noted (suc (suc zero)) l = refl
+  found-noted (suc (suc (suc zero))) l = refl
+  found-noted (suc (suc (suc (suc g)))) l = absurd (omega arith)
 
-module _ (s : Setting) (standing : List Standing) (h : ℕ) where
-  abbrev passesAt : ℕ → Bool
-  passesAt g = passes (rowOf s standing h g)
+  module _ (standing : List Standing) where
+    abbrev passesAt : ℕ → Bool
+    passesAt g = passes (rowOf s standing h g)
 
-  abbrev refused : Answer
-  refused = Refused (refusalOf (rowsOf s standing h))
+    -- of the n grounds from g up the first that passes is the one that was found
+    found-from : (v : Answer) (n g : ℕ) →
+        groundFrom v g (map (foundRow s h (firstFrom passesAt n g)) (upFrom n g))
+        ≡ groundFrom v g (map (rowOf s standing h) (upFrom n g))
+    found-from v zero g = refl
+    found-from v (suc n) g =
+        go (passesAt g) refl
+        (ap (λ (k : ℕ). groundFrom v k (map (foundRow s h (firstFrom passesAt n k)) (upFrom n (suc g)))) (add-one g)
+        ∙ found-from v n (suc g)
+        ∙ ap (λ (k : ℕ). groundFrom v k (map (rowOf s standing h) (upFrom n (suc g)))) (sym (add-one g)))
+      where
+        go : (t : Bool) → passesAt g ≡ t →
+            groundFrom v (g + 1) (map (foundRow s h (firstFrom passesAt n (g + 1))) (upFrom n (suc g)))
+            ≡ groundFrom v (g + 1) (map (rowOf s standing h) (upFrom n (suc g))) →
+            groundFrom v g (map (foundRow s h (cond t g (firstFrom passesAt n (g + 1)))) (upFrom (suc n) g))
+            ≡ cond t (Ground g) (groundFrom v (g + 1) (map (rowOf s standing h) (upFrom n (suc g))))
+        go true e r =
+            let both : (gridOf s g h && rangeOf s g h) ≡ true =
+            and-left (gridOf s g h && rangeOf s g h) (spacingOf s standing g h) e in
+            rw (and-self-left (gridOf s g h) (rangeOf s g h), both, eq-eqb g g refl)
+        go false e r =
+            let later : g + 1 ≤ firstFrom passesAt n (g + 1) = first-found passesAt n (g + 1) .least in
+            rw (ne-eqb g (firstFrom passesAt n (g + 1)) (λ q. omega arith), and-false) r
 
-  -- the first ground that passes is the judgement
-  pub found-judgement : firstGround s standing h < 4 → Ground (firstGround s standing h) ≡ judgement s standing h
-  found-judgement = go (passesAt 0) (passesAt 1) (passesAt 2) (passesAt 3)
-    where
-      go : (a b c d : Bool) → firstOf a b c d < 4 → Ground (firstOf a b c d) ≡ judgedOf refused a b c d
-      go true b c d l = refl
-      go false true c d l = refl
-      go false false true d l = refl
-      go false false false true l = refl
-      go false false false false l = absurd (omega arith)
+    -- the rows as the search leaves them decide the judgement
+    pub found-judgement : decided (foundRows s h (firstGround s standing h)) ≡ judgement s standing h
+    found-judgement =
+        ap (λ (v : Answer). groundFrom v 0 (foundRows s h (firstGround s standing h))) same
+        ∙ found-from (Refused (refusalOf (rowsOf s standing h))) 4 0
+      where
+        same :
+            Refused (refusalOf (foundRows s h (firstGround s standing h))) ≡ Refused (refusalOf (rowsOf s standing h))
+        same = simp and-self-left
 
-  -- where no ground passes the refusal needs no spacing
-  pub none-judgement : 4 ≤ firstGround s standing h → decided (openRows s h) ≡ judgement s standing h
-  none-judgement = go (passesAt 0) (passesAt 1) (passesAt 2) (passesAt 3)
-    where
-      go : (a b c d : Bool) → 4 ≤ firstOf a b c d → decided (openRows s h) ≡ judgedOf refused a b c d
-      go true b c d l = absurd (omega arith)
-      go false true c d l = absurd (omega arith)
-      go false false true d l = absurd (omega arith)
-      go false false false true l = absurd (omega arith)
-      go false false false false l = simp (and-false, and-self-left)
+    pub first-most : firstGround s standing h ≤ 4
+    first-most = first-found passesAt 4 0 .most

@@ -44,9 +44,13 @@ groundFrom v g (row ∷ rows) = cond (passes row) (Ground g) (groundFrom v (g + 
 abbrev pub decided : List (List Bool) → Answer
 decided rows = groundFrom (Refused (refusalOf rows)) 0 rows
 
--- grid and range of each ground, with no spacing yet; the range counts on the grid alone
-abbrev pub openRows : Setting → ℕ → List (List Bool)
-openRows s h = map (λ g. gridOf s g h ∷ (gridOf s g h && rangeOf s g h) ∷ false ∷ []) grounds
+-- the row of one ground as the search leaves it: grid, range on the grid, and whether it is the ground that was found
+abbrev pub foundRow : Setting → ℕ → ℕ → ℕ → List Bool
+foundRow s h found g = gridOf s g h ∷ (gridOf s g h && rangeOf s g h) ∷ eqb g found ∷ []
+
+-- the rows from which the code decides; no ground was found where `found` is 4
+abbrev pub foundRows : Setting → ℕ → ℕ → List (List Bool)
+foundRows s h found = map (foundRow s h found) grounds
 
 -- the first of the n numbers from g up that passes the test, or g + n where none does
 abbrev pub firstFrom : (ℕ → Bool) → ℕ → ℕ → ℕ

@@ -2,7 +2,7 @@
 ghost use mathlib.Core.Path.{_≡_};
 ghost use mathlib.Core.List.{map};
 ghost use Rattle.rule.specs.Spacing.{standingIn};
-ghost use Rattle.rule.specs.Judgement.{Judged, decided, judgement, firstGround, isAccepted, openRows};
+ghost use Rattle.rule.specs.Judgement.{Judged, decided, judgement, firstGround, foundRows, isAccepted};
 use crate::bounds::half_end;
 use crate::bounds::high_end;
 use crate::bounds::low_end;
@@ -46,10 +46,11 @@ pub fn decide(rows: [[bool; 3]; 4]) -> Answer
     Answer::Refused(Refusal::OffGrid)
 }
 
-// Grid and range of each ground. The range counts only on the grid, where it is told by its ends. The spacing is still to be found.
+// Grid and range of each ground. The range counts only on the grid, where it is told by its ends. The spacing is still
+// to be found.
 fn rows_of(s: Setting, strike: Strike) -> [[bool; 3]; 4]
     requires { ⌜ Judged s (strike .0) ⌝ }
-    ensures { λ r. ⌜ r ≡ openRows s (strike .0) ⌝ }
+    ensures { λ r. ⌜ r ≡ foundRows s (strike .0) 4 ⌝ }
 {
     let h = strike.0;
     let k = strike.cents();
@@ -77,9 +78,10 @@ fn rows_of(s: Setting, strike: Strike) -> [[bool; 3]; 4]
     ]
 }
 
-// The first ground that passes the grid and the range of its row, and the spacing beside the words of the standing strikes; 4 where none does.
+// The first ground that passes the grid and the range of its row, and the spacing beside the words of the standing
+// strikes; 4 where none does.
 fn first_ground(s: Setting, strike: Strike, rows: [[bool; 3]; 4], standing: &[u32]) -> u32
-    requires { ⌜ Judged s (strike .0) × (rows ≡ openRows s (strike .0)) ⌝ }
+    requires { ⌜ Judged s (strike .0) × (rows ≡ foundRows s (strike .0) 4) ⌝ }
     ensures { λ r. ⌜ r ≡ firstGround s (map standingIn (now (standing .entry))) (strike .0) ⌝ }
 {
     let mut g: u32 = 0;
@@ -105,15 +107,17 @@ fn first_ground(s: Setting, strike: Strike, rows: [[bool; 3]; 4], standing: &[u3
     found
 }
 
-// The judgement of the strike beside the words of the standing strikes of its expiration. Where no ground passes, no row needs its spacing.
+// The judgement of the strike beside the words of the standing strikes of its expiration: the rows decide, once the
+// third result of the ground that the search finds is noted.
 pub fn judge(s: Setting, strike: Strike, standing: &[u32]) -> Answer
     requires { ⌜ Judged s (strike .0) ⌝ }
     ensures { λ r. ⌜ r ≡ judgement s (map standingIn (now (standing .entry))) (strike .0) ⌝ }
 {
-    let rows = rows_of(s, strike);
+    let mut rows = rows_of(s, strike);
     let found = first_ground(s, strike, rows, standing);
     if found < 4 {
-        return Answer::Ground(found);
+        let row = rows[found as usize];
+        rows[found as usize] = [row[0], row[1], true];
     }
     decide(rows)
 }

@@ -1,4 +1,5 @@
--- `decide` meets its contract: the invariant `Seen` says what the rows looked at have shown, and each way out of the loop is a law on it. Assumes nothing.
+-- `decide` meets its contract: the invariant `Seen` says what the rows looked at have shown, and each way out of the
+-- loop is a law on it. Assumes nothing.
 use mathlib.Core.Path.{_≡_, _∙_}
 use mathlib.Core.Bool.{true, false, or-true, or-false}
 use mathlib.Core.List.{[]}
@@ -18,7 +19,7 @@ abbrev μ-loop : tie.MeasureT-loop
 μ-loop rows some-grid₀ some-range₀ g₀ some-grid some-range g = 4 - g
 
 loop-holds : tie.Need-loop-holds Inv-loop μ-loop
-loop-holds c = seen-none (search needs)
+loop-holds c = seen-none
 
 cast-row : tie.Need-cast-row Inv-loop μ-loop
 cast-row c = search needs
@@ -40,12 +41,14 @@ array-read-if3 c = search needs
 
 returns : tie.Need-returns Inv-loop μ-loop
 returns c =
-    let rows = c .before .before .before .before .before .before .args .t1 in
-    let g = c .before .before .before .before .before .loop .g in
-    let grid : getD (getD rows g []) 0 false ≡ true = c .before .before .if1 .taken in
+    let tested = c .before .before in
+    let entered = tested .before .before .before in
+    let rows = entered .before .args .t1 in
+    let g = entered .loop .g in
+    let grid : getD (getD rows g []) 0 false ≡ true = tested .if1 .taken in
     let range : getD (getD rows g []) 1 false ≡ true = c .before .if2 .taken in
     let spacing : getD (getD rows g []) 2 false ≡ true = c .if3 .taken in
-    seen-here (c .before .before .before .before .before .loop .inv) (omega arith) (simp (grid, range, spacing))
+    seen-here (entered .loop .inv) (omega arith) (simp (grid, range, spacing))
 
 add-g : tie.Need-add-g Inv-loop μ-loop
 add-g c = search needs
@@ -63,12 +66,14 @@ loop-again c =
     let grid : getD (getD rows g []) 0 false ≡ true = w .0 .taken in
     let range : getD (getD rows g []) 1 false ≡ true = w .1 .taken in
     let spacing : getD (getD rows g []) 2 false ≡ false = w .2 .left in
-    seen-step seen (omega arith) (simp (grid, range, spacing)) (w .3 ∙ simp (grid, or-true)) (w .4 ∙ simp (grid, range, or-true)))
+    seen-step seen (omega arith) (simp (grid, range, spacing)) (w .3 ∙ simp (grid, or-true))
+    (w .4 ∙ simp (grid, range, or-true)))
     (⊎-elim
     (λ w.
     let grid : getD (getD rows g []) 0 false ≡ true = w .0 .taken in
     let range : getD (getD rows g []) 1 false ≡ false = w .1 .left in
-    seen-step seen (omega arith) (simp (grid, range)) (w .2 ∙ simp (grid, or-true)) (w .3 ∙ simp (grid, range, or-false)))
+    seen-step seen (omega arith) (simp (grid, range)) (w .2 ∙ simp (grid, or-true))
+    (w .3 ∙ simp (grid, range, or-false)))
     (λ w.
     let grid : getD (getD rows g []) 0 false ≡ false = w .0 .left in
     seen-step seen (omega arith) (simp grid) (w .1 ∙ simp (grid, or-false)) (w .2 ∙ simp (grid, or-false))))

@@ -1,4 +1,5 @@
--- `first_ground` meets its contract: no ground below this one passes (`Passed`), and the strike is clear of the words before this one (`Cleared`). Assumes nothing.
+-- `first_ground` meets its contract: no ground below this one passes (`Passed`), and the strike is clear of the words
+-- before this one (`Cleared`). Assumes nothing.
 use mathlib.Core.Path.{_≡_, _∙_, sym, ap, ap₂}
 use mathlib.Core.Bool.{Bool, true, false, _&&_}
 use mathlib.Core.List.{List, [], map}
@@ -11,7 +12,7 @@ use lib.ListN.{length, getD}
 use Rattle.rule.specs.Lists.{every}
 use Rattle.rule.specs.Spacing.{clears, standingIn}
 use Rattle.rule.specs.Judgement.{passes, passesRange, rowOf}
-use Rattle.rule.proofs.Rows.{open-range}
+use Rattle.rule.proofs.Rows.{found-range}
 use Rattle.rule.proofs.Walks.{every-map, Passed, passed-none, passed-here, passed-next, passed-all, Cleared, cleared-none, cleared-next, cleared-not, cleared-all}
 use Rattle.rule.proofs.judgement.first_ground.Statement.{statement}
 use Rattle.rule.proofs.judgement.first_ground.Tie as tie
@@ -39,7 +40,9 @@ row-at c t e =
     let start = c .before .before .before in
     let args = start .args in
     let g = c .before .grounds .g in
-    let both = ap (λ (rows : List (List Bool)). passesRange (getD rows g [])) (start .pre .1) ∙ open-range (args .s) (args .strike .0) g (omega arith) in
+    let both =
+    ap (λ (rows : List (List Bool)). passesRange (getD rows g [])) (start .pre .1)
+    ∙ found-range (args .s) (args .strike .0) g (omega arith) in
     ap₂ _&&_ (sym both ∙ e)
     (every-map (clears (args .s) g (args .strike .0)) standingIn (args .standing .now))
 
@@ -82,7 +85,8 @@ standing-less c = search needs
 
 standing-again : tie.Need-standing-again Inv-standing μ-standing Inv-grounds μ-grounds
 standing-again c =
-    cleared-next 0 (c .before .before .before .before .standing .inv) (omega arith) (sym (c .before .is-clear .ensures) ∙ not-false _ (c .if4 .left))
+    cleared-next 0 (c .before .before .before .before .standing .inv) (omega arith)
+    (sym (c .before .is-clear .ensures) ∙ not-false _ (c .if4 .left))
 
 add-g : tie.Need-add-g Inv-standing μ-standing Inv-grounds μ-grounds
 add-g c = search needs
@@ -94,7 +98,9 @@ grounds-again : tie.Need-grounds-again Inv-standing μ-standing Inv-grounds μ-g
 grounds-again c =
     passed-next (c .before .before .before .grounds .inv) (omega arith)
     (⊎-elim
-    (λ w. row-at (c .before .before) true (w .0 .taken) ∙ cleared-not 0 (w .1 .inv) (omega arith) (sym (w .4 .ensures) ∙ not-true _ (w .5 .taken)))
+    (λ w.
+    row-at (c .before .before) true (w .0 .taken)
+    ∙ cleared-not 0 (w .1 .inv) (omega arith) (sym (w .4 .ensures) ∙ not-true _ (w .5 .taken)))
     (λ w. row-at (c .before .before) false (w .left))
     (c .if2 .came))
 
@@ -105,8 +111,10 @@ returns c =
 
 returns-2 : tie.Need-returns-2 Inv-standing μ-standing Inv-grounds μ-grounds
 returns-2 c =
-    passed-here (c .before .before .before .before .before .grounds .inv) (omega arith)
-    (row-at (c .before .before .before .before) true (c .before .before .if2 .taken) ∙ cleared-all 0 (c .before .standing .inv) (omega arith))
+    let tested = c .before .before in
+    let row = tested .before .before in
+    passed-here (row .before .grounds .inv) (omega arith)
+    (row-at row true (tested .if2 .taken) ∙ cleared-all 0 (c .before .standing .inv) (omega arith))
 
 pub first-ground-spec : {M : Type 1} → statement M
 first-ground-spec =

@@ -1,4 +1,5 @@
--- `rows_of` answers the rows with no spacing: each call ensures a grid or an end, on each grid the ends tell the range, and the grids that are left out are empty. Assumes nothing.
+-- `rows_of` answers the rows with no ground found: each call ensures a grid or an end, on each grid the ends tell the
+-- range, and the grids that are left out are empty. Assumes nothing.
 use mathlib.Core.Path.{_≡_, sym, _∙_}
 use mathlib.Core.Bool.{Bool, true, false, _&&_, and-assoc}
 use mathlib.Core.List.{[], _∷_}
@@ -11,7 +12,7 @@ use Rattle.rule.specs.Terms.{cents, isLong, price}
 use Rattle.rule.specs.Grids.{gridOf, wingBase}
 use Rattle.rule.specs.Ranges.{rangeOf}
 use Rattle.rule.specs.Ends.{halfEnd, lowEnd, highEnd}
-use Rattle.rule.specs.Judgement.{openRows}
+use Rattle.rule.specs.Judgement.{foundRows}
 use Rattle.rule.proofs.Tests.{and-where}
 use Rattle.rule.proofs.Bound.{standard-ends, dollar-ends, half-ends, wing-ends}
 use Rattle.rule.proofs.judgement.rows_of.Statement.{statement}
@@ -42,7 +43,7 @@ module _ (s : Setting) (h : ℕ) where
   long-rows : {base : ℕ} → isLong s ≡ true → h ≤ 19999 → base ≡ wingBase (cents h) / 50 →
       (gridOf s 0 h ∷ (gridOf s 0 h && between) ∷ false ∷ []) ∷ (false ∷ false ∷ false ∷ []) ∷ (false ∷ false ∷ false ∷ [])
       ∷ (gridOf s 3 h ∷ (gridOf s 3 h && leb (lowEnd (price s)) base && leb (base + 10) (highEnd s)) ∷ false ∷ []) ∷ []
-      ≡ openRows s h
+      ≡ foundRows s h 4
   long-rows long most e = rw (standard-row most, wing-row e, long)
 
 cents-requires : tie.Need-cents-requires
