@@ -1,4 +1,5 @@
-// Which strikes the rules can accept where none stands near: up to a first end all of them, and from a lowest to a highest the multiples of a step.
+// Which strikes the rules can accept where none stands near: up to a first end all of them, and from a lowest to a
+// highest the multiples of a step.
 ghost use mathlib.Core.Path.{_≡_};
 ghost use Prim.Native.Nat.{_≤_, min, max};
 ghost use Rattle.rule.specs.Ends.{fifthAbove, isProgramClass, halfEnd, lowEnd, highEnd, fineStep, fineEnd};
@@ -7,6 +8,7 @@ use crate::terms::is_dollar_class;
 use crate::terms::is_half_class;
 use crate::terms::is_long;
 use word::class::ClassRecord;
+use word::strike::Strike;
 
 pub fn lower_of(a: u32, b: u32) -> u32
     ensures { λ r. ⌜ r ≡ min a b ⌝ }
@@ -54,7 +56,7 @@ pub fn half_end(s: Setting) -> u32
     if is_long(s) | !is_half_class(class) | (500 < p) | (class.volume < 1000) {
         return 0;
     }
-    lower_of(higher_of(p / 25, p / 50 + 5), 11)
+    lower_of(higher_of(p / 25, p / 50 + 5), Strike::FIVE_FIFTY.0)
 }
 
 // The lowest strike in range on the other grounds; a price of at most $20 sets none.
@@ -93,7 +95,7 @@ pub fn fine_end(class: ClassRecord) -> u32
     ensures { λ r. ⌜ r ≡ fineEnd class ⌝ }
 {
     if is_program_class(class) {
-        return 100;
+        return Strike::FIFTY_DOLLARS.0;
     }
     if is_dollar_class(class) { 400 } else { 50 }
 }
