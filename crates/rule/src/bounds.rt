@@ -1,7 +1,7 @@
 // Which strikes the rules can accept where none stands near: up to a first end all of them, and from a lowest to a
 // highest the multiples of a step.
 ghost use mathlib.Core.Path.{_≡_};
-ghost use Prim.Native.Nat.{_≤_, min, max};
+ghost use Prim.Native.Nat.{_^_, _<_, _≤_, min, max};
 ghost use Rattle.rule.specs.Ends.{fifthAbove, isProgramClass, halfEnd, lowEnd, highEnd, fineStep, fineEnd};
 use crate::terms::Setting;
 use crate::terms::is_dollar_class;
@@ -22,9 +22,10 @@ pub fn higher_of(a: u32, b: u32) -> u32
     if a < b { b } else { a }
 }
 
-// The last of the five lowest strikes above q, a strike of at most $20, on the range grid of Standard and Dollar.
+// The last of the five lowest strikes above q, a strike of at most $20, on the range grid of Standard and Dollar. The
+// closed form fits a word where twice q does.
 fn fifth_above(whole: bool, dollar: bool, q: u32) -> u32
-    requires { ⌜ q ≤ 40 ⌝ }
+    requires { ⌜ q < 2 ^ 31 ⌝ }
     ensures { λ r. ⌜ r ≡ fifthAbove whole dollar q ⌝ }
 {
     if whole {

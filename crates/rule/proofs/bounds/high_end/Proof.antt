@@ -29,12 +29,12 @@ returns-2 : tie.Need-returns-2
 returns-2 c =
     let long = c .before .before in
     rw (
+      c .higher-of .ensures,
+      c .before .fifth-above .ensures,
+      long .is-long .ensures,
+      long .before .is-dollar-class .ensures,
       le-ltb 2000 _ (long .before .before .if1 .left),
-      ← long .before .is-dollar-class .ensures,
-      ← long .is-long .ensures,
-      ← c .before .fifth-above .ensures,
     )
-    (c .higher-of .ensures)
 
 pub high-end-spec : {M : Type 1} → statement M
 high-end-spec =
