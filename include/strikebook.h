@@ -17,16 +17,18 @@
  *
  * RUNS
  * A book lives in a run of 1 to 65,535 words of 32 bits that the caller lends for each call and
- * keeps: an array, a mapped file, any memory. strike_book_fresh makes a book of any run. Every
- * other call may be made on any words at all: where they are no book it answers
- * STRIKE_BOOK_NOT_A_BOOK and changes nothing. A book may be copied, stored and lent again; to move
- * it to a run of another length, the words past those used must be zero there too.
+ * keeps: an array, a mapped file, any memory. strike_book_fresh makes a book of any run, and
+ * strike_book_compare_lists of any two of one length. Every other call may be made on any words at
+ * all: where they are no book it answers STRIKE_BOOK_NOT_A_BOOK and changes nothing. A book may be
+ * copied, stored and lent again; to move it to a run of another length, the words past those used
+ * must be zero there too.
  *
  * What the caller owes:
  *   - A pointer is not null, is aligned for its type, and is valid for as many elements as its
  *     length says, for reading, and for writing too where it is not const. With a length of 0
  *     nothing is read or written, and any pointer that is not null and is aligned will do.
- *   - The runs, the sheet and the answers lent to one call do not overlap each other.
+ *   - The runs, the sheet, the answers, the pool and the lists lent to one call do not overlap each
+ *     other; only two that are both const may.
  *   - No other thread writes a run while it is lent, and none reads one that is not const.
  * There is no global state and no allocation: calls on different runs may be made from any
  * threads at once, and a run that is lent as const may be lent to several calls at once.
@@ -65,7 +67,8 @@ extern "C" {
 /* The number of an answer. */
 enum strike_book_number {
     STRIKE_BOOK_ACCEPTED = 0,
-    /* The run is no book, or strike_book_fresh was lent none or more than 65,535 words. */
+    /* The run is no book; or strike_book_fresh or strike_book_compare_lists was lent a run of no
+     * word or of more than 65,535, or the second of these two runs of two lengths. */
     STRIKE_BOOK_NOT_A_BOOK = 1,
     /* A number is beyond its limits, or a line of a sheet is malformed. */
     STRIKE_BOOK_BEYOND_LIMITS = 2,
@@ -229,6 +232,32 @@ strike_book_reply strike_book_list_permitted(const uint32_t *run, size_t run_len
 size_t strike_book_run_sheet(uint32_t *run, size_t run_length, uint32_t *second,
                              size_t second_length, const uint8_t *sheet, size_t sheet_length,
                              uint32_t *answers, size_t answers_length);
+
+/* Makes a fresh book of each of two runs, whatever they hold, makes one list of calls on each, and
+ * says whether the two books are equal: the value is 1 where every word is, and that is so exactly
+ * when the same facts stand in both (the current month; each open class with its close, its volume,
+ * its designations and its strikes), and 0 where the books differ. `left` is then the book that
+ * `calls` leaves, and `right` the book that `others` leaves. The answers of the calls in the lists
+ * are not told. Refuses NOT_A_BOOK where a length is 0 or above 65,535, or the two runs have not
+ * the same length; then nothing is written.
+ *
+ * A list of calls is words, eight a call, for any number of calls:
+ *   word 0        the letter of the call, as a sheet writes it, in ASCII: 77 is M
+ *   word 1        how many numbers it has
+ *   words 2 to 6  the numbers, in the order of a sheet's line; those past their count are ignored
+ *   word 7        for A the length of the second run that it is lent; else it is ignored
+ * Words left over after the last eight are no call. A letter that is none of the eleven, or one
+ * with another count of numbers than its line has, counts as a malformed line: it is refused and
+ * changes nothing. A count above 5 is taken for 5.
+ *
+ * The pool is where the second runs come from: each A writes to the front of the pool, and is lent
+ * as many of its words as word 7 says, or all where it has fewer. It may have any length, 0 too,
+ * and hold any words, which are not read; `left`, `right` and the reply do not depend on it. */
+strike_book_reply strike_book_compare_lists(uint32_t *left, size_t left_length, uint32_t *right,
+                                            size_t right_length, uint32_t *pool,
+                                            size_t pool_length, const uint32_t *calls,
+                                            size_t calls_length, const uint32_t *others,
+                                            size_t others_length);
 
 #ifdef __cplusplus
 }

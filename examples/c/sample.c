@@ -1,11 +1,23 @@
-/* Makes document 01's sample calls, and prints what the sheet program prints for them. */
+/* Makes document 01's sample calls, and prints what the sheet program prints for them. Then makes
+ * them as two lists, one without its refusals: both leave the same book, or the exit is 1. */
 #include <inttypes.h>
 #include <stdio.h>
+#include <string.h>
 
 #include "strikebook.h"
 
 static uint32_t book[4096];
 static uint32_t second[512];
+
+/* Eight words a call: letter, how many numbers, five numbers, length of the second run. */
+static const uint32_t calls[64] = {
+    'M', 1, 4, 0,   0,  0, 0, 0,   'O', 1, 7, 0, 0,  0, 0, 0,
+    'C', 2, 7, 200, 0,  0, 0, 0,   'D', 3, 7, 1, 1,  0, 0, 0,
+    'A', 2, 7, 5,   0,  0, 0, 512, 'L', 3, 7, 5, 14, 0, 0, 0,
+    'L', 3, 7, 5,   16, 0, 0, 0,   'L', 3, 7, 5, 14, 0, 0, 0,
+};
+static uint32_t left[4096];
+static uint32_t right[4096];
 
 static void print_number(strike_book_reply reply)
 {
@@ -33,6 +45,14 @@ static void print_permitted(strike_book_reply reply)
     printf("\n");
 }
 
+static bool same_book_by_lists(void)
+{
+    strike_book_reply reply =
+        strike_book_compare_lists(left, 4096, right, 4096, second, 512, calls, 64, calls, 48);
+    return reply.number == STRIKE_BOOK_ACCEPTED && reply.value == 1
+        && memcmp(left, book, sizeof book) == 0;
+}
+
 int main(void)
 {
     if (strike_book_fresh(book, 4096).number != STRIKE_BOOK_ACCEPTED)
@@ -46,5 +66,5 @@ int main(void)
     print_ground(strike_book_list_strike(book, 4096, 7, 5, 14));
     print_ground(strike_book_list_strike(book, 4096, 7, 5, 16));
     print_ground(strike_book_list_strike(book, 4096, 7, 5, 14));
-    return 0;
+    return same_book_by_lists() ? 0 : 1;
 }

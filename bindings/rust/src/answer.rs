@@ -140,6 +140,11 @@ pub(crate) fn done(reply: Reply) -> Result<(), Refusal> {
     accepted(reply).map(|_| ())
 }
 
+/// An accepted comparison, whose value is 1 where the two books are equal.
+pub(crate) fn equal(reply: Reply) -> Result<bool, Refusal> {
+    accepted(reply).map(|value| value == 1)
+}
+
 /// An accepted call whose value is a ground.
 pub(crate) fn ground(reply: Reply) -> Result<Ground, Refusal> {
     accepted(reply).map(|value| match value {

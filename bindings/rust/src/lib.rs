@@ -31,7 +31,7 @@ mod tests;
 
 pub use answer::{Ground, Refusal};
 
-use answer::{accepted, done, ground};
+use answer::{accepted, done, equal, ground};
 
 /// A program of low-priced classes.
 #[derive(Clone, Copy, Debug, PartialEq, Eq)]
@@ -56,6 +56,44 @@ pub enum Designation {
 /// Whether the run is a book.
 pub fn is_book(run: &[u32]) -> bool {
     library::is_book(run)
+}
+
+/// A call of a list for [`compare_lists`]: its letter as a sheet writes it, its numbers, and the
+/// length of the second run that it is lent.
+pub type CallRecord = [u32; 8];
+
+/// Makes a fresh book of each of two runs, whatever they hold, makes one list of calls on each, and
+/// answers whether the two books are equal in every word. They are exactly when the same facts
+/// stand: the current month, and each open class with its figures and its strikes.
+///
+/// A call is eight words: the ASCII code of its letter, how many numbers it has, five numbers of
+/// which the first so many count, and for `A` the length of the second run. A letter that is none
+/// of the eleven, or another count of numbers, is a malformed line, which changes nothing. Each `A`
+/// writes to the front of the pool, and is lent as many of its words as it asks for, or all.
+///
+/// [`Refusal::NotABook`] where the runs have no word, more than 65,535, or not the same length;
+/// then nothing is written.
+///
+/// ```
+/// use strikebook::{compare_lists, Refusal};
+///
+/// let (mut left, mut right) = ([0; 64], [0; 64]);
+/// let month = |m| [u32::from(b'M'), 1, m, 0, 0, 0, 0, 0];
+/// let open = [u32::from(b'O'), 1, 7, 0, 0, 0, 0, 0];
+/// let calls = [month(4), open];
+/// assert!(compare_lists(&mut left, &mut right, &mut [], &calls, &[open, month(4)])?);
+/// assert!(!compare_lists(&mut left, &mut right, &mut [], &calls, &[open])?);
+/// # Ok::<(), Refusal>(())
+/// ```
+pub fn compare_lists(
+    left: &mut [u32],
+    right: &mut [u32],
+    pool: &mut [u32],
+    calls: &[CallRecord],
+    others: &[CallRecord],
+) -> Result<bool, Refusal> {
+    let (calls, others) = (calls.as_flattened(), others.as_flattened());
+    equal(library::compare_lists(left, right, pool, calls, others))
 }
 
 /// A book in a lent run of words.

@@ -76,6 +76,18 @@ mod raw {
             answers: *mut u32,
             answers_length: usize,
         ) -> usize;
+        pub fn strike_book_compare_lists(
+            left: *mut u32,
+            left_length: usize,
+            right: *mut u32,
+            right_length: usize,
+            pool: *mut u32,
+            pool_length: usize,
+            calls: *const u32,
+            calls_length: usize,
+            others: *const u32,
+            others_length: usize,
+        ) -> Reply;
     }
 }
 
@@ -187,6 +199,34 @@ pub fn run_sheet(run: &mut [u32], second: &mut [u32], sheet: &[u8], answers: &mu
             sheet.len(),
             answers.as_mut_ptr(),
             answers.len(),
+        )
+    }
+}
+
+/// Runs two lists of calls, eight words a call, each from a fresh book, and compares the books that
+/// they leave; its value is 1 where they are equal. `include/strikebook.h` has the eight words.
+#[inline]
+pub fn compare_lists(
+    left: &mut [u32],
+    right: &mut [u32],
+    pool: &mut [u32],
+    calls: &[u32],
+    others: &[u32],
+) -> Reply {
+    // SAFETY: each slice is valid for its length, the three that are written are borrowed by us
+    // alone, so none overlaps another or a list; nobody writes the lists.
+    unsafe {
+        raw::strike_book_compare_lists(
+            left.as_mut_ptr(),
+            left.len(),
+            right.as_mut_ptr(),
+            right.len(),
+            pool.as_mut_ptr(),
+            pool.len(),
+            calls.as_ptr(),
+            calls.len(),
+            others.as_ptr(),
+            others.len(),
         )
     }
 }

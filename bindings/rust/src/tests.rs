@@ -1,4 +1,6 @@
-use crate::{is_book, Book, Designation, Ground, Program, Refusal};
+use crate::{
+    compare_lists, is_book, library, Book, CallRecord, Designation, Ground, Program, Refusal,
+};
 
 /// A fresh book at month 4 with class 7 open at a close.
 fn at_close(run: &mut [u32], close: u32) -> Book<'_> {
@@ -152,4 +154,108 @@ fn words_that_are_needed() {
     let refusal = book.list_permitted(7, 5, &mut []).unwrap_err();
     assert_eq!(refusal.number(), 15);
     assert_eq!(refusal.to_string(), "the run has too few words");
+}
+
+/// The eight words of a call: its letter, its numbers, and the length of its second run.
+fn call(letter: u8, numbers: &[u32], room: u32) -> CallRecord {
+    let mut words = [0; 8];
+    words[0] = u32::from(letter);
+    words[1] = numbers.len() as u32;
+    words[2..2 + numbers.len()].copy_from_slice(numbers);
+    words[7] = room;
+    words
+}
+
+/// The sample sheet's calls but its last, which is refused.
+fn sample_calls() -> [CallRecord; 7] {
+    [
+        call(b'M', &[4], 0),
+        call(b'O', &[7], 0),
+        call(b'C', &[7, 200], 0),
+        call(b'D', &[7, 1, 1], 0),
+        call(b'A', &[7, 5], 512),
+        call(b'L', &[7, 5, 14], 0),
+        call(b'L', &[7, 5, 16], 0),
+    ]
+}
+
+#[test]
+fn lists_that_leave_one_book() {
+    let (mut left, mut right, mut pool) = ([5; 64], [6; 64], [9; 10]);
+    let others = [
+        call(b'O', &[7], 0),
+        call(b'C', &[7, 200], 0),
+        call(b'M', &[4], 0),
+        call(b'L', &[7, 5, 5], 0),
+        call(b'D', &[7, 1, 1], 0),
+        call(b'L', &[7, 5, 14], 0),
+        call(b'I', &[7, 5, 5, 0, 1], 0),
+        call(b'X', &[7, 5, 5], 0),
+        call(b'I', &[7, 5, 5, 0, 0], 0),
+        call(b'X', &[7, 5, 5], 0),
+    ];
+    let answer = compare_lists(&mut left, &mut right, &mut pool, &sample_calls(), &others);
+    assert_eq!(answer, Ok(true));
+    assert_eq!(left, right);
+    assert_eq!(pool, [2, 4, 6, 8, 10, 12, 14, 9, 9, 9]);
+    let mut run = [0; 64];
+    let mut book = Book::fresh(&mut run).unwrap();
+    book.run_sheet(&mut [], SAMPLE, &mut []);
+    assert_eq!(left, book.words());
+}
+
+#[test]
+fn lists_that_leave_two_books() {
+    let (mut left, mut right) = ([0; 64], [0; 64]);
+    let calls = sample_calls();
+    let answer = compare_lists(&mut left, &mut right, &mut [], &calls, &calls[..5]);
+    assert_eq!(answer, Ok(false));
+    let mut second = [0; 64];
+    let book = Book::open(&mut right).unwrap();
+    assert_eq!(book.judge_strike(7, 5, 14), Ok(Ground::Dollar));
+    let book = Book::open(&mut left).unwrap();
+    assert_eq!(
+        book.list_permitted(7, 5, &mut second).unwrap(),
+        [2, 4, 6, 8, 10, 12]
+    );
+    let answer = compare_lists(&mut left, &mut right, &mut [], &[], &[]);
+    assert_eq!(answer, Ok(true));
+    assert_eq!(left[..2], [1 << 28 | 1 << 10, 0]);
+}
+
+#[test]
+fn words_of_a_list_that_are_no_call() {
+    let (mut left, mut right) = ([0; 64], [0; 64]);
+    let mut calls = [
+        call(b'M', &[4], 0),
+        call(b'o', &[7], 0),
+        call(0, &[], 0),
+        call(b'O', &[], 0),
+        call(b'O', &[7, 8], 0),
+    ]
+    .concat();
+    calls.extend([u32::from(b'O'), 1, 7, 0, 0, 0, 0]);
+    let month = call(b'M', &[4], 0);
+    let reply = library::compare_lists(&mut left, &mut right, &mut [], &calls, &month);
+    assert_eq!((reply.number, reply.value), (0, 1));
+    calls.push(0);
+    let reply = library::compare_lists(&mut left, &mut right, &mut [], &calls, &month);
+    assert_eq!((reply.number, reply.value), (0, 0));
+}
+
+#[test]
+fn lengths_that_are_refused() {
+    let calls = sample_calls();
+    let mut pool = [9; 10];
+    let (mut left, mut right) = ([5; 64], [6; 63]);
+    let answer = compare_lists(&mut left, &mut right, &mut pool, &calls, &calls);
+    assert_eq!(answer, Err(Refusal::NotABook));
+    assert_eq!((left, right, pool), ([5; 64], [6; 63], [9; 10]));
+    let answer = compare_lists(&mut [], &mut [], &mut pool, &calls, &calls);
+    assert_eq!(answer, Err(Refusal::NotABook));
+    let (mut left, mut right) = (vec![5; 65_536], vec![6; 65_536]);
+    let answer = compare_lists(&mut left, &mut right, &mut pool, &calls, &calls);
+    assert_eq!(answer, Err(Refusal::NotABook));
+    assert!(left.iter().all(|&word| word == 5) && right.iter().all(|&word| word == 6));
+    assert_eq!(pool, [9; 10]);
 }
