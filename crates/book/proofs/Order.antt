@@ -99,6 +99,13 @@ lowest-number n x f = record {
   least = λ i a. first-least 1 i (allConditions n x f) (conditions-rise n x f) a;
 }
 
+-- "1 is never drawn": the numbers of the conditions rise from above 1
+pub never-one : (n : ℕ) (x : Call) (f : Facts) → numberOf n x f ≡ 1 → ⊥
+never-one n x f e = elim (lowest-number n x f .drawn) [
+  | inl none ↦ omega arith
+  | inr drawn ↦ omega (arith, lowest-number n x f .least (numberOf n x f) drawn .0)
+]
+
 pub accepted : (n : ℕ) (x : Call) (f : Facts) → numberOf n x f ≡ 0 → T (isWritten x && noneApplies (conditions n x f))
 unfolding numberOf
 accepted n x f e =

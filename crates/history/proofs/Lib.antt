@@ -4,6 +4,7 @@ pub mod Lent
 pub mod Lists
 pub mod RecordExamples
 pub mod Runs
+pub mod Turns
 pub mod Comparisons
 pub mod Links
 pub mod Added

@@ -35,10 +35,13 @@ turns-words n f good e (turn {x} long m t) =
     let next = rw (layout-size n f good, factsOf-layout n f good) at (made-words (layout-is-book n f good) (rw e at m)) in
     turns-words n (step n x f) (step-keeps n x f good) next t
 
+pub whole-begins :
+    {n : ℕ} {xs : List Call} {w : List ℕ} → T (isLength n) → (whole : Whole n xs w) → whole .book ≡ layout n fresh
+whole-begins {n} long whole = rw (whole .size, T-true (isLength n) long) at (whole .begun .words)
+
 pub whole-words : {n : ℕ} {xs : List Call} {w : List ℕ} → T (isLength n) → Whole n xs w → w ≡ layout n (after n xs)
 whole-words {n} long whole =
-    let first : whole .book ≡ layout n fresh = rw (whole .size, T-true (isLength n) long) at (whole .begun .words) in
-    turns-words n fresh (fresh-well-formed n long) first (whole .turns)
+    turns-words n fresh (fresh-well-formed n long) (whole-begins long whole) (whole .turns)
 
 -- demand 3
 pub two-lists :

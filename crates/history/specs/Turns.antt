@@ -1,9 +1,13 @@
 -- Document 01, "For demand 3 a list holds any number of these eleven calls, none too, in any order and with any numbers.": the calls of a list made in turn, from the contract of each. Assumes nothing.
 use Prim.Native.Nat.{ℕ}
 use mathlib.Core.Path.{_≡_}
+use mathlib.Core.Bool.{Bool, not}
 use mathlib.Core.List.{List, [], _∷_}
 use lib.ListN.{length}
+use lib.Dec.{eqb}
 use Rattle.word.specs.declared.answer.Answer.{Answer}
+use Rattle.word.specs.Answers.{answerNumber, answerValue}
+use Rattle.rule.specs.Lists.{every}
 use Rattle.book.specs.Calls.{Call, callM, callO, callC, callV, callD, callL, callJ, callX, callI, callR, callA, malformed}
 use Rattle.book.specs.Made.{Made, Begun}
 
@@ -29,6 +33,20 @@ pub data Turns : List Call → List ℕ → List ℕ → Type 0 where
   turn :
       {x : Call} {xs : List Call} {w w′ w″ v v′ : List ℕ} {r : Answer} → length v ≡ lent x → Made x w v r w′ v′
       → Turns xs w′ w″ → Turns (x ∷ xs) w w″
+
+-- the answers that the calls got, in turn
+abbrev pub answersOf : {xs : List Call} {w w″ : List ℕ} → Turns xs w w″ → List Answer
+answersOf done = []
+answersOf (turn {r} long made later) = r ∷ answersOf later
+
+-- the number and the value of each
+abbrev pub told : List Answer → List ℕ
+told [] = []
+told (r ∷ rs) = answerNumber r ∷ answerValue r ∷ told rs
+
+-- "1 is never drawn" by these answers
+abbrev pub neverDrawOne : List Answer → Bool
+neverDrawOne rs = every (λ r. not (eqb (answerNumber r) 1)) rs
 
 -- "Its first call gets the fresh book": one made of any n words, which then the calls in turn leave as w
 pub record Whole (n : ℕ) (xs : List Call) (w : List ℕ) : Type 0 where
