@@ -2,6 +2,7 @@ pub mod Answers
 pub mod Made
 pub mod Lent
 pub mod Lists
+pub mod Records
 pub mod RecordExamples
 pub mod Runs
 pub mod Turns
