@@ -1,13 +1,14 @@
--- Where the parts of a book stand in its run: no sentence of document 01, but what the searches find and the edits are told. Assumes nothing.
+-- Inner: where the parts of a book stand in its run, which the searches find and the edits are told. Assumes nothing.
 use Prim.Native.Nat.{ℕ, suc, _+_}
+use mathlib.Core.Path.{_≡_}
 use mathlib.Core.Bool.{Bool, cond}
 use mathlib.Core.List.{[]}
 use lib.ListN.{length}
-use lib.Dec.{eqb, ltb}
+use lib.Dec.{T, eqb, ltb}
 use Rattle.rule.specs.Lists.{some, only}
-use Rattle.book.specs.Facts.{Facts, number, inMonth}
+use Rattle.book.specs.Facts.{Facts, number, isOpen, inMonth}
 use Rattle.book.specs.Layout.{seriesWords, classesWords}
-use Rattle.book.specs.Calls.{class}
+use Rattle.book.specs.Calls.{class, isStanding}
 
 -- the index of the class word c, or of the word before which it would stand
 abbrev pub classPlace : ℕ → Facts → ℕ
@@ -32,3 +33,18 @@ strikesEnd c m f = strikesPlace c m f + length (inMonth m (class f c .series))
 -- the index of the strike h of the expiration m, or of the word before which it would stand
 abbrev pub strikePlace : ℕ → ℕ → ℕ → Facts → ℕ
 strikePlace c m h f = strikesPlace c m f + length (only (λ s. ltb (s .strike) h) (inMonth m (class f c .series)))
+
+-- a class is open whose words begin at the index `at`
+pub record ClassBegins (f : Facts) (at : ℕ) : Type 0 where
+  pub number : ℕ
+  pub is-open : T (isOpen number (f .classes))
+  pub place : at ≡ classPlace number f
+
+-- a strike stands at the index `at`
+pub record StrikeStands (f : Facts) (at : ℕ) : Type 0 where
+  pub class : ℕ
+  pub month : ℕ
+  pub strike : ℕ
+  pub is-open : T (isOpen class (f .classes))
+  pub standing : T (isStanding f class month strike)
+  pub place : at ≡ strikePlace class month strike f

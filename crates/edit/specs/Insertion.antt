@@ -1,4 +1,4 @@
--- New words put into a run: no sentence of document 01, but what the inner functions do. Assumes nothing.
+-- Inner: new words put into a run. Assumes nothing.
 use Prim.Native.Nat.{ℕ, _+_, _-_, _≤_}
 use mathlib.Core.List.{List, _++_}
 use lib.Dec.{T}

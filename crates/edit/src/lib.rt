@@ -1,18 +1,18 @@
 // Edits in place of the words of a book.
-ghost use mathlib.Core.Bool.{cond, not};
 ghost use mathlib.Core.List.{[], _∷_};
 ghost use mathlib.Core.Path.{_≡_};
-ghost use Prim.Native.Nat.{ℕ, _+_, _<_, _≤_};
+ghost use Prim.Native.Nat.{_≤_};
 ghost use lib.Dec.{T};
 ghost use lib.ListN.{length};
-ghost use Rattle.word.specs.Codec.{packed, Head};
-ghost use Rattle.word.specs.Limits.{isClassNumber, isGround, isMark, isMonth, isStrike};
-ghost use Rattle.book.specs.Books.{areFigures, isBook};
-ghost use Rattle.book.specs.Calls.{callI, callO, changed, class, isStanding, update};
-ghost use Rattle.book.specs.Facts.{insertSeries, isOpen, withFigures, withSeries};
-ghost use Rattle.book.specs.Layout.{factsOf, layout, used};
-ghost use Rattle.book.specs.Places.{classPlace, hasExpiration, strikePlace};
+ghost use Rattle.word.specs.Codec.{packed};
+ghost use Rattle.word.specs.declared.codec.Word.the-variants.{Head};
+ghost use Rattle.book.specs.Books.{isBook};
+ghost use Rattle.book.specs.Calls.{callI, callO, changed, class, update};
+ghost use Rattle.book.specs.Facts.{insertSeries, withFigures, withSeries};
+ghost use Rattle.book.specs.Layout.{factsOf, layout};
+ghost use Rattle.book.specs.Places.{StrikeStands};
 ghost use Rattle.edit.specs.Insertion.{HasRoom, insertWords, pushed};
+ghost use Rattle.edit.specs.Asked.{Storable, Markable, Openable, Insertable};
 use place::head;
 use word::class::ClassRecord;
 use word::codec::class_word;
@@ -107,10 +107,10 @@ fn insert3(run: &mut [u32], at: usize, a: u32, b: u32, c: u32)
 
 // The figures of the class whose word stands at `at`.
 pub fn store_figures(run: &mut [u32], at: usize, figures: ClassRecord)
-    requires { ⌜ T (isBook (now run)) × (T (areFigures figures) × (at + 3 ≤ length (now run))) ⌝ }
+    requires { ⌜ Storable (now run) at figures ⌝ }
     ensures { λ _. ⌜ (let f = factsOf (now (run .entry)) in
-        (c : ℕ) → T (isOpen c (f .classes)) → at ≡ classPlace c f → figures .number ≡ c
-        → now (run .exit) ≡ layout (length (now (run .entry))) (update (withFigures figures (class f c)) f)) ⌝ }
+        now (run .exit)
+        ≡ layout (length (now (run .entry))) (update (withFigures figures (class f (figures .number))) f)) ⌝ }
 {
     run[at] = class_word(figures.number, figures.dollar, figures.half);
     run[at + 1] = close_word(figures.close);
@@ -119,42 +119,42 @@ pub fn store_figures(run: &mut [u32], at: usize, figures: ClassRecord)
 
 // The marks of the strike whose word stands at `at`.
 pub fn store_marks(run: &mut [u32], at: usize, a: u32, b: u32)
-    requires { ⌜ T (isBook (now run)) × (T (isMark a) × (T (isMark b) × (at < length (now run)))) ⌝ }
+    requires { ⌜ Markable (now run) at a b ⌝ }
     ensures { λ _. ⌜ (let f = factsOf (now (run .entry)) in
-        (c m h : ℕ) → T (isOpen c (f .classes)) → T (isStanding f c m h) → at ≡ strikePlace c m h f
-        → now (run .exit) ≡ layout (length (now (run .entry))) (changed (callI c m h a b) f)) ⌝ }
+        (x : StrikeStands f at)
+        → now (run .exit)
+        ≡ layout (length (now (run .entry))) (changed (callI (x .class) (x .month) (x .strike) a b) f)) ⌝ }
 {
     let w = run[at];
     run[at] = strike_word(field_of(w, 0, 15), field_of(w, 15, 3), a, b);
 }
 
-// A class with no close, no volume and no designations.
+// A class as it is opened.
 pub fn insert_class(run: &mut [u32], at: usize, c: u32)
-    requires { ⌜ (let f = factsOf (now run) in
-        T (isBook (now run))
-        × (T (isClassNumber c)
-        × (T (not (isOpen c (f .classes))) × ((at ≡ classPlace c f) × (used f + 3 ≤ length (now run)))))) ⌝ }
+    requires { ⌜ Openable (now run) at c ⌝ }
     ensures { λ _. ⌜ now (run .exit) ≡ layout (length (now (run .entry))) (changed (callO c) (factsOf (now (run .entry)))) ⌝ }
 {
-    insert3(run, at, class_word(c, 0, 0), close_word(0), volume_word(0));
+    let figures = ClassRecord::open(c);
+    insert3(
+        run,
+        at,
+        class_word(figures.number, figures.dollar, figures.half),
+        close_word(figures.close),
+        volume_word(figures.volume),
+    );
 }
 
 // A strike with no marks. `stands` says whether its expiration has strikes already.
 pub fn insert_strike(run: &mut [u32], at: usize, stands: bool, m: u32, h: u32, ground: u32)
-    requires { ⌜ (let f = factsOf (now run) in
-        T (isBook (now run))
-        × (T (isMonth m)
-        × (T (isStrike h)
-        × (T (isGround ground) × ((at ≤ used f) × (used f + cond {A = ℕ} stands 1 2 ≤ length (now run))))))) ⌝ }
+    requires { ⌜ Insertable (now run) at stands m h ground ⌝ }
     ensures { λ _. ⌜ (let f = factsOf (now (run .entry)) in
-        (c : ℕ) → T (isOpen c (f .classes)) → T (not (isStanding f c m h)) → at ≡ strikePlace c m h f
-        → stands ≡ hasExpiration c m f
+        (x : Insertable (now (run .entry)) at stands m h ground)
         → now (run .exit)
         ≡ layout (length (now (run .entry)))
         (update
         (withSeries
-        (insertSeries (record { month = m; strike = h; ground = ground; put = 0; call = 0 }) (class f c .series))
-        (class f c))
+        (insertSeries (record { month = m; strike = h; ground = ground; put = 0; call = 0 }) (class f (x .class) .series))
+        (class f (x .class)))
         f)) ⌝ }
 {
     if stands {

@@ -1,10 +1,10 @@
--- The first of a list that passes a test, and the tests by which words are sought: no sentence of document 01. Assumes nothing.
+-- Inner: the first of a list that passes a test, and the tests by which words are sought. Assumes nothing.
 use Prim.Native.Nat.{ℕ, suc, _+_, _-_, _*_, _^_, _<_}
 use mathlib.Core.Path.{_≡_}
-use mathlib.Core.Bool.{Bool, true, cond, _&&_}
+use mathlib.Core.Bool.{Bool, true, cond, not, _&&_}
 use mathlib.Core.List.{List, [], _∷_}
-use lib.ListN.{getD, length}
-use lib.Dec.{eqb, leb}
+use lib.ListN.{drop, getD, length, take}
+use lib.Dec.{eqb, leb, ltb}
 use Rattle.word.specs.declared.class.ClassRecord.{ClassRecord}
 use Rattle.word.specs.Field.{field}
 use Rattle.word.specs.Codec.{kindOf}
@@ -38,6 +38,22 @@ isFrom kind width key w = isOfKind kind w && leb key (field w 0 width)
 -- a word of the kind whose lowest field, of `width` bits, holds the key
 abbrev pub isHolding : ℕ → ℕ → ℕ → ℕ → Bool
 isHolding kind width key w = isOfKind kind w && eqb (field w 0 width) key
+
+-- whether there are 8 words before `near` and more than 24 from it on
+abbrev pub isAmid : ℕ → List ℕ → Bool
+isAmid near ws = leb 8 near && ltb (near + 24) (length ws)
+
+-- the first of the 32 words about `near` that is of a lower kind, or of the kind and with at least the key
+abbrev pub firstAbout : ℕ → ℕ → ℕ → ℕ → List ℕ → ℕ
+firstAbout near kind width key ws = near - 8 + firstAt (isUpTo kind width key) (take 32 (drop (near - 8) ws))
+
+-- where a word of the kind holds the key: `near`, or else the first about it; the length where neither does, or `near` is not amid the words
+abbrev pub foundNear : ℕ → ℕ → ℕ → ℕ → List ℕ → ℕ
+foundNear near kind width key ws =
+    cond {A = ℕ} (not (isAmid near ws)) (length ws)
+    (cond {A = ℕ} (isHolding kind width key (getD ws near 0)) near
+    (cond {A = ℕ} (isHolding kind width key (getD ws (firstAbout near kind width key ws) 0)) (firstAbout near kind width key ws)
+    (length ws)))
 
 -- words of the kind that hold less than the key stand before the first that holds at least the key, and one that holds the key is that first
 pub record Rises (kind width key : ℕ) (ws : List ℕ) : Type 0 where

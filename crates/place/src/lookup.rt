@@ -1,16 +1,16 @@
 // Where a class, an expiration and a strike stand in a book, or would stand.
 ghost use mathlib.Core.Path.{_≡_};
 ghost use mathlib.Core.Bool.{_&&_};
-ghost use Prim.Native.Nat.{ℕ, _+_, _-_, _<_, _≤_};
+ghost use Prim.Native.Nat.{_+_, _-_, _<_, _≤_};
 ghost use lib.Dec.{T, eqb, ltb};
 ghost use lib.ListN.{drop, getD, length, take};
 ghost use Rattle.word.specs.Limits.{isClassNumber, isMonth, isStrike};
 ghost use Rattle.book.specs.Facts.{isOpen};
 ghost use Rattle.book.specs.Layout.{factsOf, used};
 ghost use Rattle.book.specs.Books.{isBook};
-ghost use Rattle.book.specs.Places.{classPlace};
+ghost use Rattle.book.specs.Places.{ClassBegins, classPlace};
 ghost use Rattle.place.specs.Search.{firstAt, isFrom, isHolding, isUpTo, figuresAt};
-ghost use Rattle.place.specs.Lookups.{expirationOf, rememberedPlace, strikeSearchOf};
+ghost use Rattle.place.specs.Lookups.{Searchable, expirationOf, placesAfter, rememberedPlace, strikeSearchOf};
 use crate::head;
 use crate::search::first;
 use crate::search::first_rising;
@@ -73,11 +73,13 @@ pub fn class_at(run: &[u32], near: usize, c: u32) -> usize
     1 + first_rising(words, 2, 14, c)
 }
 
-// Where the class c stands, or where its words would be put, in a book of more than 256 words; 0 in a shorter one, where a search costs less than to remember. `places` holds where classes
-// were found, by the last ten bits of their numbers: they move little from call to call. Any numbers will do, since they only shorten the search.
+// Where the class c stands, or where its words would be put, in a book of more than 256 words; 0 in a shorter one, where a
+// search costs less than to remember. `places` holds where classes were found, by the last ten bits of their numbers: they
+// move little from call to call. Any numbers will do, since they only shorten the search.
 pub fn remembered_place(run: &[u32], places: &mut [u32], c: u32) -> usize
     requires { ⌜ T (isBook (now run)) × (length (now places) ≡ 1024) ⌝ }
     ensures { λ r. ⌜ r ≡ rememberedPlace c (factsOf (now (run .entry))) ⌝ }
+    ensures { λ _. ⌜ now (places .exit) ≡ placesAfter c (factsOf (now (run .entry))) (now (places .entry)) ⌝ }
 {
     if !is_class_number(c) | (head::used(run) <= 256) {
         return 0;
@@ -133,9 +135,8 @@ fn is_strike_at(run: &[u32], at: usize, h: u32) -> bool
 
 // The expiration m of the open class at `class`.
 pub fn look_up_expiration(run: &[u32], class: usize, m: u32) -> Expiration
-    requires { ⌜ T (isBook (now run)) × (T (isMonth m) × (class + 3 ≤ used (factsOf (now run)))) ⌝ }
-    ensures { λ r. ⌜ (let f = factsOf (now (run .entry)) in
-        (c : ℕ) → T (isOpen c (f .classes)) → class ≡ classPlace c f → r ≡ expirationOf c m f) ⌝ }
+    requires { ⌜ Searchable (now run) class m ⌝ }
+    ensures { λ r. ⌜ (let f = factsOf (now (run .entry)) in (x : ClassBegins f class) → r ≡ expirationOf (x .number) m f) ⌝ }
 {
     let place = expiration_at(run, class, m);
     if !is_word_at(run, place, expiration_word(m)) {
@@ -154,9 +155,9 @@ pub fn look_up_expiration(run: &[u32], class: usize, m: u32) -> Expiration
 
 // The strike h of the expiration m of the open class at `class`.
 pub fn look_up_strike(run: &[u32], class: usize, m: u32, h: u32) -> StrikeSearch
-    requires { ⌜ T (isBook (now run)) × ((T (isMonth m) × T (isStrike h)) × (class + 3 ≤ used (factsOf (now run)))) ⌝ }
+    requires { ⌜ Searchable (now run) class m × T (isStrike h) ⌝ }
     ensures { λ r. ⌜ (let f = factsOf (now (run .entry)) in
-        (c : ℕ) → T (isOpen c (f .classes)) → class ≡ classPlace c f → r ≡ strikeSearchOf c m h f) ⌝ }
+        (x : ClassBegins f class) → r ≡ strikeSearchOf (x .number) m h f) ⌝ }
 {
     let place = expiration_at(run, class, m);
     if !is_word_at(run, place, expiration_word(m)) {

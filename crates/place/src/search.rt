@@ -1,13 +1,12 @@
 // The first word of a kind that holds at least a key, or of a lower kind, 16 words at a time; and the first of a kind from a key on, by guesses where the words of the kind rise.
 ghost use mathlib.Core.Path.{_≡_};
-ghost use mathlib.Core.Bool.{true};
 ghost use Prim.Native.Nat.{_*_, _^_, _<_, _≤_};
 ghost use mathlib.Core.List.{map};
 ghost use lib.Dec.{T, leb};
-ghost use lib.ListN.{getD, length};
+ghost use lib.ListN.{length};
 ghost use Rattle.word.specs.Digits.{binary};
 ghost use Rattle.rule.specs.Lists.{every};
-ghost use Rattle.place.specs.Search.{firstAt, isFrom, isHolding, isNoLower, rankOf, isUpTo, Rises};
+ghost use Rattle.place.specs.Search.{firstAt, foundNear, isFrom, isHolding, isNoLower, rankOf, isUpTo, Rises};
 use word::codec::kind;
 use word::field::field_of;
 
@@ -82,7 +81,7 @@ pub fn holds(w: u32, of: u32, width: u32, key: u32) -> bool
 // The index of a word of the kind that holds the key, where it stands at `near` or a few words from it; else the length.
 pub fn found_near(words: &[u32], near: usize, of: u32, width: u32, key: u32) -> usize
     requires { ⌜ (of < 16) × ((width ≤ 28) × (key < 2 ^ 28)) ⌝ }
-    ensures { λ r. ⌜ (r ≤ length (now (words .entry))) × (r < length (now (words .entry)) → isHolding of width key (getD (now (words .entry)) r 0) ≡ true) ⌝ }
+    ensures { λ r. ⌜ r ≡ foundNear near of width key (now (words .entry)) ⌝ }
 {
     let n = words.len();
     if (near < 8) | (n < 32) {

@@ -2,3 +2,4 @@ pub mod Runs
 pub mod Marks
 pub mod Compaction
 pub mod Expiry
+pub mod Asked

@@ -1,14 +1,10 @@
 // Delisting by the place of the strike, and review by a compaction in place. Expiry has a module of its own.
 ghost use mathlib.Core.Path.{_≡_};
-ghost use mathlib.Core.List.{[]};
-ghost use Prim.Native.Nat.{ℕ, _+_, _≤_, _<_};
-ghost use lib.Dec.{T, eqb};
+ghost use Prim.Native.Nat.{_≤_};
 ghost use lib.ListN.{length};
-ghost use Rattle.book.specs.Facts.{isOpen};
-ghost use Rattle.book.specs.Layout.{seriesWords, used, layout, factsOf};
-ghost use Rattle.book.specs.Books.{isBook};
-ghost use Rattle.book.specs.Calls.{callX, callR, class, isStanding, changed, acceptedValue};
-ghost use Rattle.book.specs.Places.{classPlace, strikesPlace, strikesEnd, strikePlace};
+ghost use Rattle.book.specs.Layout.{layout, factsOf};
+ghost use Rattle.book.specs.Calls.{callX, callR, changed, acceptedValue};
+ghost use Rattle.removal.specs.Asked.{Delistable, Reviewable};
 ghost use Rattle.removal.specs.Compaction.{RemovedFrom};
 use crate::compaction::compact;
 use crate::gap::close_gap;
@@ -34,13 +30,13 @@ fn remove(run: &mut [u32], from: usize, to: usize, end: usize, month: u32, close
     kept.removed
 }
 
-// `X`: the strike h of the month m of the class c, whose word stands at `at`, goes; with it its expiration word, where it is `alone` behind that.
+// `X`: the strike whose word stands at `at` goes; with it its expiration word, where it is `alone` behind that.
 pub fn delist(run: &mut [u32], at: usize, alone: bool)
-    requires { ⌜ T (isBook (now run)) × ((2 ≤ at) × (at < used (factsOf (now run)))) ⌝ }
-    ensures { λ _. ⌜ (let f = factsOf (now (run .entry)) in
-        (c m h : ℕ) → T (isOpen c (f .classes)) → T (isStanding f c m h) → at ≡ strikePlace c m h f
-        → alone ≡ eqb (strikesEnd c m f) (strikesPlace c m f + 1)
-        → now (run .exit) ≡ layout (length (now (run .entry))) (changed (callX c m h) f)) ⌝ }
+    requires { ⌜ Delistable (now run) at alone ⌝ }
+    ensures { λ _. ⌜ ((x : Delistable (now (run .entry)) at alone)
+        → now (run .exit)
+        ≡ layout (length (now (run .entry)))
+        (changed (callX (x .class) (x .month) (x .strike)) (factsOf (now (run .entry))))) ⌝ }
 {
     let end = head::used(run);
     let month = head::current(run);
@@ -53,10 +49,14 @@ pub fn delist(run: &mut [u32], at: usize, alone: bool)
     }
 }
 
-// `R`: of the class c, whose series have the words from `from` to `to`, those go that its review at its close removes. Returns how many.
+// `R`: of the class whose series have the words from `from` to `to`, those go that its review at its close removes. Returns
+// how many.
 pub fn review(run: &mut [u32], from: usize, to: usize, close: u32) -> usize
-    requires { ⌜ T (isBook (now run)) × ((from ≤ to) × (to ≤ used (factsOf (now run)))) ⌝ }
-    ensures { λ r. ⌜ ((c : ℕ) → T (isOpen c (factsOf (now (run .entry)) .classes)) → from ≡ classPlace c (factsOf (now (run .entry))) + 3 → to ≡ from + length (seriesWords 0 (class (factsOf (now (run .entry))) c .series) []) → close ≡ class (factsOf (now (run .entry))) c .figures .close → (r ≡ acceptedValue (callR c) (factsOf (now (run .entry)))) × (now (run .exit) ≡ layout (length (now (run .entry))) (changed (callR c) (factsOf (now (run .entry)))))) ⌝ }
+    requires { ⌜ Reviewable (now run) from to close ⌝ }
+    ensures { λ r. ⌜ (let f = factsOf (now (run .entry)) in
+        (x : Reviewable (now (run .entry)) from to close)
+        → (r ≡ acceptedValue (callR (x .number)) f)
+        × (now (run .exit) ≡ layout (length (now (run .entry))) (changed (callR (x .number)) f))) ⌝ }
 {
     let end = head::used(run);
     let month = head::current(run);

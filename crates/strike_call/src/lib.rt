@@ -59,9 +59,9 @@ fn is_strike_at(run: &[u32], at: usize) -> bool
 // What the conditions before the rules and then the rules say of a strike that was looked up: 5, 6, 8, 11, 12, 13 or its ground. Of the standing strikes of its expiration only the next one
 // below it and the next one above it bear on it.
 fn judge_found(run: &[u32], class: usize, found: StrikeSearch, m: u32, h: u32) -> Answer
-    requires { ⌜ Sought h (now run) class found ⌝ }
-    ensures { λ r. ⌜ (let f = factsOf (now (run .entry)) in
-        (c : ℕ) → T (isOpen c (f .classes)) → class ≡ classPlace c f → found ≡ strikeSearchOf c m h f → r ≡ foundAnswer c m h f) ⌝ }
+    requires { ⌜ Sought (now run) class found m h ⌝ }
+    ensures { λ r. ⌜ ((x : Sought (now (run .entry)) class found m h)
+        → r ≡ foundAnswer (x .begins .number) m h (factsOf (now (run .entry)))) ⌝ }
 {
     let figures = figures_at(run, class);
     let setting = Setting {

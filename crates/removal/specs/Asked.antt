@@ -1,0 +1,32 @@
+-- Inner: what delisting and review ask of the run ws. Assumes nothing.
+use Prim.Native.Nat.{ℕ, _+_}
+use mathlib.Core.Path.{_≡_}
+use mathlib.Core.Bool.{Bool}
+use mathlib.Core.List.{List, []}
+use lib.Dec.{T, eqb}
+use lib.ListN.{length}
+use Rattle.book.specs.Facts.{isOpen}
+use Rattle.book.specs.Layout.{factsOf, seriesWords}
+use Rattle.book.specs.Books.{isBook}
+use Rattle.book.specs.Calls.{class, isStanding}
+use Rattle.book.specs.Places.{classPlace, strikePlace, strikesEnd, strikesPlace}
+
+-- a strike stands at `at`, `alone` in its expiration or not
+pub record Delistable (ws : List ℕ) (at : ℕ) (alone : Bool) : Type 0 where
+  pub book : T (isBook ws)
+  pub class : ℕ
+  pub month : ℕ
+  pub strike : ℕ
+  pub is-open : T (isOpen class (factsOf ws .classes))
+  pub standing : T (isStanding (factsOf ws) class month strike)
+  pub place : at ≡ strikePlace class month strike (factsOf ws)
+  pub last : alone ≡ eqb (strikesEnd class month (factsOf ws)) (strikesPlace class month (factsOf ws) + 1)
+
+-- the series of an open class with this close have the words from `from` to `to`
+pub record Reviewable (ws : List ℕ) (from to price : ℕ) : Type 0 where
+  pub book : T (isBook ws)
+  pub number : ℕ
+  pub is-open : T (isOpen number (factsOf ws .classes))
+  pub begins : from ≡ classPlace number (factsOf ws) + 3
+  pub ends : to ≡ from + length (seriesWords 0 (class (factsOf ws) number .series) [])
+  pub close : price ≡ class (factsOf ws) number .figures .close
