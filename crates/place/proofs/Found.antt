@@ -17,7 +17,7 @@ use Rattle.book.specs.Facts.{Series, OpenClass, Facts, number, isOpen, inMonth}
 use Rattle.book.specs.Layout.{strikeWord, expirationUnless, seriesWords, figuresWords, classesWords, used, factsOf}
 use Rattle.book.specs.Books.{areFigures, isBook}
 use Rattle.book.specs.Calls.{class, isStanding}
-use Rattle.book.specs.Places.{classPlace, hasExpiration, expirationPlace, strikePlace}
+use Rattle.book.specs.Places.{ClassBegins, classPlace, hasExpiration, expirationPlace, strikePlace}
 use Rattle.book.proofs.Tests.{ands, T-true, true-T}
 use Rattle.book.proofs.Lists.{every-imply, every-map, every-true}
 use Rattle.book.proofs.Layouts.{seriesWords-append, words-legal}
@@ -419,3 +419,8 @@ module _ (ws : List ℕ) (b : T (isBook ws)) where
               (λ n l k t. no-strike h (Expiration n) (T-true (isLegal (Expiration n)) (search ands)) refl)
               (every-split isLegal strikes late strikes-legal .1))
               ∙ some-both (isEqual monthOf m) (isEqual strikeOf h) listed
+
+-- the three words of a class are among those used
+pub begins-room :
+    (ws : List ℕ) → T (isBook ws) → (at : ℕ) → ClassBegins (factsOf ws) at → at + 3 ≤ used (factsOf ws)
+begins-room ws b at x = omega (arith, x .place, class-room ws b (x .number) (x .is-open))

@@ -1,5 +1,6 @@
 -- The laws that the functions' proofs and other crates cite.
 pub mod Firsts
+pub mod Near
 pub mod Heads
 pub mod Words
 pub mod Laid

@@ -1,11 +1,16 @@
 -- `class_at` finds a class: the first class word from its number on stands where the class does or would, and a class word near by that holds its number is that first. Assumes nothing.
-use Prim.Native.Nat.{_^_, _<_}
+use Prim.Native.Nat.{_-_, _^_, _<_}
+use mathlib.Core.Path.{_≡_}
+use mathlib.Core.Bool.{true}
 use native.Mathlib.Omega.{arith}
+use lib.ListN.{take, drop, getD}
 use borrow.Author.Needs.{needs}
 use borrow.Author.Tests.{eqb-true}
 use Rattle.word.specs.Limits.{isClassNumber}
 use Rattle.word.proofs.Tests.{and-both, between-high}
 use Rattle.book.proofs.Tests.{T-true}
+use Rattle.place.specs.Search.{isHolding}
+use Rattle.place.proofs.Near.{near-holds}
 use Rattle.place.proofs.Heads.{book-room}
 use Rattle.place.proofs.Found.{body-short, body-kinds, class-rises, class-sought}
 use Rattle.place.proofs.lookup.class_at.Statement.{statement}
@@ -42,7 +47,11 @@ returns c =
     let u = n .before .before .before in
     let s = u .before .before in
     let e = u .used .ensures in
-    let holds = and-both _ _ (n .found-near .ensures .1 (c .if2 .taken)) in
+    let words = take (u .used .result - 1) (drop 1 (s .args .run .now)) in
+    let there = n .found-near .ensures in
+    let held : isHolding 2 14 (s .args .c) (getD words (n .found-near .result) 0) ≡ true =
+    rw there (near-holds (s .args .near - 1) words 2 14 (s .args .c) (rw there at (c .if2 .taken))) in
+    let holds = and-both _ _ held in
     class-sought _ (s .pre .0) _ _ _ e
     (class-rises _ (s .pre .0) _ _ e .equal _ (c .if2 .taken) (holds .0) (eqb-true _ _ (holds .1)))
 

@@ -1,4 +1,5 @@
--- `remembered_place` answers 0 or what `class_at` finds: whatever a slot remembers, the place is that of the class, which is within the words used. Assumes nothing.
+-- `remembered_place` answers 0 or what `class_at` finds, and remembers that: whatever a slot remembers, the place is that
+-- of the class, which is within the words used. Assumes nothing.
 use Prim.Native.Nat.{ℕ}
 use mathlib.Core.Path.{_≡_, refl, sym, ap, ap₂, _∙_}
 use mathlib.Core.Bool.{Bool, true, false, not, _&&_, _||_}
@@ -8,19 +9,15 @@ use mir.Facts.{fits-widen}
 use borrow.Author.Needs.{needs}
 use borrow.Author.Tests.{leb-true, leb-false, lt-ltb, le-ltb, not-true, not-false}
 use Rattle.word.specs.Limits.{isClassNumber}
-use Rattle.book.specs.Facts.{Facts}
 use Rattle.book.specs.Layout.{used, factsOf}
 use Rattle.book.proofs.Tests.{ands, true-T}
+use Rattle.place.specs.Lookups.{isRemembered}
 use Rattle.place.proofs.Heads.{book-room, book-long}
 use Rattle.place.proofs.Found.{class-within}
 use Rattle.place.proofs.lookup.remembered_place.Statement.{statement}
 use Rattle.place.proofs.lookup.remembered_place.Tie as tie
 
--- the test of the definition
-abbrev isSought : ℕ → Facts → Bool
-isSought c f = isClassNumber c && ltb 256 (used f)
-
--- .. is the negated one of the function
+-- the test of the definition is the negated one of the function
 turned : (number : Bool) (n : ℕ) → (not number || leb n 256) ≡ not (number && ltb 256 n)
 turned false n = refl
 turned true n = go (leb n 256) refl
@@ -32,17 +29,25 @@ turned true n = go (leb n 256) refl
 tested :
     (c : tie.After-used)
     → let a = c .before .before .before .before .args in
-    (not (c .before .is-class-number .result) || leb (c .used .result) 256) ≡ not (isSought (a .c) (factsOf (a .run .now)))
+    (not (c .before .is-class-number .result) || leb (c .used .result) 256) ≡ not (isRemembered (a .c) (factsOf (a .run .now)))
 tested c =
     let a = c .before .before .before .before .args in
     ap₂ (λ (b : Bool) (n : ℕ). not b || leb n 256) (c .before .is-class-number .ensures) (c .used .ensures)
     ∙ turned (isClassNumber (a .c)) (used (factsOf (a .run .now)))
 
-not-sought : (c : tie.Then1) → let a = c .before .before .before .before .before .args in isSought (a .c) (factsOf (a .run .now)) ≡ false
-not-sought c = not-true _ (sym (tested (c .before)) ∙ c .if1 .taken)
+not-remembered :
+    (c : tie.Then1)
+    → let u = c .before in
+    let a = u .before .before .before .before .args in
+    isRemembered (a .c) (factsOf (a .run .now)) ≡ false
+not-remembered c = not-true _ (sym (tested (c .before)) ∙ c .if1 .taken)
 
-is-sought : (c : tie.Else1) → let a = c .before .before .before .before .before .args in isSought (a .c) (factsOf (a .run .now)) ≡ true
-is-sought c = not-false _ (sym (tested (c .before)) ∙ c .if1 .left)
+remembered :
+    (c : tie.Else1)
+    → let u = c .before in
+    let a = u .before .before .before .before .args in
+    isRemembered (a .c) (factsOf (a .run .now)) ≡ true
+remembered c = not-false _ (sym (tested (c .before)) ∙ c .if1 .left)
 
 is-class-number-requires : tie.Need-is-class-number-requires
 is-class-number-requires c κs = search needs
@@ -51,7 +56,7 @@ used-requires : tie.Need-used-requires
 used-requires c κs = search needs
 
 returns : tie.Need-returns
-returns c = rw (not-sought c)
+returns c = (rw (not-remembered c), rw (not-remembered c))
 
 cast-slot : tie.Need-cast-slot
 cast-slot c = search needs
@@ -67,12 +72,15 @@ cast-class-at c = fits-widen tt (c .slice-known2 .given _)
 
 class-at-requires : tie.Need-class-at-requires
 class-at-requires c κs =
-    let sought = true-T _ (is-sought (c .before)) in
-    (c .before .before .before .before .before .before .pre .0, search ands)
+    let asked = c .before in
+    let start = asked .before .before .before .before .before in
+    let number = true-T _ (remembered asked) in
+    (start .pre .0, search ands)
 
 cast-places : tie.Need-cast-places
 cast-places c =
-    let s = c .before .before .before .before .before .before .before in
+    let asked = c .before .before in
+    let s = asked .before .before .before .before .before in
     let w = s .args .run .now in
     let book = s .pre .0 in
     omega (arith, c .class-at .ensures, class-within w book (s .args .c), book-room w book, book-long w book)
@@ -87,7 +95,9 @@ same-length : tie.Need-same-length
 same-length c = search needs
 
 returns-2 : tie.Need-returns-2
-returns-2 c = rw (is-sought (c .before .before)) (c .class-at .ensures)
+returns-2 c =
+    let known = remembered (c .before .before) in
+    (rw known (c .class-at .ensures), rw (known, c .class-at .ensures))
 
 pub remembered-place-spec : {M : Type 1} → statement M
 remembered-place-spec =

@@ -1,12 +1,15 @@
--- `found_near` answers an index only where it has seen the word hold the key; the words that it looks at are within the slice, since `near` is far enough from both ends. Assumes nothing.
-use Prim.Native.Nat.{ℕ, _+_, _≤_, _<_}
-use mathlib.Core.Path.{_≡_, refl, sym, _∙_}
-use mathlib.Core.Bool.{Bool, true, false, _||_, false≢true}
+-- `found_near` makes the tests of the definition; the words that it looks at are within the slice, since `near` is far
+-- enough from both ends. Assumes nothing.
+use Prim.Native.Nat.{ℕ, _+_, _-_, _≤_, _<_}
+use mathlib.Core.Path.{_≡_, refl, sym, ap, _∙_}
+use mathlib.Core.Bool.{Bool, true, false, cond, _||_, false≢true}
 use native.Mathlib.Omega.{arith}
 use lib.Dec.{ltb}
-use lib.ListN.{length}
+use lib.ListN.{length, take, drop}
 use borrow.Author.Needs.{needs}
-use borrow.Author.Tests.{ltb-false}
+use borrow.Author.Tests.{ltb-true, ltb-false, le-ltb}
+use Rattle.place.specs.Search.{firstAt, isUpTo, isAmid, firstAbout, foundNear}
+use Rattle.place.proofs.Near.{is-amid, not-amid, near-there, near-about}
 use Rattle.place.proofs.search.found_near.Statement.{statement}
 use Rattle.place.proofs.search.found_near.Tie as tie
 
@@ -25,19 +28,71 @@ words-enough c = go (ltb near 8) refl (c .if1 .left)
     go false d e = (ltb-false near 8 d, ltb-false n 32 e)
 
 -- .. and more than 24 from it on
-words-about : (c : tie.Else2) → let a = c .before .before .before .args in (8 ≤ a .near) × (a .near + 24 < length (a .words .now))
+words-about :
+    (c : tie.Else2)
+    → let a = c .before .before .before .args in
+    (8 ≤ a .near) × (a .near + 24 < length (a .words .now))
 words-about c =
     let enough = words-enough (c .before) in
     (enough .0, omega arith)
 
+-- .. so that `near` is amid the words
+amid : (c : tie.Else2) → let a = c .before .before .before .args in isAmid (a .near) (a .words .now) ≡ true
+amid c =
+    let a = c .before .before .before .args in
+    let about = words-about c in
+    is-amid (a .near) (a .words .now) (about .0) (about .1)
+
+-- the first of the words about `near`
+first-about :
+    (c : tie.After-first)
+    → let missed = c .before .before in
+    let about = missed .before .before .before in
+    let a = about .before .before .before .args in
+    a .near - 8 + c .first .result ≡ firstAbout (a .near) (a .of) (a .width) (a .key) (a .words .now)
+first-about c =
+    let missed = c .before .before in
+    let about = missed .before .before .before in
+    let a = about .before .before .before .args in
+    let from = a .near - 8 in
+    let width : from + 32 - from ≡ 32 = omega arith in
+    ap (λ (k : ℕ). from + k)
+    (c .first .ensures .0
+    ∙ ap (λ (k : ℕ). firstAt (isUpTo (a .of) (a .width) (a .key)) (take k (drop from (a .words .now)))) width)
+
+-- .. and whether it holds the key decide, where the word at `near` does not
+else-found :
+    (c : tie.After-holds2)
+    → let searched = c .before .before in
+    let missed = searched .before .before in
+    let about = missed .before .before .before in
+    let a = about .before .before .before .args in
+    cond {A = ℕ} (c .holds2 .result) (a .near - 8 + searched .first .result) (length (a .words .now))
+    ≡ foundNear (a .near) (a .of) (a .width) (a .key) (a .words .now)
+else-found c =
+    let searched = c .before .before in
+    let missed = searched .before .before in
+    let about = missed .before .before .before in
+    let a = about .before .before .before .args in
+    let at = a .near - 8 + searched .first .result in
+    ap (λ (b : Bool). cond {A = ℕ} b at (length (a .words .now))) (c .holds2 .ensures)
+    ∙ near-about (a .near) (a .words .now) (a .of) (a .width) (a .key) (amid about)
+    (sym (missed .before .holds .ensures) ∙ missed .if3 .left) at (first-about searched)
+
 returns : tie.Need-returns
-returns c = (omega arith, λ l. absurd (omega arith))
+returns c =
+    let a = c .before .before .args in
+    let few : 8 ≤ a .near → length (a .words .now) < 32 =
+    λ low. ltb-true (length (a .words .now)) 32 (rw (le-ltb (a .near) 8 low) at (c .if1 .taken)) in
+    rw (not-amid (a .near) (a .words .now) (λ low. omega (arith, few low)))
 
 sub-if2 : tie.Need-sub-if2
 sub-if2 c = omega (arith, words-enough c)
 
 returns-2 : tie.Need-returns-2
-returns-2 c = (omega arith, λ l. absurd (omega arith))
+returns-2 c =
+    let a = c .before .before .before .args in
+    rw (not-amid (a .near) (a .words .now) (λ low. omega arith))
 
 mul-holds : tie.Need-mul-holds
 mul-holds c = search needs
@@ -49,7 +104,10 @@ holds-requires : tie.Need-holds-requires
 holds-requires c κs = search needs
 
 returns-3 : tie.Need-returns-3
-returns-3 c = (omega (arith, words-about (c .before .before .before)), λ l. sym (c .before .holds .ensures) ∙ c .if3 .taken)
+returns-3 c =
+    let about = c .before .before .before in
+    let a = about .before .before .before .args in
+    near-there (a .near) (a .words .now) (a .of) (a .width) (a .key) (amid about) (sym (c .before .holds .ensures) ∙ c .if3 .taken)
 
 sub-from : tie.Need-sub-from
 sub-from c = words-about (c .before .before .before) .0
@@ -79,18 +137,18 @@ mul-holds-2 : tie.Need-mul-holds-2
 mul-holds-2 c = search needs
 
 shared-slice-read-holds-2 : tie.Need-shared-slice-read-holds-2
-shared-slice-read-holds-2 c = omega (arith, words-about (c .before .before .before .before .before .before))
+shared-slice-read-holds-2 c =
+    let missed = c .before .before .before in
+    omega (arith, words-about (missed .before .before .before))
 
 holds-requires-2 : tie.Need-holds-requires-2
 holds-requires-2 c κs = search needs
 
 returns-4 : tie.Need-returns-4
-returns-4 c =
-    let w = words-about (c .before .before .before .before .before .before .before .before) in
-    (omega (arith, w), λ l. sym (c .before .holds2 .ensures) ∙ c .if4 .taken)
+returns-4 c = rw (c .if4 .taken) at (else-found (c .before))
 
 returns-5 : tie.Need-returns-5
-returns-5 c = (omega arith, λ l. absurd (omega arith))
+returns-5 c = rw (c .if4 .left) at (else-found (c .before))
 
 pub found-near-spec : {M : Type 1} → statement M
 found-near-spec =

@@ -1,0 +1,52 @@
+-- What is found near an index, by the tests of the definition: where it is one of the words, the word there holds the
+-- key. Assumes nothing.
+use Prim.Native.Nat.{ℕ, _+_, _≤_, _<_}
+use mathlib.Core.Path.{_≡_, refl}
+use mathlib.Core.Bool.{Bool, true, false, cond, not, _&&_}
+use mathlib.Core.List.{List}
+use native.Mathlib.Omega.{arith}
+use lib.Dec.{leb, ltb}
+use lib.ListN.{length, getD}
+use borrow.Author.Tests.{leb-true, lt-ltb, le-ltb, le-leb}
+use Rattle.place.specs.Search.{isHolding, isAmid, firstAbout, foundNear}
+
+module _ (near : ℕ) (ws : List ℕ) where
+  pub is-amid : 8 ≤ near → near + 24 < length ws → isAmid near ws ≡ true
+  is-amid low high = rw (le-leb 8 near low, lt-ltb (near + 24) (length ws) high)
+
+  pub not-amid : (8 ≤ near → length ws ≤ near + 24) → isAmid near ws ≡ false
+  not-amid high = go (leb 8 near) refl
+    where
+      go : (b : Bool) → leb 8 near ≡ b → (b && ltb (near + 24) (length ws)) ≡ false
+      go true e = le-ltb (near + 24) (length ws) (high (leb-true 8 near e))
+      go false e = refl
+
+  module _ (kind width key : ℕ) where
+    abbrev holds : ℕ → Bool
+    holds at = isHolding kind width key (getD ws at 0)
+
+    abbrev found : Bool → Bool → Bool → ℕ
+    found amid there about =
+        cond {A = ℕ} (not amid) (length ws)
+        (cond {A = ℕ} there near (cond {A = ℕ} about (firstAbout near kind width key ws) (length ws)))
+
+    pub near-holds :
+        foundNear near kind width key ws < length ws → holds (foundNear near kind width key ws) ≡ true
+    near-holds = go (isAmid near ws) (holds near) (holds (firstAbout near kind width key ws)) refl refl
+      where
+        go :
+            (amid there about : Bool) → holds near ≡ there → holds (firstAbout near kind width key ws) ≡ about
+            → found amid there about < length ws → holds (found amid there about) ≡ true
+        go false there about d e l = absurd (omega arith)
+        go true true about d e l = d
+        go true false true d e l = e
+        go true false false d e l = absurd (omega arith)
+
+    module _ (amid : isAmid near ws ≡ true) where
+      pub near-there : holds near ≡ true → near ≡ foundNear near kind width key ws
+      near-there e = rw (amid, e)
+
+      pub near-about :
+          holds near ≡ false → (at : ℕ) → at ≡ firstAbout near kind width key ws
+          → cond {A = ℕ} (holds at) at (length ws) ≡ foundNear near kind width key ws
+      near-about e at d = rw (amid, e, d)
