@@ -1,5 +1,5 @@
--- `look_up_expiration` finds the strikes of an expiration: after its word where that stands, to the next word that is no
--- strike. Assumes nothing.
+-- `look_up_expiration` finds the strikes of an expiration: after its word where that stands, to the next word that is
+-- no strike. Assumes nothing.
 use Prim.Native.Nat.{_+_, _≤_, _<_}
 use native.Mathlib.Omega.{arith}
 use lib.Dec.{leb→le}

@@ -78,8 +78,8 @@ part-first-end c = omega (arith, within (c .before))
 
 first-requires : tie.Need-first-requires
 first-requires c κs =
-    let there = c .before .before in
-    let s = there .before .before .before .before .before in
+    let there = c .before .before .before in
+    let s = there .before .before .before .before in
     (omega arith, (omega arith, strike-small s))
 
 add-at : tie.Need-add-at

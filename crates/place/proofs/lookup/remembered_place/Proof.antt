@@ -1,5 +1,5 @@
--- `remembered_place` answers 0 or what `class_at` finds, and remembers that: whatever a slot remembers, the place is that
--- of the class, which is within the words used. Assumes nothing.
+-- `remembered_place` answers 0 or what `class_at` finds, and remembers that: whatever a slot remembers, the place is
+-- that of the class, which is within the words used. Assumes nothing.
 use Prim.Native.Nat.{ℕ}
 use mathlib.Core.Path.{_≡_, refl, sym, ap, ap₂, _∙_}
 use mathlib.Core.Bool.{Bool, true, false, not, _&&_, _||_}
@@ -29,7 +29,8 @@ turned true n = go (leb n 256) refl
 tested :
     (c : tie.After-used)
     → let a = c .before .before .before .before .args in
-    (not (c .before .is-class-number .result) || leb (c .used .result) 256) ≡ not (isRemembered (a .c) (factsOf (a .run .now)))
+    (not (c .before .is-class-number .result) || leb (c .used .result) 256)
+    ≡ not (isRemembered (a .c) (factsOf (a .run .now)))
 tested c =
     let a = c .before .before .before .before .args in
     ap₂ (λ (b : Bool) (n : ℕ). not b || leb n 256) (c .before .is-class-number .ensures) (c .used .ensures)
@@ -73,14 +74,15 @@ cast-class-at c = fits-widen tt (c .slice-known2 .given _)
 class-at-requires : tie.Need-class-at-requires
 class-at-requires c κs =
     let asked = c .before in
-    let start = asked .before .before .before .before .before in
+    let u = asked .before in
+    let start = u .before .before .before .before in
     let number = true-T _ (remembered asked) in
     (start .pre .0, search ands)
 
 cast-places : tie.Need-cast-places
 cast-places c =
-    let asked = c .before .before in
-    let s = asked .before .before .before .before .before in
+    let u = c .before .before .before in
+    let s = u .before .before .before .before in
     let w = s .args .run .now in
     let book = s .pre .0 in
     omega (arith, c .class-at .ensures, class-within w book (s .args .c), book-room w book, book-long w book)

@@ -107,7 +107,8 @@ returns-3 : tie.Need-returns-3
 returns-3 c =
     let about = c .before .before .before in
     let a = about .before .before .before .args in
-    near-there (a .near) (a .words .now) (a .of) (a .width) (a .key) (amid about) (sym (c .before .holds .ensures) ∙ c .if3 .taken)
+    near-there (a .near) (a .words .now) (a .of) (a .width) (a .key) (amid about)
+    (sym (c .before .holds .ensures) ∙ c .if3 .taken)
 
 sub-from : tie.Need-sub-from
 sub-from c = words-about (c .before .before .before) .0
