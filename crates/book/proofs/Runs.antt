@@ -21,7 +21,7 @@ use Rattle.book.specs.Calls.{class, isStanding, hasOpenInterest, standin
 use Rattle.book.specs.Places.{hasExpiration, strikesPlace, strikesEnd, strikePlace}
 use Rattle.book.proofs.Tests.{ands}
 use Rattle.book.proofs.LegalWords.{fits, strike-legal}
-use Rattle.book.proofs.Lists.{every-only}
+use Rattle.book.proofs.Lists.{every-only, length-only}
 use Rattle.book.proofs.Forms.{areSeries, well}
 use Rattle.book.proofs.Layouts.{used-taken}
 use Rattle.book.proofs.Parts.{only-both, some-both, isUnder, isEqual, isOver}
@@ -134,6 +134,11 @@ module _ (n : ℕ) (f : Facts) (c m : ℕ) (w : T (isWellFormed n f)) (o : T (is
         before-length,
       )
 
+  -- a strike stands, or would stand, among the words used
+  pub strike-within : (h : ℕ) → strikePlace c m h f ≤ used f
+  strike-within h =
+      omega (arith, strikes-within, length-only (λ s. ltb (s .strike) h) (inMonth m (class f c .series)))
+
   -- the strikes of the expiration, in the words from the first to the end
   pub strikes-part :
       take (strikesEnd c m f - strikesPlace c m f) (drop (strikesPlace c m f) (layout n f))
@@ -234,6 +239,9 @@ module _ (n : ℕ) (f : Facts) (c m h : ℕ) (w : T (isWellFormed n f)) (o : T (
               → ws ++ (map strikeWord (ss ++ (s ∷ ts)) ++ rest)
               ≡ (ws ++ map strikeWord ss) ++ (strikeWord s ∷ (map strikeWord ts ++ rest))
           regroup ws rest ss ts = simp (map-append, append-assoc)
+
+  pub standing-within : T (isStanding f c m h) → strikePlace c m h f < used f
+  standing-within t = omega (arith, strike-stands t .1 .within, strikes-within n f c m w o)
 
   -- a word that stands says whether the strike has open interest
   pub interest-says :
