@@ -7,7 +7,7 @@ use lib.Dec.{T}
 use lib.ListN.{length}
 use Rattle.word.specs.declared.class.ClassRecord.{ClassRecord}
 use Rattle.word.specs.Limits.{isClassNumber, isGround, isMark, isMonth, isStrike}
-use Rattle.book.specs.Facts.{Facts, isOpen}
+use Rattle.book.specs.Facts.{isOpen}
 use Rattle.book.specs.Layout.{factsOf, used}
 use Rattle.book.specs.Books.{areFigures, isBook}
 use Rattle.book.specs.Calls.{isStanding}
@@ -35,8 +35,8 @@ pub record Openable (ws : List ℕ) (at c : ℕ) : Type 0 where
   pub place : at ≡ classPlace c (factsOf ws)
   pub room : used (factsOf ws) + 3 ≤ length ws
 
--- the strike h of the month m can be put in at `at`: it does not stand, would stand there in a class that is open, whose expiration has strikes
--- where `stands` says so, and words are left for it
+-- the strike h of the month m can be put in at `at`: it does not stand, would stand there in a class that is open and
+-- whose expiration has strikes where `stands` says so, and words are left for it
 pub record Insertable (ws : List ℕ) (at : ℕ) (stands : Bool) (m h ground : ℕ) : Type 0 where
   pub book : T (isBook ws)
   pub month : T (isMonth m)

@@ -132,7 +132,8 @@ pub fn store_marks(run: &mut [u32], at: usize, a: u32, b: u32)
 // A class as it is opened.
 pub fn insert_class(run: &mut [u32], at: usize, c: u32)
     requires { ⌜ Openable (now run) at c ⌝ }
-    ensures { λ _. ⌜ now (run .exit) ≡ layout (length (now (run .entry))) (changed (callO c) (factsOf (now (run .entry)))) ⌝ }
+    ensures { λ _. ⌜ (let f = factsOf (now (run .entry)) in
+        now (run .exit) ≡ layout (length (now (run .entry))) (changed (callO c) f)) ⌝ }
 {
     let figures = ClassRecord::open(c);
     insert3(
@@ -153,7 +154,8 @@ pub fn insert_strike(run: &mut [u32], at: usize, stands: bool, m: u32, h: u32, g
         ≡ layout (length (now (run .entry)))
         (update
         (withSeries
-        (insertSeries (record { month = m; strike = h; ground = ground; put = 0; call = 0 }) (class f (x .class) .series))
+        (insertSeries (record { month = m; strike = h; ground = ground; put = 0; call = 0 })
+        (class f (x .class) .series))
         (class f (x .class)))
         f)) ⌝ }
 {

@@ -1,68 +1,77 @@
--- `edit::insert_strike` meets its contract: the new words are the strike's, after its expiration's where that has no strikes. Assumes nothing.
+-- `edit::insert_strike` meets its contract: the new words are the strike's, after its expiration's where that has no
+-- strikes. Assumes nothing.
 use borrow.Author.Needs.{needs}
 use Prim.Native.Nat.{ℕ}
 use mathlib.Core.Path.{sym, ap, _∙_}
-use mathlib.Core.Bool.{true, false}
-use mathlib.Core.List.{[], _∷_}
+use mathlib.Core.Bool.{Bool}
+use mathlib.Core.List.{[], _∷_, map}
 use native.Mathlib.Omega.{arith}
 use lib.Dec.{leb→le}
+use Rattle.word.specs.Codec.{packed}
+use Rattle.book.specs.Layout.{expirationUnless, strikeWord}
 use Rattle.edit.specs.Insertion.{insertWords}
-use Rattle.edit.proofs.Edits.{newSeries, strike-fits, strike-inserted}
+use Rattle.edit.proofs.Edits.{newSeries, listed-fits, listed-room, strike-inserted}
 use Rattle.edit.proofs.insert_strike.Statement.{statement}
 use Rattle.edit.proofs.insert_strike.Tie as tie
 
 strike-word-requires : tie.Need-strike-word-requires
-strike-word-requires c κs =
-    let p = c .before .before .before .pre in
-    let a = c .before .before .before .args in
-    strike-fits (a .h) (a .ground) (p .1 .1 .0) (p .1 .1 .1 .0)
+strike-word-requires c κs = listed-fits _ _ _ _ _ _ (c .before .before .before .pre)
 
 insert1-requires : tie.Need-insert1-requires
 insert1-requires c κs =
-    let p = c .before .before .before .before .pre in
-    (p .0, (p .1 .1 .1 .1 .0, rw (c .before .before .if1 .taken) at (p .1 .1 .1 .1 .1)))
+    let branch = c .before .before in
+    rw (branch .if1 .taken) at (listed-room _ _ _ _ _ _ (branch .before .before .pre))
 
 same-length : tie.Need-same-length
 same-length c = search needs
 
 returns : tie.Need-returns
-returns c = λ k o new e e′.
-    let p = c .before .before .before .before .before .before .before .pre in
-    let a = c .before .before .before .before .before .before .before .args in
-    c .before .before .insert1 .ensures
-    ∙ ap (λ (w : ℕ). insertWords (a .at) (w ∷ []) (a .run .now)) (c .before .before .before .strike-word .ensures)
-    ∙ strike-inserted (a .run .now) (p .0) (a .at) k (newSeries (a .m) (a .h) (a .ground)) true o new e
-    (sym (c .before .before .before .before .before .if1 .taken) ∙ e′)
+returns c = λ x.
+    let put = c .before .before in
+    let word = put .before in
+    let branch = word .before .before in
+    let a = branch .before .before .args in
+    put .insert1 .ensures
+    ∙ ap (λ (w : ℕ). insertWords (a .at) (w ∷ []) (a .run .now)) (word .strike-word .ensures)
+    ∙ ap
+    (λ (b : Bool).
+    insertWords (a .at)
+    (map packed (expirationUnless b (a .m) (strikeWord (newSeries (a .m) (a .h) (a .ground)) ∷ []))) (a .run .now))
+    (sym (branch .if1 .taken))
+    ∙ strike-inserted _ _ _ _ _ _ x
 
 expiration-word-requires : tie.Need-expiration-word-requires
 expiration-word-requires c κs =
-    let p = c .before .before .before .pre in
-    omega (arith, leb→le (c .before .before .before .args .m) 1023 (p .1 .0))
+    let start = c .before .before .before in
+    omega (arith, leb→le (start .args .m) 1023 (start .pre .month))
 
 strike-word-requires-2 : tie.Need-strike-word-requires-2
-strike-word-requires-2 c κs =
-    let p = c .before .before .before .before .pre in
-    let a = c .before .before .before .before .args in
-    strike-fits (a .h) (a .ground) (p .1 .1 .0) (p .1 .1 .1 .0)
+strike-word-requires-2 c κs = listed-fits _ _ _ _ _ _ (c .before .before .before .before .pre)
 
 insert2-requires : tie.Need-insert2-requires
 insert2-requires c κs =
-    let p = c .before .before .before .before .before .pre in
-    (p .0, (p .1 .1 .1 .1 .0, rw (c .before .before .before .if1 .left) at (p .1 .1 .1 .1 .1)))
+    let branch = c .before .before .before in
+    rw (branch .if1 .left) at (listed-room _ _ _ _ _ _ (branch .before .before .pre))
 
 same-length-2 : tie.Need-same-length-2
 same-length-2 c = search needs
 
 returns-2 : tie.Need-returns-2
-returns-2 c = λ k o new e e′.
-    let p = c .before .before .before .before .before .before .before .before .pre in
-    let a = c .before .before .before .before .before .before .before .before .args in
-    let expiration = c .before .before .before .before .expiration-word .ensures in
-    let strike = c .before .before .before .strike-word2 .ensures in
-    c .before .before .insert2 .ensures
+returns-2 c = λ x.
+    let put = c .before .before in
+    let words = put .before in
+    let branch = words .before .before .before in
+    let a = branch .before .before .args in
+    let expiration = words .before .expiration-word .ensures in
+    let strike = words .strike-word2 .ensures in
+    put .insert2 .ensures
     ∙ (λ i. insertWords (a .at) (expiration i ∷ strike i ∷ []) (a .run .now))
-    ∙ strike-inserted (a .run .now) (p .0) (a .at) k (newSeries (a .m) (a .h) (a .ground)) false o new e
-    (sym (c .before .before .before .before .before .before .if1 .left) ∙ e′)
+    ∙ ap
+    (λ (b : Bool).
+    insertWords (a .at)
+    (map packed (expirationUnless b (a .m) (strikeWord (newSeries (a .m) (a .h) (a .ground)) ∷ []))) (a .run .now))
+    (sym (branch .if1 .left))
+    ∙ strike-inserted _ _ _ _ _ _ x
 
 pub insert-strike-spec : {M : Type 1} → statement M
 insert-strike-spec =
