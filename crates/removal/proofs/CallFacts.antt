@@ -1,4 +1,5 @@
--- Review on the run of a book gives the layout of the changed facts: the words of one class's series are compacted, between words that stay. Assumes nothing.
+-- Review on the run of a book gives the layout of the changed facts: the words of one class's series are compacted,
+-- between words that stay. Assumes nothing.
 use Prim.Native.Nat.{ℕ, suc, _+_, _-_, _≤_}
 use mathlib.Core.Path.{_≡_, refl, ap, _∙_}
 use mathlib.Core.List.{List, [], _∷_, _++_, map}
@@ -7,17 +8,18 @@ use lib.Dec.{T}
 use lib.ListN.{length, replicate, length-append, length-map}
 use Rattle.word.specs.Codec.{Word, Head, packed}
 use Rattle.rule.specs.Lists.{every}
-use Rattle.book.specs.Facts.{Series, Facts, isOpen, withSeries}
-use Rattle.book.specs.Layout.{seriesWords, used, layout, factsOf}
+use Rattle.book.specs.Facts.{Series, Facts, withSeries}
+use Rattle.book.specs.Layout.{used, layout, factsOf}
 use Rattle.book.specs.Books.{isSeries, isBook}
 use Rattle.book.specs.Calls.{callR, class, update, changed, acceptedValue}
-use Rattle.book.specs.Places.{classPlace}
 use Rattle.book.proofs.Tests.{ands}
 use Rattle.book.proofs.Forms.{areSeries}
 use Rattle.book.proofs.ClassWords.{series-good}
 use Rattle.book.proofs.Splices.{Spliced, used-spliced, series-spliced}
 use Rattle.book.proofs.SplicedRuns.{back, zeros, place-is, run-was, run-is}
-use Rattle.place.proofs.Heads.{book-good, book-room}
+use Rattle.place.proofs.Heads.{book-good, book-room, book-long, book-month}
+use Rattle.place.proofs.Found.{class-room}
+use Rattle.removal.specs.Asked.{Removable, Reviewable}
 use Rattle.removal.specs.Compaction.{beginning, compacted, Parted, headed, RemovedFrom}
 use Rattle.removal.proofs.Parts.{zeros-joined}
 use Rattle.removal.proofs.Expirations.{staying, leaving}
@@ -53,7 +55,9 @@ module _
       let Q = R (packed (Head (f .now) (used f))) a b c d P in
       let fewer : length k ≤ length b = rw (← L .words) (Q .fewer) in
       let count : suc (length a + (length k + length c)) ≡ used g = omega (arith, used-spliced s) in
-      let freed = zeros-joined (length b - length k) (length ws - used f) (length ws - used g) (omega (arith, used-spliced s, book-room ws t)) in (
+      let freed =
+      zeros-joined (length b - length k) (length ws - used f) (length ws - used g)
+      (omega (arith, used-spliced s, book-room ws t)) in (
         Q .count ∙ L .count ∙ omega arith,
         Q .words
             ∙ (λ i. headed (f .now) a (L .words i) c (replicate (length b - length (L .words i)) 0 ++ d))
@@ -61,25 +65,39 @@ module _
             ∙ run-is ws t s (used g) refl,
       )
 
-pub reviewed :
-    (close : ℕ) (ws : List ℕ) → T (isBook ws) → (from to : ℕ) (ys : List ℕ) (r : ℕ)
-    → RemovedFrom close (factsOf ws .now) from to (used (factsOf ws)) ws ys r
-    → (c : ℕ) → T (isOpen c (factsOf ws .classes)) → from ≡ classPlace c (factsOf ws) + 3
-    → to ≡ from + length (seriesWords 0 (class (factsOf ws) c .series) [])
-    → close ≡ class (factsOf ws) c .figures .close
-    → (r ≡ acceptedValue (callR c) (factsOf ws)) × (ys ≡ layout (length ws) (changed (callR c) (factsOf ws)))
-unfolding changed acceptedValue
-reviewed close ws book from to ys r R c o first last e =
-    let f = factsOf ws in
-    let x = class f c in
-    let ss = x .series in
-    let good = book-good ws book in
-    let t : T (areSeries (f .now) ss) = series-good (length ws) f c good o in
-    let u : T (every (isSeries (f .now)) ss) = search ands in
-    let p =
-    removed-facts close ws book (series-spliced (length ws) f c good o (staying close ss)) (length (leaving close ss))
-    (compacted-series close (f .now) ss t) from to first last ys r R in (
-      p .0 ∙ ap length (review-removes (f .now) close x e u),
-      p .1
-          ∙ ap (λ (ss : List Series). layout (length ws) (update (withSeries ss x) f)) (review-leaves (f .now) close x e u),
-    )
+module _ (ws : List ℕ) (from to close : ℕ) (x : Reviewable ws from to close) where
+  -- the words of the class's series are a part of those used
+  pub removable :
+      (end month : ℕ) → end ≡ used (factsOf ws) → month ≡ factsOf ws .now → Removable ws from to end month
+  removable end month all now =
+      let within = class-room ws (x .book) (x .number) (x .is-open) in
+      record {
+        after = omega (arith, x .begins);
+        part = omega (arith, x .ends);
+        inside = omega (arith, x .begins, x .ends, within);
+        room = omega (arith, book-room ws (x .book));
+        short = omega (arith, book-room ws (x .book), book-long ws (x .book));
+        current = omega (arith, book-month ws (x .book));
+      }
+
+  pub reviewed :
+      (ys : List ℕ) (r : ℕ) → RemovedFrom close (factsOf ws .now) from to (used (factsOf ws)) ws ys r
+      → (r ≡ acceptedValue (callR (x .number)) (factsOf ws))
+      × (ys ≡ layout (length ws) (changed (callR (x .number)) (factsOf ws)))
+  unfolding changed acceptedValue
+  reviewed ys r R =
+      let f = factsOf ws in
+      let c = x .number in
+      let open-class = class f c in
+      let ss = open-class .series in
+      let good = book-good ws (x .book) in
+      let t : T (areSeries (f .now) ss) = series-good (length ws) f c good (x .is-open) in
+      let u : T (every (isSeries (f .now)) ss) = search ands in
+      let p =
+      removed-facts close ws (x .book) (series-spliced (length ws) f c good (x .is-open) (staying close ss))
+      (length (leaving close ss)) (compacted-series close (f .now) ss t) from to (x .begins) (x .ends) ys r R in (
+        p .0 ∙ ap length (review-removes (f .now) close open-class (x .close) u),
+        p .1
+            ∙ ap (λ (ss : List Series). layout (length ws) (update (withSeries ss open-class) f))
+            (review-leaves (f .now) close open-class (x .close) u),
+      )

@@ -1,23 +1,27 @@
--- Words taken out of the run of a book: those after them move down, and the run is the layout of the facts whose words are left. On the run's parts. Assumes nothing.
-use Prim.Native.Nat.{ℕ, _+_, _-_}
+-- Words taken out of the run of a book: those after them move down, and the run is the layout of the facts whose words
+-- are left. On the run's parts. Assumes nothing.
+use Prim.Native.Nat.{ℕ, _+_, _-_, _≤_, _<_}
 use mathlib.Core.Path.{_≡_, refl, sym, ap, _∙_}
 use mathlib.Core.Bool.{Bool, true, false, cond, not}
 use mathlib.Core.List.{List, [], _∷_, _++_, map, append-assoc}
 use native.Mathlib.Omega.{arith}
-use lib.Dec.{T, eqb}
+use lib.Dec.{T}
 use lib.ListN.{length, set, replicate, length-append, length-map}
 use lib.Seq.{drop-at}
 use borrow.Rule.Slice.PartMut.{midOf, putMid}
-use Rattle.word.specs.Codec.{Word, Head, packed}
-use Rattle.book.specs.Facts.{Facts, isOpen}
+use Rattle.word.specs.declared.codec.Word.{Word}
+use Rattle.word.specs.declared.codec.Word.the-variants.{Head}
+use Rattle.word.specs.Codec.{packed}
+use Rattle.book.specs.Facts.{Facts}
 use Rattle.book.specs.Layout.{strikeWord, expirationUnless, used, layout, factsOf}
-use Rattle.book.specs.Books.{isBook}
-use Rattle.book.specs.Calls.{callX, isStanding, changed}
-use Rattle.book.specs.Places.{strikesPlace, strikesEnd, strikePlace}
+use Rattle.book.specs.Books.{isBook, isWellFormed}
+use Rattle.book.specs.Calls.{callX, changed}
 use Rattle.book.proofs.Splices.{Spliced, used-spliced, place-inside, delisting}
 use Rattle.book.proofs.SplicedRuns.{front, back, zeros, place-is, run-was, run-is}
-use Rattle.place.proofs.Heads.{book-good, book-room}
+use Rattle.book.proofs.Runs.{standing-within}
+use Rattle.place.proofs.Heads.{book-good, book-room, book-long, book-month}
 use Rattle.removal.specs.Runs.{closed}
+use Rattle.removal.specs.Asked.{Delistable}
 use Rattle.removal.proofs.Parts.{zeros-joined, part-is, put-part}
 
 -- ---- k words less from `at` on
@@ -82,24 +86,51 @@ module _
       (append-assoc c freed d ∙ ap (λ (l : List ℕ). c ++ l) past)
       ∙ run-is ws t s (used f - k) (omega (arith, used-spliced s))
 
--- a strike that stands, and its expiration's word where it is alone behind that
-pub delisted :
-    (ws : List ℕ) → T (isBook ws) → (alone : Bool) (from end month head : ℕ) (part : List ℕ)
-    → end ≡ used (factsOf ws) → month ≡ factsOf ws .now
-    → part ≡ closed (cond {A = ℕ} alone 2 1) (midOf from (end - from) ws)
-    → head ≡ packed (Head month (end - cond {A = ℕ} alone 2 1))
-    → (c m h : ℕ) → T (isOpen c (factsOf ws .classes)) → T (isStanding (factsOf ws) c m h)
-    → from ≡ strikePlace c m h (factsOf ws) - cond {A = ℕ} alone 1 0
-    → alone ≡ eqb (strikesEnd c m (factsOf ws)) (strikesPlace c m (factsOf ws) + 1)
-    → set (putMid from (end - from) ws part) 0 head ≡ layout (length ws) (changed (callX c m h) (factsOf ws))
-delisted ws t alone from end month head part all now moved counted c m h o s e e′ =
-    let d = delisting (length ws) (factsOf ws) c (book-good ws t) o m h alone s e′ in
-    let k = cond {A = ℕ} alone 2 1 in
-    (λ i. set (putMid from (end - from) ws (moved i)) 0 (counted i))
-    ∙ (λ i.
-    set (putMid (e i) (all i - e i) ws (closed k (midOf (e i) (all i - e i) ws))) 0 (packed (Head (now i) (all i - k))))
-    ∙ taken-out ws t (d .spliced) k (gone alone (strikeWord (d .it)))
-  where
-    gone : (b : Bool) (w : Word) → length (expirationUnless (not b) m (w ∷ [])) ≡ cond {A = ℕ} b 2 1
-    gone true w = refl
-    gone false w = refl
+-- the numbers that delisting reckons with: `end` of a run's `long` words are used, and the strike's is one of them
+pub record Reckoned (at end month long : ℕ) : Type 0 where
+  pub after : 2 ≤ at
+  pub inside : at < end
+  pub room : end ≤ long
+  pub short : long ≤ 65535
+  pub current : month ≤ 1023
+
+module _
+    (ws : List ℕ) (at : ℕ) (alone : Bool) (x : Delistable ws at alone) (end month : ℕ)
+    (all : end ≡ used (factsOf ws)) (now : month ≡ factsOf ws .now) where
+  abbrev good : T (isWellFormed (length ws) (factsOf ws))
+  good = book-good ws (x .book)
+
+  pub reckoned : Reckoned at end month (length ws)
+  reckoned =
+      let within =
+      standing-within (length ws) (factsOf ws) (x .class) (x .month) (x .strike) good (x .is-open) (x .standing) in
+      record {
+        after = omega (arith, x .place);
+        inside = omega (arith, x .place, within);
+        room = omega (arith, book-room ws (x .book));
+        short = book-long ws (x .book) .1;
+        current = omega (arith, book-month ws (x .book));
+      }
+
+  -- the strike's word taken out, and its expiration's where it is alone behind that
+  pub delisted :
+      (b : Bool) → alone ≡ b → (from head : ℕ) (part : List ℕ) → from ≡ at - cond {A = ℕ} b 1 0
+      → part ≡ closed (cond {A = ℕ} b 2 1) (midOf from (end - from) ws)
+      → head ≡ packed (Head month (end - cond {A = ℕ} b 2 1))
+      → set (putMid from (end - from) ws part) 0 head
+      ≡ layout (length ws) (changed (callX (x .class) (x .month) (x .strike)) (factsOf ws))
+  delisted b is from head part place moved counted =
+      let d =
+      delisting (length ws) (factsOf ws) (x .class) good (x .is-open) (x .month) (x .strike) b (x .standing)
+      (sym is ∙ x .last) in
+      let k = cond {A = ℕ} b 2 1 in
+      let e = place ∙ ap (λ (i : ℕ). i - cond {A = ℕ} b 1 0) (x .place) in
+      (λ i. set (putMid from (end - from) ws (moved i)) 0 (counted i))
+      ∙ (λ i.
+      set (putMid (e i) (all i - e i) ws (closed k (midOf (e i) (all i - e i) ws))) 0
+      (packed (Head (now i) (all i - k))))
+      ∙ taken-out ws (x .book) (d .spliced) k (gone b (strikeWord (d .it)))
+    where
+      gone : (b : Bool) (w : Word) → length (expirationUnless (not b) (x .month) (w ∷ [])) ≡ cond {A = ℕ} b 2 1
+      gone true w = refl
+      gone false w = refl

@@ -1,5 +1,5 @@
--- Inner: what delisting and review ask of the run ws. Assumes nothing.
-use Prim.Native.Nat.{ℕ, _+_}
+-- Inner: what delisting, review and the removal of a part ask of the run ws. Assumes nothing.
+use Prim.Native.Nat.{ℕ, _+_, _≤_}
 use mathlib.Core.Path.{_≡_}
 use mathlib.Core.Bool.{Bool}
 use mathlib.Core.List.{List, []}
@@ -30,3 +30,12 @@ pub record Reviewable (ws : List ℕ) (from to price : ℕ) : Type 0 where
   pub begins : from ≡ classPlace number (factsOf ws) + 3
   pub ends : to ≡ from + length (seriesWords 0 (class (factsOf ws) number .series) [])
   pub close : price ≡ class (factsOf ws) number .figures .close
+
+-- the words from `from` to `to` are a part of the `end` words used, after the head
+pub record Removable (ws : List ℕ) (from to end month : ℕ) : Type 0 where
+  pub after : 1 ≤ from
+  pub part : from ≤ to
+  pub inside : to ≤ end
+  pub room : end ≤ length ws
+  pub short : end ≤ 65535
+  pub current : month ≤ 1023

@@ -1,4 +1,4 @@
--- The compaction by the review at a close, one word after the other, and what it makes of a run: nothing of document 01, but the form in which the code works. Assumes nothing.
+-- Inner: the compaction by the review at a close, word after word, and what it makes of a run. Assumes nothing.
 use Prim.Native.Nat.{ℕ, suc, _+_, _-_, _≤_}
 use mathlib.Core.Path.{_≡_}
 use mathlib.Core.Bool.{Bool, cond, not, _&&_, _||_}

@@ -1,4 +1,4 @@
--- Words moved down over others: nothing of document 01, but the form in which the code works. Assumes nothing.
+-- Inner: words moved down over others. Assumes nothing.
 use Prim.Native.Nat.{ℕ, _+_, _-_}
 use mathlib.Core.Path.{_≡_}
 use mathlib.Core.List.{List, _++_}

@@ -1,4 +1,4 @@
--- The bounds of the marked strikes of an expiration, read from its words: nothing of document 01, but the form in which the code works. Assumes nothing.
+-- Inner: the bounds of the marked strikes of an expiration, read from its words. Assumes nothing.
 use Prim.Native.Nat.{ℕ, _+_, min, max}
 use mathlib.Core.Bool.{Bool, cond, _||_}
 use mathlib.Core.List.{List, [], _∷_}

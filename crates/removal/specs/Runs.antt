@@ -1,4 +1,4 @@
--- Words rewritten in place, a pass over them and a gap that is closed: nothing of document 01, but the form in which the code works. Assumes nothing.
+-- Inner: words rewritten in place, a pass over them and a gap that is closed. Assumes nothing.
 use Prim.Native.Nat.{ℕ, _+_, _-_, _≤_}
 use mathlib.Core.Path.{_≡_}
 use mathlib.Core.List.{List, [], _∷_, _++_}

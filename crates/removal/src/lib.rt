@@ -1,10 +1,9 @@
 // Delisting by the place of the strike, and review by a compaction in place. Expiry has a module of its own.
 ghost use mathlib.Core.Path.{_≡_};
-ghost use Prim.Native.Nat.{_≤_};
 ghost use lib.ListN.{length};
 ghost use Rattle.book.specs.Layout.{layout, factsOf};
 ghost use Rattle.book.specs.Calls.{callX, callR, changed, acceptedValue};
-ghost use Rattle.removal.specs.Asked.{Delistable, Reviewable};
+ghost use Rattle.removal.specs.Asked.{Delistable, Removable, Reviewable};
 ghost use Rattle.removal.specs.Compaction.{RemovedFrom};
 use crate::compaction::compact;
 use crate::gap::close_gap;
@@ -16,9 +15,10 @@ pub mod expiry;
 pub mod gap;
 pub mod marks;
 
-// Compacts the words from `from` to `to` by the review at a close, moves those after them down, up to `end`, and writes the head. Returns how many strikes are removed.
+// Compacts the words from `from` to `to` by the review at a close, moves those after them down, up to `end`, and writes
+// the head. Returns how many strikes are removed.
 fn remove(run: &mut [u32], from: usize, to: usize, end: usize, month: u32, close: u32) -> usize
-    requires { ⌜ (from ≤ to) × ((to ≤ end) × ((1 ≤ end) × ((end ≤ length (now run)) × ((end ≤ 65535) × (month ≤ 1023))))) ⌝ }
+    requires { ⌜ Removable (now run) from to end month ⌝ }
     ensures { λ r. ⌜ RemovedFrom close month from to end (now (run .entry)) (now (run .exit)) r ⌝ }
 {
     let kept = compact(&mut run[from..to], close);
@@ -49,8 +49,8 @@ pub fn delist(run: &mut [u32], at: usize, alone: bool)
     }
 }
 
-// `R`: of the class whose series have the words from `from` to `to`, those go that its review at its close removes. Returns
-// how many.
+// `R`: of the class whose series have the words from `from` to `to`, those go that its review at its close removes.
+// Returns how many.
 pub fn review(run: &mut [u32], from: usize, to: usize, close: u32) -> usize
     requires { ⌜ Reviewable (now run) from to close ⌝ }
     ensures { λ r. ⌜ (let f = factsOf (now (run .entry)) in
