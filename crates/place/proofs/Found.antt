@@ -26,7 +26,7 @@ use Rattle.book.proofs.Expirations.{monthOf, strikeOf, series-words, low, place
 use Rattle.book.proofs.Splits.{every-split}
 use Rattle.book.proofs.ClassWords.{class-good, series-good, class-words, numbers-rise}
 use Rattle.book.proofs.Runs.{bookWords, run-part, run-word}
-use Rattle.place.specs.Search.{firstAt, isOfKind, isNoLower, isUpTo, isFrom, isHolding, Rises, figuresAt}
+use Rattle.place.specs.Search.{firstAt, isNoLower, isUpTo, isFrom, isHolding, Rises, figuresAt}
 use Rattle.place.proofs.Heads.{book-good, book-form, book-is, book-room, book-long}
 use Rattle.place.proofs.Words.{keyIn, first-from, isKeyed, key-said, from-packed, isEnding, up-to-packed}
 use Rattle.place.proofs.Laid.{begins, first-after, kinds-packed, stops-anywhere, ends-there, from-there, two-parts, sought, found, every-series, not-from, strikes-laid, class-kinds, no-class, classes-laid}

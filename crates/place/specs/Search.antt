@@ -47,13 +47,14 @@ isAmid near ws = leb 8 near && ltb (near + 24) (length ws)
 abbrev pub firstAbout : ℕ → ℕ → ℕ → ℕ → List ℕ → ℕ
 firstAbout near kind width key ws = near - 8 + firstAt (isUpTo kind width key) (take 32 (drop (near - 8) ws))
 
--- where a word of the kind holds the key: `near`, or else the first about it; the length where neither does, or `near` is not amid the words
+-- where a word of the kind holds the key: `near`, or else the first about it; the length where neither does, or where
+-- `near` is not amid the words
 abbrev pub foundNear : ℕ → ℕ → ℕ → ℕ → List ℕ → ℕ
 foundNear near kind width key ws =
     cond {A = ℕ} (not (isAmid near ws)) (length ws)
     (cond {A = ℕ} (isHolding kind width key (getD ws near 0)) near
-    (cond {A = ℕ} (isHolding kind width key (getD ws (firstAbout near kind width key ws) 0)) (firstAbout near kind width key ws)
-    (length ws)))
+    (cond {A = ℕ} (isHolding kind width key (getD ws (firstAbout near kind width key ws) 0))
+    (firstAbout near kind width key ws) (length ws)))
 
 -- words of the kind that hold less than the key stand before the first that holds at least the key, and one that holds the key is that first
 pub record Rises (kind width key : ℕ) (ws : List ℕ) : Type 0 where

@@ -12,14 +12,14 @@ use Rattle.word.specs.declared.answer.Refusal.the-variants.{BeyondLimits, NotOp
 use Rattle.word.specs.Field.{field}
 use Rattle.word.specs.Limits.{isStrike, isMonth, isClassNumber, isMark}
 use Rattle.book.specs.Facts.{isOpen}
-use Rattle.book.specs.Layout.{used, layout, factsOf}
+use Rattle.book.specs.Layout.{layout, factsOf}
 use Rattle.book.specs.Books.{isBook}
 use Rattle.book.specs.Calls.{callJ, callX, callI, Call, isWritten, isNotOpen, isStanding, hasOpenInterest, changed, conditions, numberOf, listed, acceptedValue}
 use Rattle.book.specs.Places.{strikesPlace, strikesEnd, strikePlace}
 use Rattle.book.specs.Made.{Made}
 use Rattle.book.proofs.Tests.{true-T, T-true}
 use Rattle.book.proofs.Layouts.{book-facts}
-use Rattle.book.proofs.Runs.{strikes-within, strike-stands, interest-says, used-within}
+use Rattle.book.proofs.Runs.{strike-stands, standing-within, interest-says, used-within}
 use Rattle.book.proofs.Answered.{made-refused, made-accepted}
 use Rattle.place.specs.declared.lookup.StrikeSearch.{StrikeSearch}
 use Rattle.place.specs.Lookups.{strikeSearchOf}
@@ -48,11 +48,15 @@ module _
         let x = strike-stands (length w) (factsOf w) c m h (book-facts w book .0) o strike-standing in
         omega (arith, x .1 .within, found-place)
 
-    pub place-used : (2 ≤ r .at) × (r .at < used (factsOf w))
-    place-used = omega (arith, place-inside, strikes-within (length w) (factsOf w) c m (book-facts w book .0) o)
-
-    pub place-within : r .at < length w
-    place-within = omega (arith, place-used, used-within (length w) (factsOf w) (book-facts w book .0))
+    pub place-within : (1 ≤ r .at) × (r .at < length w)
+    place-within =
+        let good = book-facts w book .0 in
+        omega (
+          arith,
+          found-place,
+          standing-within (length w) (factsOf w) c m h good o strike-standing,
+          used-within (length w) (factsOf w) good,
+        )
 
     pub found-alone :
         (not (isStrikeAt w (r .at - 1)) && not (isStrikeAt w (r .at + 1)))

@@ -3,16 +3,12 @@
 ghost use mathlib.Core.Bool.{_&&_};
 ghost use mathlib.Core.List.{[]};
 ghost use mathlib.Core.Path.{_≡_};
-ghost use Prim.Native.Nat.{ℕ};
 ghost use lib.Dec.{T, ltb};
 ghost use lib.ListN.{getD, length};
-ghost use Rattle.place.specs.Lookups.{strikeSearchOf};
 ghost use Rattle.place.specs.Search.{isOfKind};
 ghost use Rattle.book.specs.Books.{isBook};
 ghost use Rattle.book.specs.Calls.{callA, callI, callJ, callL, callX, isWritten};
-ghost use Rattle.book.specs.Facts.{isOpen};
 ghost use Rattle.book.specs.Layout.{factsOf, used};
-ghost use Rattle.book.specs.Places.{classPlace};
 ghost use Rattle.book.specs.Made.{Made};
 ghost use Rattle.strike_call.specs.Judging.{Sought, foundAnswer};
 use edit::insert_strike;
@@ -56,8 +52,9 @@ fn is_strike_at(run: &[u32], at: usize) -> bool
     kind(run[at]) == 6
 }
 
-// What the conditions before the rules and then the rules say of a strike that was looked up: 5, 6, 8, 11, 12, 13 or its ground. Of the standing strikes of its expiration only the next one
-// below it and the next one above it bear on it.
+// What the conditions before the rules and then the rules say of a strike that was looked up: 5, 6, 8, 11, 12, 13 or
+// its ground. Of the standing strikes of its expiration only the next one below it and the next one above it bear on
+// it.
 fn judge_found(run: &[u32], class: usize, found: StrikeSearch, m: u32, h: u32) -> Answer
     requires { ⌜ Sought (now run) class found m h ⌝ }
     ensures { λ r. ⌜ ((x : Sought (now (run .entry)) class found m h)

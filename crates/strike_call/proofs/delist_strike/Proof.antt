@@ -1,32 +1,108 @@
--- `delist_strike` is the call `X`: the limits, the class, the lookup and the marks of the strike's word refuse as the model does, else the strike goes. Assumes nothing.
+-- `delist_strike` is the call `X`: the limits, the class, the lookup and the marks of the strike's word refuse as the
+-- model does, else the strike goes. Assumes nothing.
+use Prim.Native.Nat.{_<_, _≤_}
 use mathlib.Core.Path.{_≡_, sym, ap, _∙_}
 use mathlib.Core.Bool.{false, not, _&&_}
 use native.Mathlib.Omega.{arith}
-use lib.Dec.{T}
+use lib.ListN.{length}
 use borrow.Author.Needs.{needs}
 use Rattle.book.specs.Facts.{isOpen}
 use Rattle.book.specs.Layout.{factsOf}
 use Rattle.book.specs.Calls.{callX, isWritten}
+use Rattle.book.specs.Places.{ClassBegins}
 use Rattle.book.proofs.Tests.{ands}
 use Rattle.place.specs.Lookups.{strikeSearchOf}
-use Rattle.place.proofs.Found.{class-room}
-use Rattle.place.proofs.Heads.{book-room, book-long}
-use Rattle.strike_call.proofs.Standing.{passed, found-place, found-alone, strike-standing, place-used, place-within, beyond, not-open, not-standing, delist-number, delist-marked, delist-done}
+use Rattle.place.proofs.Heads.{book-long}
+use Rattle.removal.specs.Asked.{Delistable}
+use Rattle.strike_call.proofs.Standing.{passed, found-place, found-alone, strike-standing, place-within, beyond, not-open, not-standing, delist-number, delist-marked, delist-done}
 use Rattle.strike_call.proofs.delist_strike.Statement.{statement}
 use Rattle.strike_call.proofs.delist_strike.Tie as tie
 
-limits : (c : tie.Else1) → let a = c .before .before .before .args in not (isWritten (callX (a .c) (a .m) (a .h))) ≡ false
+-- ---- the places of the proof
+
+abbrev start : tie.Else1 → tie.Start
+start c = c .before .before .before
+
+abbrev class : tie.Else2 → tie.After-class-at
+class c = c .before .before .before
+
+abbrev within : tie.Else2 → tie.Else1
+within c = class c .before .before
+
+abbrev opened : tie.After-look-up-strike → tie.Else2
+opened c = c .before .before
+
+abbrev called : tie.After-look-up-strike → tie.Start
+called c = start (within (opened c))
+
+abbrev found : tie.Else3 → tie.After-look-up-strike
+found c = c .before .before
+
+abbrev stands : tie.Else4 → tie.Else3
+stands c = c .before .before .before
+
+abbrev below : tie.After-is-strike-at2 → tie.After-is-strike-at
+below c = c .before .before
+
+abbrev unmarked : tie.After-is-strike-at → tie.Else4
+unmarked c = c .before .before
+
+-- ---- what is known there
+
+limits : (c : tie.Else1) → let a = start c .args in not (isWritten (callX (a .c) (a .m) (a .h))) ≡ false
 limits c = ap not (sym (c .before .is-written .ensures)) ∙ c .if1 .left
 
-opened : (c : tie.Else2) → let a = c .before .before .before .before .before .before .before .before .args in T (isOpen (a .c) (factsOf (a .run .now) .classes))
-opened c =
-    let a = c .before .before .before .before .before .before .before .before .args in
-    passed (isOpen (a .c) (factsOf (a .run .now) .classes)) (ap not (sym (c .before .is-open-at .ensures)) ∙ c .if2 .left)
+abbrev begins : (c : tie.Else2) → ClassBegins (factsOf (start (within c) .args .run .now)) (class c .class-at .result)
+begins c =
+    let a = start (within c) .args in
+    record {
+      number = a .c;
+      is-open = passed (isOpen (a .c) (factsOf (a .run .now) .classes))
+          (ap not (sym (c .before .is-open-at .ensures)) ∙ c .if2 .left);
+      place = class c .class-at .ensures;
+    }
 
-found :
-    (c : tie.After-look-up-strike) → let a = c .before .before .before .before .before .before .before .before .before .before .args in
+searched :
+    (c : tie.After-look-up-strike)
+    → let a = called c .args in
     c .look-up-strike .result ≡ strikeSearchOf (a .c) (a .m) (a .h) (factsOf (a .run .now))
-found c = c .look-up-strike .ensures (c .before .before .before .before .before .before .before .before .before .before .args .c) (opened (c .before .before)) (c .before .before .before .before .before .class-at .ensures)
+searched c = c .look-up-strike .ensures (begins (opened c))
+
+place-inside :
+    (c : tie.Else3)
+    → let at = found c .look-up-strike .result .at in
+    (1 ≤ at) × (at < length (called (found c) .args .run .now))
+place-inside c =
+    let l = found c in
+    let s = called l in
+    let a = s .args in
+    place-within (a .run .now) (s .pre) (a .c) (a .m) (a .h) (begins (opened l) .is-open) _ (searched l) (c .if3 .left)
+
+abbrev delistable :
+    (c : tie.After-is-strike-at2)
+    → let l = found (stands (unmarked (below c))) in
+    Delistable (called l .args .run .now) (l .look-up-strike .result .at)
+    (not (below c .is-strike-at .result) && not (c .is-strike-at2 .result))
+delistable c =
+    let t = stands (unmarked (below c)) in
+    let l = found t in
+    let s = called l in
+    let a = s .args in
+    let w = a .run .now in
+    let o = begins (opened l) .is-open in
+    record {
+      book = s .pre;
+      class = a .c;
+      month = a .m;
+      strike = a .h;
+      is-open = o;
+      standing = strike-standing w (s .pre) (a .c) (a .m) (a .h) o _ (searched l) (t .if3 .left);
+      place = found-place w (s .pre) (a .c) (a .m) (a .h) o _ (searched l);
+      last = (λ j. not (below c .is-strike-at .ensures j) && not (c .is-strike-at2 .ensures j))
+          ∙ found-alone w (s .pre) (a .c) (a .m) (a .h) o _ (searched l) (t .if3 .left);
+    }
+
+-- ---- what is to be shown there
 
 is-written-requires : tie.Need-is-written-requires
 is-written-requires c κs = search needs
@@ -41,31 +117,36 @@ returns c =
 
 class-at-requires : tie.Need-class-at-requires
 class-at-requires c κs =
-    let s = c .before .before .before .before in
+    let s = start (c .before) in
     let a = s .args in
     let written = passed (isWritten (callX (a .c) (a .m) (a .h))) (limits (c .before)) in
     (s .pre, search ands)
 
 is-open-at-requires : tie.Need-is-open-at-requires
-is-open-at-requires c κs = (c .before .before .before .before .before .before .pre, c .before .class-at .ensures)
+is-open-at-requires c κs =
+    let asked = c .before in
+    (start (asked .before .before) .pre, asked .class-at .ensures)
 
 same-length : tie.Need-same-length
 same-length c = search needs
 
 returns-2 : tie.Need-returns-2
 returns-2 c =
-    let s = c .before .before .before .before .before .before .before .before in
+    let asked = c .before .before .before in
+    let l = asked .before .before in
+    let s = start l in
     let a = s .args in
     not-open (a .run .now) (s .pre) (a .c) (a .m) (a .h) (callX (a .c) (a .m) (a .h)) _
-    (delist-number (a .run .now) (s .pre) (a .c) (a .m) (a .h)) (limits (c .before .before .before .before .before))
+    (delist-number (a .run .now) (s .pre) (a .c) (a .m) (a .h)) (limits l)
     (ap not (sym (c .before .is-open-at .ensures)) ∙ c .if2 .taken)
 
 look-up-strike-requires : tie.Need-look-up-strike-requires
 look-up-strike-requires c κs =
-    let s = c .before .before .before .before .before .before .before .before .before in
+    let o = c .before in
+    let s = start (within o) in
     let a = s .args in
-    let written = passed (isWritten (callX (a .c) (a .m) (a .h))) (limits (c .before .before .before .before .before .before)) in
-    (s .pre, (search ands, omega (arith, class-room (a .run .now) (s .pre) (a .c) (opened (c .before)), c .before .before .before .before .class-at .ensures)))
+    let written = passed (isWritten (callX (a .c) (a .m) (a .h))) (limits (within o)) in
+    (record { book = s .pre; month = search ands; begins = begins o }, search ands)
 
 same-length-2 : tie.Need-same-length-2
 same-length-2 c = search needs
@@ -73,25 +154,19 @@ same-length-2 c = search needs
 returns-3 : tie.Need-returns-3
 returns-3 c =
     let l = c .before .before in
-    let s = l .before .before .before .before .before .before .before .before .before .before in
+    let s = called l in
     let a = s .args in
     not-standing (a .run .now) (s .pre) (a .c) (a .m) (a .h) (callX (a .c) (a .m) (a .h)) _
-    (delist-number (a .run .now) (s .pre) (a .c) (a .m) (a .h)) (limits (l .before .before .before .before .before .before .before)) (opened (l .before .before)) _ (found l) (c .if3 .taken)
+    (delist-number (a .run .now) (s .pre) (a .c) (a .m) (a .h)) (limits (within (opened l)))
+    (begins (opened l) .is-open) _ (searched l) (c .if3 .taken)
 
 mul-field-of : tie.Need-mul-field-of
 mul-field-of c =
-    let l = c .before .before in
-    let s = l .before .before .before .before .before .before .before .before .before .before in
-    let a = s .args in
-    let w = a .run .now in
-    omega (arith, place-within w (s .pre) (a .c) (a .m) (a .h) (opened (l .before .before)) _ (found l) (c .if3 .left), book-long w (s .pre))
+    let s = called (found c) in
+    omega (arith, place-inside c, book-long (s .args .run .now) (s .pre))
 
 slice-read-field-of : tie.Need-slice-read-field-of
-slice-read-field-of c =
-    let l = c .before .before .before in
-    let s = l .before .before .before .before .before .before .before .before .before .before in
-    let a = s .args in
-    place-within (a .run .now) (s .pre) (a .c) (a .m) (a .h) (opened (l .before .before)) _ (found l) (c .before .if3 .left)
+slice-read-field-of c = place-inside (c .before) .1
 
 field-of-requires : tie.Need-field-of-requires
 field-of-requires c κs = search needs
@@ -103,47 +178,29 @@ returns-4 : tie.Need-returns-4
 returns-4 c =
     let i = c .before in
     let t = i .before .before in
-    let l = t .before .before in
-    let s = l .before .before .before .before .before .before .before .before .before .before in
+    let l = found t in
+    let s = called l in
     let a = s .args in
-    delist-marked (a .run .now) (s .pre) (a .c) (a .m) (a .h) (opened (l .before .before)) _ (found l) (t .if3 .left) (limits (l .before .before .before .before .before .before .before))
-    (λ z. c .if4 .taken (i .field-of .ensures ∙ z))
+    delist-marked (a .run .now) (s .pre) (a .c) (a .m) (a .h) (begins (opened l) .is-open) _ (searched l) (t .if3 .left)
+    (limits (within (opened l))) (λ z. c .if4 .taken (i .field-of .ensures ∙ z))
 
 sub-is-strike-at : tie.Need-sub-is-strike-at
-sub-is-strike-at c =
-    let t = c .before .before .before .before in
-    let l = t .before .before in
-    let s = l .before .before .before .before .before .before .before .before .before .before in
-    let a = s .args in
-    omega (arith, place-used (a .run .now) (s .pre) (a .c) (a .m) (a .h) (opened (l .before .before)) _ (found l) (t .if3 .left))
+sub-is-strike-at c = place-inside (stands (c .before)) .0
 
 is-strike-at-requires : tie.Need-is-strike-at-requires
-is-strike-at-requires c κs = c .before .before .before .before .before .before .before .before .before .before .before .before .before .before .before .before .pre
+is-strike-at-requires c κs = called (found (stands (c .before))) .pre
 
 add-is-strike-at : tie.Need-add-is-strike-at
 add-is-strike-at c =
-    let t = c .before .before .before .before .before .before in
-    let l = t .before .before in
-    let s = l .before .before .before .before .before .before .before .before .before .before in
-    let a = s .args in
-    let w = a .run .now in
-    omega (
-      arith,
-      place-used w (s .pre) (a .c) (a .m) (a .h) (opened (l .before .before)) _ (found l) (t .if3 .left),
-      book-room w (s .pre),
-      book-long w (s .pre),
-    )
+    let t = stands (unmarked (c .before)) in
+    let s = called (found t) in
+    omega (arith, place-inside t, book-long (s .args .run .now) (s .pre))
 
 is-strike-at-requires-2 : tie.Need-is-strike-at-requires-2
-is-strike-at-requires-2 c κs = c .before .before .before .before .before .before .before .before .before .before .before .before .before .before .before .before .before .before .pre
+is-strike-at-requires-2 c κs = called (found (stands (unmarked (c .before)))) .pre
 
 delist-requires : tie.Need-delist-requires
-delist-requires c κs =
-    let t = c .before .before .before .before .before .before .before .before in
-    let l = t .before .before in
-    let s = l .before .before .before .before .before .before .before .before .before .before in
-    let a = s .args in
-    (s .pre, place-used (a .run .now) (s .pre) (a .c) (a .m) (a .h) (opened (l .before .before)) _ (found l) (t .if3 .left))
+delist-requires c κs = delistable (c .before)
 
 same-length-4 : tie.Need-same-length-4
 same-length-4 c = search needs
@@ -152,20 +209,14 @@ returns-5 : tie.Need-returns-5
 returns-5 c =
     let d = c .before .before in
     let n = d .before .before in
-    let p = n .before .before in
-    let u = p .before .before in
-    let i = u .before in
-    let t = i .before .before in
-    let l = t .before .before in
-    let s = l .before .before .before .before .before .before .before .before .before .before in
+    let u = unmarked (below n) in
+    let t = stands u in
+    let l = found t in
+    let s = called l in
     let a = s .args in
-    let w = a .run .now in
-    let o = opened (l .before .before) in
-    delist-done w (s .pre) (a .c) (a .m) (a .h) o _ (found l) (t .if3 .left) (limits (l .before .before .before .before .before .before .before)) (sym (i .field-of .ensures) ∙ u .if4 .left) _
-    (d .delist .ensures (a .c) (a .m) (a .h) o (strike-standing w (s .pre) (a .c) (a .m) (a .h) o _ (found l) (t .if3 .left))
-    (found-place w (s .pre) (a .c) (a .m) (a .h) o _ (found l))
-    ((λ j. not (p .is-strike-at .ensures j) && not (n .is-strike-at2 .ensures j))
-    ∙ found-alone w (s .pre) (a .c) (a .m) (a .h) o _ (found l) (t .if3 .left)))
+    delist-done (a .run .now) (s .pre) (a .c) (a .m) (a .h) (begins (opened l) .is-open) _ (searched l) (t .if3 .left)
+    (limits (within (opened l))) (sym (u .before .field-of .ensures) ∙ u .if4 .left) _
+    (d .delist .ensures (delistable n))
 
 pub delist-strike-spec : {M : Type 1} → statement M
 delist-strike-spec =

@@ -1,4 +1,5 @@
--- `judge_found` meets its contract: each test is the condition of the facts in its turn, and the rules judge beside the words next to the strike's place that are strikes. Assumes nothing.
+-- `judge_found` meets its contract: each test is the condition of the facts in its turn, and the rules judge beside the
+-- words next to the strike's place that are strikes. Assumes nothing.
 use Prim.Native.Nat.{ℕ, _+_, _-_, _≤_}
 use mathlib.Core.Path.{_≡_, sym, ap, ap₂, _∙_}
 use mathlib.Core.Bool.{Bool, cond, _&&_}
@@ -8,12 +9,28 @@ use lib.ListN.{length}
 use borrow.Author.Needs.{needs}
 use Rattle.place.proofs.Heads.{book-month, book-room, book-long}
 use Rattle.strike_call.proofs.Beside.{isStrikeAt, beside-within}
-use Rattle.strike_call.proofs.Judgements.{found-outside, found-standing, found-no-close, found-judged}
+use Rattle.strike_call.proofs.Judgements.{class-words, class-close, place-among, strike-most, found-outside, found-standing, found-no-close, found-judged}
 use Rattle.strike_call.proofs.judge_found.Statement.{statement}
 use Rattle.strike_call.proofs.judge_found.Tie as tie
 
+-- ---- the places of the proof
+
+abbrev start : tie.After-is-outside → tie.Start
+start c = c .before .before .before .before
+
+abbrev tested : tie.Else3 → tie.After-is-outside
+tested c = c .before .before .before .before
+
+abbrev begun : tie.Joined4-2 → tie.Start
+begun c = start (tested (c .before))
+
+abbrev ended : tie.Joined6 → tie.Start
+ended c = begun (c .before .before)
+
+-- ---- what is to be shown there
+
 figures-at-requires : tie.Need-figures-at-requires
-figures-at-requires c κs = c .before .pre .room
+figures-at-requires c κs = class-words (c .before .pre)
 
 current-requires : tie.Need-current-requires
 current-requires c κs = search needs
@@ -25,47 +42,45 @@ is-outside-requires c κs =
 
 returns : tie.Need-returns
 returns c =
-    λ k o p e.
     let q = c .before in
-    let s = q .before .before .before .before in
-    let a = s .args in
-    found-outside (a .run .now) (s .pre .book) k (a .m) (a .h) o (a .class) p (a .found) e _ (q .before .before .figures-at .ensures) _
-    (q .before .current .ensures) (sym (q .is-outside .ensures) ∙ c .if1 .taken)
+    λ x.
+    found-outside x _ (q .before .before .figures-at .ensures) _ (q .before .current .ensures)
+    (sym (q .is-outside .ensures) ∙ c .if1 .taken)
 
 returns-2 : tie.Need-returns-2
 returns-2 c =
-    λ k o p e.
     let q = c .before .before in
-    let s = q .before .before .before .before in
-    let a = s .args in
-    found-standing (a .run .now) (s .pre .book) k (a .m) (a .h) o (a .class) p (a .found) e _ (q .before .before .figures-at .ensures) _
-    (q .before .current .ensures) (sym (q .is-outside .ensures) ∙ c .before .if1 .left) (c .if2 .taken)
+    λ x.
+    found-standing x _ (q .before .before .figures-at .ensures) _ (q .before .current .ensures)
+    (sym (q .is-outside .ensures) ∙ c .before .if1 .left) (c .if2 .taken)
 
 returns-3 : tie.Need-returns-3
 returns-3 c =
-    λ k o p e.
     let t = c .before .before in
     let q = t .before .before in
-    let s = q .before .before .before .before in
-    let a = s .args in
-    found-no-close (a .run .now) (s .pre .book) k (a .m) (a .h) o (a .class) p (a .found) e _ (q .before .before .figures-at .ensures) _
-    (q .before .current .ensures) (sym (q .is-outside .ensures) ∙ t .before .if1 .left) (t .if2 .left) (c .if3 .taken)
+    λ x.
+    found-no-close x _ (q .before .before .figures-at .ensures) _ (q .before .current .ensures)
+    (sym (q .is-outside .ensures) ∙ t .before .if1 .left) (t .if2 .left) (c .if3 .taken)
 
 sub-is-strike-at : tie.Need-sub-is-strike-at
-sub-is-strike-at c = c .before .before .before .before .before .before .before .before .before .pre .start
+sub-is-strike-at c = place-among (start (tested (c .before)) .pre) .0
 
 is-strike-at-requires : tie.Need-is-strike-at-requires
-is-strike-at-requires c κs = c .before .before .before .before .before .before .before .before .before .pre .book
+is-strike-at-requires c κs = start (tested (c .before)) .pre .book
 
 sub-from : tie.Need-sub-from
-sub-from c = c .before .before .before .before .before .before .before .before .before .before .before .pre .start
+sub-from c =
+    let told = c .before .before in
+    place-among (start (tested (told .before)) .pre) .0
 
 -- the part that is lent begins with the word before the place, where that is a strike of the expiration
 begins :
-    (c : tie.Joined4-2) → let a = c .before .before .before .before .before .before .before .before .before .args in
-    c .if4 .from ≡ cond {A = ℕ} (a .found .expiration && isStrikeAt (a .run .now) (a .found .at - 1)) (a .found .at - 1) (a .found .at)
+    (c : tie.Joined4-2)
+    → let a = begun c .args in
+    let r = a .found in
+    c .if4 .from ≡ cond {A = ℕ} (r .expiration && isStrikeAt (a .run .now) (r .at - 1)) (r .at - 1) (r .at)
 begins c =
-    let a = c .before .before .before .before .before .before .before .before .before .args in
+    let a = begun c .args in
     let chosen : Bool → ℕ = λ b. cond {A = ℕ} b (a .found .at - 1) (a .found .at) in
     ⊎-elim
     (λ x. x .3 ∙ sym (ap chosen (ap₂ _&&_ (x .0 .taken) (sym (x .1 .ensures) ∙ x .2 .taken))))
@@ -77,34 +92,37 @@ begins c =
 
 -- .. and ends with the word there, where that is a strike
 ends :
-    (c : tie.Joined6) → let a = c .before .before .before .before .before .before .before .before .before .before .before .args in
+    (c : tie.Joined6)
+    → let a = ended c .args in
     c .if6 .to ≡ cond {A = ℕ} (isStrikeAt (a .run .now) (a .found .at)) (a .found .at + 1) (a .found .at)
 ends c =
-    let a = c .before .before .before .before .before .before .before .before .before .before .before .args in
+    let a = ended c .args in
     let chosen : Bool → ℕ = λ b. cond {A = ℕ} b (a .found .at + 1) (a .found .at) in
     ⊎-elim (λ x. x .1 ∙ sym (ap chosen (sym (c .before .is-strike-at2 .ensures) ∙ x .0 .taken)))
     (λ x. x .1 ∙ sym (ap chosen (sym (c .before .is-strike-at2 .ensures) ∙ x .0 .left))) (c .if6 .came)
 
-part : (c : tie.Joined6) → (c .before .before .if4 .from ≤ c .if6 .to) × (c .if6 .to ≤ length (c .before .before .before .before .before .before .before .before .before .before .before .args .run .now))
+part : (c : tie.Joined6) → (c .before .before .if4 .from ≤ c .if6 .to) × (c .if6 .to ≤ length (ended c .args .run .now))
 part c =
-    let s = c .before .before .before .before .before .before .before .before .before .before .before in
+    let s = ended c in
     let w = s .args .run .now in
     let r = s .args .found in
-    let p = beside-within w (r .at) _ _ (r .expiration && isStrikeAt w (r .at - 1)) (begins (c .before .before)) (ends c) (s .pre .within) in
+    let p =
+    beside-within w (r .at) _ _ (r .expiration && isStrikeAt w (r .at - 1)) (begins (c .before .before)) (ends c)
+    (place-among (s .pre) .1) in
     (p .0, omega (arith, p .1, book-room w (s .pre .book)))
 
 is-strike-at-requires-2 : tie.Need-is-strike-at-requires-2
-is-strike-at-requires-2 c κs = c .before .before .before .before .before .before .before .before .before .pre .book
+is-strike-at-requires-2 c κs = begun c .pre .book
 
 add-to : tie.Need-add-to
 add-to c =
-    let s = c .before .before .before .before .before .before .before .before .before .before .before in
+    let s = begun (c .before .before) in
     let w = s .args .run .now in
-    omega (arith, s .pre .within, book-room w (s .pre .book), book-long w (s .pre .book))
+    omega (arith, place-among (s .pre), book-room w (s .pre .book), book-long w (s .pre .book))
 
 mul-judge : tie.Need-mul-judge
 mul-judge c =
-    let s = c .before .before .before .before .before .before .before .before .before .before .before .before in
+    let s = ended (c .before) in
     omega (arith, part (c .before), book-long (s .args .run .now) (s .pre .book))
 
 sub-judge : tie.Need-sub-judge
@@ -118,26 +136,25 @@ part-judge-end c = let p = part (c .before .before) in search needs
 
 judge-requires : tie.Need-judge-requires
 judge-requires c κs =
-    let q = c .before .before .before .before .before .before .before .before .before .before in
-    let s = q .before .before .before .before in
+    let j = c .before .before .before in
+    let q = tested (j .before .before .before) in
+    let s = start q in
     record {
-      close = rw (q .before .before .figures-at .ensures) (s .pre .close);
+      close = rw (q .before .before .figures-at .ensures) (class-close (s .pre));
       current = omega (arith, book-month (s .args .run .now) (s .pre .book), q .before .current .ensures);
-      strike = s .pre .strike;
+      strike = strike-most (s .pre);
     }
 
 returns-4 : tie.Need-returns-4
 returns-4 c =
-    λ k o p e.
     let j = c .before .before .before .before in
     let u = j .before .before .before in
     let t = u .before .before in
     let q = t .before .before in
-    let s = q .before .before .before .before in
-    let a = s .args in
-    found-judged (a .run .now) (s .pre .book) k (a .m) (a .h) o (a .class) p (a .found) e _ (q .before .before .figures-at .ensures) _
-    (q .before .current .ensures) (sym (q .is-outside .ensures) ∙ t .before .if1 .left) (t .if2 .left) (u .if3 .left) _ _
-    (begins (j .before .before)) (ends j) _ (c .judge .ensures)
+    λ x.
+    found-judged x _ (q .before .before .figures-at .ensures) _ (q .before .current .ensures)
+    (sym (q .is-outside .ensures) ∙ t .before .if1 .left) (t .if2 .left) (u .if3 .left) _ _ (begins (j .before .before))
+    (ends j) _ (c .judge .ensures)
 
 pub judge-found-spec : {M : Type 1} → statement M
 judge-found-spec =

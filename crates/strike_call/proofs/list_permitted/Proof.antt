@@ -1,43 +1,83 @@
--- `list_permitted` is the call `A`: each test is the condition of the facts in its turn, and the strikes are listed beside the words of the expiration's strikes. Assumes nothing.
+-- `list_permitted` is the call `A`: each test is the condition of the facts in its turn, and the strikes are listed
+-- beside the words of the expiration's strikes. Assumes nothing.
 use Prim.Native.Nat.{_≤_}
 use mathlib.Core.Path.{_≡_, sym, ap, ap₂, _∙_}
 use mathlib.Core.Bool.{Bool, false, not, _&&_}
 use native.Mathlib.Omega.{arith}
-use lib.Dec.{T}
 use lib.ListN.{length}
 use borrow.Author.Needs.{needs}
 use Rattle.word.specs.Limits.{isMonth, isClassNumber}
 use Rattle.book.specs.Facts.{isOpen}
 use Rattle.book.specs.Layout.{factsOf}
+use Rattle.book.specs.Places.{ClassBegins}
 use Rattle.book.proofs.Tests.{ands}
 use Rattle.place.specs.Lookups.{expirationOf}
-use Rattle.place.proofs.Found.{class-room}
+use Rattle.place.proofs.Found.{begins-room}
 use Rattle.place.proofs.Heads.{book-long, book-month, book-room}
 use Rattle.strike_call.proofs.Standing.{passed}
 use Rattle.strike_call.proofs.Permitting.{part-within, permitting-beyond, permitting-not-open, permitting-outside, permitting-no-close, permitting-listable, permitting-filled}
 use Rattle.strike_call.proofs.list_permitted.Statement.{statement}
 use Rattle.strike_call.proofs.list_permitted.Tie as tie
 
+-- ---- the places of the proof
+
+abbrev start : tie.After-is-month → tie.Start
+start c = c .before .before .before .before
+
+abbrev class : tie.Else2 → tie.After-class-at
+class c = c .before .before
+
+abbrev within : tie.Else2 → tie.Else1
+within c = class c .before
+
+abbrev called : tie.Else2 → tie.Start
+called c = start (within c .before)
+
+abbrev opened : tie.Else3 → tie.Else2
+opened c = c .before .before .before .before
+
+abbrev inside : tie.After-look-up-expiration → tie.Else3
+inside c = c .before .before .before
+
+-- ---- what is known there
+
 -- the limits, as the code joins them
 joined :
-    (c : tie.After-is-month) → let a = c .before .before .before .before .args in
+    (c : tie.After-is-month)
+    → let a = start c .args in
     not (isClassNumber (a .c) && isMonth (a .m)) ≡ not (c .before .is-class-number .result && c .is-month .result)
 joined c = ap₂ (λ (x y : Bool). not (x && y)) (sym (c .before .is-class-number .ensures)) (sym (c .is-month .ensures))
 
-limits : (c : tie.Else1) → let a = c .before .before .before .before .before .args in not (isClassNumber (a .c) && isMonth (a .m)) ≡ false
+limits : (c : tie.Else1) → let a = start (c .before) .args in not (isClassNumber (a .c) && isMonth (a .m)) ≡ false
 limits c = joined (c .before) ∙ c .if1 .left
 
-opened : (c : tie.Else2) → let a = c .before .before .before .before .before .before .before .before .args in T (isOpen (a .c) (factsOf (a .run .now) .classes))
-opened c =
-    let a = c .before .before .before .before .before .before .before .before .args in
-    passed (isOpen (a .c) (factsOf (a .run .now) .classes)) (ap not (sym (c .before .is-open-at .ensures)) ∙ c .if2 .left)
+abbrev begins : (c : tie.Else2) → ClassBegins (factsOf (called c .args .run .now)) (class c .class-at .result)
+begins c =
+    let a = called c .args in
+    record {
+      number = a .c;
+      is-open = passed (isOpen (a .c) (factsOf (a .run .now) .classes))
+          (ap not (sym (c .before .is-open-at .ensures)) ∙ c .if2 .left);
+      place = class c .class-at .ensures;
+    }
 
 found :
-    (c : tie.After-look-up-expiration) → let a = c .before .before .before .before .before .before .before .before .before .before .before .before .before .before .before .args in
+    (c : tie.After-look-up-expiration)
+    → let a = called (opened (inside c)) .args in
     c .look-up-expiration .result ≡ expirationOf (a .c) (a .m) (factsOf (a .run .now))
-found c =
-    let e = c .before .before .before .before .before .before .before in
-    c .look-up-expiration .ensures (c .before .before .before .before .before .before .before .before .before .before .before .before .before .before .before .args .c) (opened e) (e .before .before .class-at .ensures)
+found c = c .look-up-expiration .ensures (begins (opened (inside c)))
+
+part :
+    (c : tie.After-look-up-expiration)
+    → let r = c .look-up-expiration .result in
+    (r .from ≤ r .to) × (r .to ≤ length (called (opened (inside c)) .args .run .now))
+part c =
+    let o = opened (inside c) in
+    let s = called o in
+    let a = s .args in
+    part-within (a .run .now) (s .pre) (a .c) (a .m) (begins o .is-open) _ (found c)
+
+-- ---- what is to be shown there
 
 is-class-number-requires : tie.Need-is-class-number-requires
 is-class-number-requires c κs = search needs
@@ -47,83 +87,75 @@ is-month-requires c κs = search needs
 
 returns : tie.Need-returns
 returns c =
-    let s = c .before .before .before .before .before in
+    let s = start (c .before) in
     let a = s .args in
     permitting-beyond (a .run .now) (a .second .now) (s .pre) (a .c) (a .m) (joined (c .before) ∙ c .if1 .taken)
 
 class-at-requires : tie.Need-class-at-requires
 class-at-requires c κs =
-    let s = c .before .before .before .before .before in
+    let s = start (c .before) in
     let a = s .args in
     let written = passed (isClassNumber (a .c) && isMonth (a .m)) (limits c) in
     (s .pre, search ands)
 
 is-open-at-requires : tie.Need-is-open-at-requires
-is-open-at-requires c κs = (c .before .before .before .before .before .before .pre, c .class-at .ensures)
+is-open-at-requires c κs =
+    let l = c .before in
+    (start (l .before) .pre, c .class-at .ensures)
 
 returns-2 : tie.Need-returns-2
 returns-2 c =
-    let s = c .before .before .before .before .before .before .before .before in
+    let l = c .before .before .before in
+    let s = start (l .before) in
     let a = s .args in
-    permitting-not-open (a .run .now) (a .second .now) (s .pre) (a .c) (a .m) (limits (c .before .before .before))
+    permitting-not-open (a .run .now) (a .second .now) (s .pre) (a .c) (a .m) (limits l)
     (ap not (sym (c .before .is-open-at .ensures)) ∙ c .if2 .taken)
 
 figures-at-requires : tie.Need-figures-at-requires
 figures-at-requires c κs =
-    let s = c .before .before .before .before .before .before .before .before in
-    let a = s .args in
-    let q = c .before .before in
-    omega (arith, class-room (a .run .now) (s .pre) (a .c) (opened c), q .class-at .ensures, book-room (a .run .now) (s .pre))
+    let s = called c in
+    let w = s .args .run .now in
+    omega (arith, begins-room w (s .pre) _ (begins c), book-room w (s .pre))
 
 current-requires : tie.Need-current-requires
 current-requires c κs = search needs
 
 is-outside-requires : tie.Need-is-outside-requires
 is-outside-requires c κs =
-    let s = c .before .before .before .before .before .before .before .before .before .before in
+    let s = called (c .before .before) in
     omega (arith, book-month (s .args .run .now) (s .pre), c .current .ensures)
 
 returns-3 : tie.Need-returns-3
 returns-3 c =
     let g = c .before .before .before in
-    let e = g .before in
-    let q = e .before .before in
-    let s = e .before .before .before .before .before .before .before .before in
+    let o = g .before in
+    let s = called o in
     let a = s .args in
-    permitting-outside (a .run .now) (a .second .now) (s .pre) (a .c) (a .m) (limits (q .before)) (opened e) _ (q .class-at .ensures) _
-    (g .figures-at .ensures) _ (c .before .before .current .ensures) (sym (c .before .is-outside .ensures) ∙ c .if3 .taken)
+    permitting-outside (a .run .now) (a .second .now) (s .pre) (a .c) (a .m) (limits (within o)) (begins o .is-open) _
+    (begins o .place) _ (g .figures-at .ensures) _ (c .before .before .current .ensures)
+    (sym (c .before .is-outside .ensures) ∙ c .if3 .taken)
 
 returns-4 : tie.Need-returns-4
 returns-4 c =
     let t = c .before .before in
     let g = t .before .before .before in
-    let e = g .before in
-    let q = e .before .before in
-    let s = e .before .before .before .before .before .before .before .before in
+    let o = opened t in
+    let s = called o in
     let a = s .args in
-    permitting-no-close (a .run .now) (a .second .now) (s .pre) (a .c) (a .m) (limits (q .before)) (opened e) _ (q .class-at .ensures) _
-    (g .figures-at .ensures) _ (t .before .before .current .ensures) (sym (t .before .is-outside .ensures) ∙ t .if3 .left) (c .if4 .taken)
+    permitting-no-close (a .run .now) (a .second .now) (s .pre) (a .c) (a .m) (limits (within o)) (begins o .is-open) _
+    (begins o .place) _ (g .figures-at .ensures) _ (t .before .before .current .ensures)
+    (sym (t .before .is-outside .ensures) ∙ t .if3 .left) (c .if4 .taken)
 
 look-up-expiration-requires : tie.Need-look-up-expiration-requires
 look-up-expiration-requires c κs =
-    let e = c .before .before .before .before .before .before in
-    let q = e .before .before in
-    let s = e .before .before .before .before .before .before .before .before in
-    let a = s .args in
-    let written = passed (isClassNumber (a .c) && isMonth (a .m)) (limits (q .before)) in
-    (s .pre, (search ands, omega (arith, class-room (a .run .now) (s .pre) (a .c) (opened e), q .class-at .ensures)))
-
-part :
-    (c : tie.After-look-up-expiration) → let r = c .look-up-expiration .result in
-    (r .from ≤ r .to) × (r .to ≤ length (c .before .before .before .before .before .before .before .before .before .before .before .before .before .before .before .args .run .now))
-part c =
-    let s = c .before .before .before .before .before .before .before .before .before .before .before .before .before .before .before in
-    let a = s .args in
-    part-within (a .run .now) (s .pre) (a .c) (a .m) (opened (c .before .before .before .before .before .before .before)) _ (found c)
+    let o = opened (c .before .before) in
+    let a = called o .args in
+    let written = passed (isClassNumber (a .c) && isMonth (a .m)) (limits (within o)) in
+    record { book = called o .pre; month = search ands; begins = begins o }
 
 mul-list-permitted : tie.Need-mul-list-permitted
 mul-list-permitted c =
-    let s = c .before .before .before .before .before .before .before .before .before .before .before .before .before .before .before in
+    let s = called (opened (inside c)) in
     omega (arith, part c, book-long (s .args .run .now) (s .pre))
 
 sub-list-permitted : tie.Need-sub-list-permitted
@@ -138,14 +170,14 @@ part-list-permitted-end c = let p = part c in search needs
 list-permitted-requires : tie.Need-list-permitted-requires
 list-permitted-requires c κs =
     let x = c .before .before in
-    let t = x .before .before .before in
+    let t = inside x in
     let g = t .before .before .before in
-    let e = g .before in
-    let q = e .before .before in
-    let s = e .before .before .before .before .before .before .before .before in
+    let o = opened t in
+    let s = called o in
     let a = s .args in
-    permitting-listable (a .run .now) (a .second .now) (s .pre) (a .c) (a .m) (limits (q .before)) (opened e) _ (q .class-at .ensures) _
-    (g .figures-at .ensures) _ (t .before .before .current .ensures) (sym (t .before .is-outside .ensures) ∙ t .if3 .left) _ (found x)
+    permitting-listable (a .run .now) (a .second .now) (s .pre) (a .c) (a .m) (limits (within o)) (begins o .is-open) _
+    (begins o .place) _ (g .figures-at .ensures) _ (t .before .before .current .ensures)
+    (sym (t .before .is-outside .ensures) ∙ t .if3 .left) _ (found x)
 
 same-length : tie.Need-same-length
 same-length c = search needs
@@ -154,16 +186,15 @@ returns-5 : tie.Need-returns-5
 returns-5 c =
     let y = c .before .before in
     let x = y .before .before .before in
-    let u = x .before in
-    let t = u .before .before in
+    let t = inside x in
     let g = t .before .before .before in
-    let e = g .before in
-    let q = e .before .before in
-    let s = e .before .before .before .before .before .before .before .before in
+    let o = opened t in
+    let s = called o in
     let a = s .args in
-    permitting-filled (a .run .now) (a .second .now) (s .pre) (a .c) (a .m) (limits (q .before)) (opened e) _ (q .class-at .ensures) _
-    (g .figures-at .ensures) _ (t .before .before .current .ensures) (sym (t .before .is-outside .ensures) ∙ t .if3 .left) _ (found x)
-    (u .if4 .left) (y .list-permitted .ensures)
+    permitting-filled (a .run .now) (a .second .now) (s .pre) (a .c) (a .m) (limits (within o)) (begins o .is-open) _
+    (begins o .place) _ (g .figures-at .ensures) _ (t .before .before .current .ensures)
+    (sym (t .before .is-outside .ensures) ∙ t .if3 .left) _ (found x) (x .before .if4 .left)
+    (y .list-permitted .ensures)
 
 pub list-permitted-spec : {M : Type 1} → statement M
 list-permitted-spec =

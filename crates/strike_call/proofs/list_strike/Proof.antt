@@ -1,52 +1,149 @@
--- `list_strike` is the call `L`: refused as `J` refuses, then where the words needed exceed the run; else the strike is put at its place. Assumes nothing.
+-- `list_strike` is the call `L`: refused as `J` refuses, then where the words needed exceed the run; else the strike is
+-- put at its place. Assumes nothing.
 use Prim.Native.Nat.{ℕ, _≤_}
 use mathlib.Core.Path.{_≡_, sym, ap, _∙_}
 use mathlib.Core.Bool.{Bool, false, cond, not}
 use mathlib.Core.Logic.{⊎-elim}
 use native.Mathlib.Omega.{arith}
-use lib.Dec.{T}
 use borrow.Author.Needs.{needs}
+use Rattle.word.specs.declared.answer.Answer.the-variants.{Ground}
 use Rattle.word.specs.declared.answer.Refusal.the-variants.{BeyondLimits, NotOpen}
 use Rattle.book.specs.Facts.{isOpen}
 use Rattle.book.specs.Layout.{factsOf}
 use Rattle.book.specs.Calls.{callJ, isWritten}
+use Rattle.book.specs.Places.{ClassBegins, hasExpiration}
 use Rattle.book.proofs.Tests.{ands}
 use Rattle.place.specs.declared.lookup.StrikeSearch.{StrikeSearch}
-use Rattle.place.specs.Lookups.{strikeSearchOf}
-use Rattle.place.proofs.Found.{class-room}
 use Rattle.place.proofs.Heads.{book-room, book-long}
+use Rattle.edit.specs.Asked.{Insertable}
+use Rattle.strike_call.specs.Judging.{Sought}
 use Rattle.strike_call.proofs.Outcomes.{judgedAnswer}
 use Rattle.strike_call.proofs.Standing.{passed}
-use Rattle.strike_call.proofs.Judgements.{judged-beyond, judged-not-open, judged-found, place-used, sought}
+use Rattle.strike_call.proofs.Judgements.{judged-beyond, judged-not-open, judged-found}
 use Rattle.strike_call.proofs.Listing.{no-ground, refused-no-ground, permits, list-refused, out-of-words, list-done}
 use Rattle.strike_call.proofs.list_strike.Statement.{statement}
 use Rattle.strike_call.proofs.list_strike.Tie as tie
 
-limits : (c : tie.Else1) → let a = c .before .before .before .args in not (isWritten (callJ (a .c) (a .m) (a .h))) ≡ false
+-- ---- the places of the proof
+
+abbrev start : tie.Else1 → tie.Start
+start c = c .before .before .before
+
+abbrev class : tie.Else2 → tie.After-class-at
+class c = c .before .before .before
+
+abbrev within : tie.Else2 → tie.Else1
+within c = class c .before .before
+
+abbrev opened : tie.After-look-up-strike → tie.Else2
+opened c = c .before .before
+
+abbrev found : tie.After-judge-found → tie.After-look-up-strike
+found c = c .before .before
+
+abbrev permitted : tie.Joined3 → tie.After-answer
+permitted c = c .before .before
+
+abbrev ruled : tie.Joined3 → tie.After-judge-found
+ruled c = permitted c .before .before
+
+abbrev counted : tie.Else4 → tie.Joined3
+counted c = c .before .before .before .before
+
+abbrev called : tie.After-judge-found → tie.Start
+called c = start (within (opened (found c)))
+
+-- ---- what is known there
+
+limits : (c : tie.Else1) → let a = start c .args in not (isWritten (callJ (a .c) (a .m) (a .h))) ≡ false
 limits c = ap not (sym (c .before .is-written .ensures)) ∙ c .if1 .left
 
-opened : (c : tie.Else2) → let a = c .before .before .before .before .before .before .before .before .args in T (isOpen (a .c) (factsOf (a .run .now) .classes))
-opened c =
-    let a = c .before .before .before .before .before .before .before .before .args in
-    passed (isOpen (a .c) (factsOf (a .run .now) .classes)) (ap not (sym (c .before .is-open-at .ensures)) ∙ c .if2 .left)
+abbrev begins : (c : tie.Else2) → ClassBegins (factsOf (start (within c) .args .run .now)) (class c .class-at .result)
+begins c =
+    let a = start (within c) .args in
+    record {
+      number = a .c;
+      is-open = passed (isOpen (a .c) (factsOf (a .run .now) .classes))
+          (ap not (sym (c .before .is-open-at .ensures)) ∙ c .if2 .left);
+      place = class c .class-at .ensures;
+    }
 
-found :
-    (c : tie.After-look-up-strike) → let a = c .before .before .before .before .before .before .before .before .before .before .args in
-    c .look-up-strike .result ≡ strikeSearchOf (a .c) (a .m) (a .h) (factsOf (a .run .now))
-found c = c .look-up-strike .ensures (c .before .before .before .before .before .before .before .before .before .before .args .c) (opened (c .before .before)) (c .before .before .before .before .before .class-at .ensures)
+abbrev sought :
+    (c : tie.After-look-up-strike)
+    → let a = start (within (opened c)) .args in
+    Sought (a .run .now) (class (opened c) .class-at .result) (c .look-up-strike .result) (a .m) (a .h)
+sought c =
+    let s = start (within (opened c)) in
+    let a = s .args in
+    let written = passed (isWritten (callJ (a .c) (a .m) (a .h))) (limits (within (opened c))) in
+    record {
+      book = s .pre;
+      month = search ands;
+      strike = search ands;
+      begins = begins (opened c);
+      place = c .look-up-strike .ensures (begins (opened c));
+    }
 
-judged : (c : tie.After-judge-found) → let a = c .before .before .before .before .before .before .before .before .before .before .before .before .args in c .judge-found .result ≡ judgedAnswer (a .c) (a .m) (a .h) (factsOf (a .run .now))
+judged :
+    (c : tie.After-judge-found)
+    → let a = called c .args in
+    c .judge-found .result ≡ judgedAnswer (a .c) (a .m) (a .h) (factsOf (a .run .now))
 judged c =
-    let l = c .before .before in
-    let q = l .before .before .before .before .before in
-    let a = c .before .before .before .before .before .before .before .before .before .before .before .before .args in
-    let o = opened (l .before .before) in
-    judged-found (a .c) (a .m) (a .h) (factsOf (a .run .now)) (limits (q .before .before)) o _
-    (c .judge-found .ensures (a .c) o (q .class-at .ensures) (found l))
+    let a = called c .args in
+    let o = opened (found c) in
+    judged-found (a .c) (a .m) (a .h) (factsOf (a .run .now)) (limits (within o)) (begins o .is-open) _
+    (c .judge-found .ensures (sought (found c)))
+
+ground :
+    (c : tie.Joined3)
+    → let a = called (ruled c) .args in
+    judgedAnswer (a .c) (a .m) (a .h) (factsOf (a .run .now)) ≡ Ground (permitted c .answer .given .0 .0)
+ground c = sym (judged (ruled c)) ∙ permitted c .answer .given .1
+
+has-strikes :
+    (c : tie.After-judge-found)
+    → let a = called c .args in
+    found c .look-up-strike .result .expiration ≡ hasExpiration (a .c) (a .m) (factsOf (a .run .now))
+has-strikes c = ap (λ (r : StrikeSearch). r .expiration) (sought (found c) .place)
 
 -- the words that the strike needs
-needed-words : (c : tie.Joined3) → c .if3 .needed ≡ cond {A = ℕ} (c .before .before .before .before .before .before .look-up-strike .result .expiration) 1 2
+needed-words :
+    (c : tie.Joined3) → c .if3 .needed ≡ cond {A = ℕ} (found (ruled c) .look-up-strike .result .expiration) 1 2
 needed-words c = ⊎-elim (λ x. x .1 ∙ rw (x .0 .taken)) (λ x. x .1 ∙ rw (x .0 .left)) (c .if3 .came)
+
+needed :
+    (c : tie.Joined3)
+    → let a = called (ruled c) .args in
+    c .if3 .needed ≡ cond {A = ℕ} (hasExpiration (a .c) (a .m) (factsOf (a .run .now))) 1 2
+needed c = needed-words c ∙ ap (λ (b : Bool). cond {A = ℕ} b 1 2) (has-strikes (ruled c))
+
+abbrev insertable :
+    (c : tie.Else4)
+    → let g = ruled (counted c) in
+    let a = called g .args in
+    let r = found g .look-up-strike .result in
+    Insertable (a .run .now) (r .at) (r .expiration) (a .m) (a .h) (permitted (counted c) .answer .given .0 .0)
+insertable c =
+    let j = counted c in
+    let g = ruled j in
+    let s = called g in
+    let a = s .args in
+    let p = permits (a .c) (a .m) (a .h) (factsOf (a .run .now)) _ (ground j) in
+    let written = p .limits in
+    record {
+      book = s .pre;
+      month = search ands;
+      strike = search ands;
+      on = p .known;
+      class = a .c;
+      is-open = p .opened;
+      absent = p .absent;
+      place = ap (λ (r : StrikeSearch). r .at) (sought (found g) .place);
+      expiration = has-strikes g;
+      room = omega (arith, c .if4 .left, c .before .before .used .ensures, needed-words j);
+    }
+
+-- ---- what is to be shown there
 
 is-written-requires : tie.Need-is-written-requires
 is-written-requires c κs = search needs
@@ -62,13 +159,15 @@ returns c =
 
 class-at-requires : tie.Need-class-at-requires
 class-at-requires c κs =
-    let s = c .before .before .before .before in
+    let s = start (c .before) in
     let a = s .args in
     let written = passed (isWritten (callJ (a .c) (a .m) (a .h))) (limits (c .before)) in
     (s .pre, search ands)
 
 is-open-at-requires : tie.Need-is-open-at-requires
-is-open-at-requires c κs = (c .before .before .before .before .before .before .pre, c .before .class-at .ensures)
+is-open-at-requires c κs =
+    let asked = c .before in
+    (start (asked .before .before) .pre, asked .class-at .ensures)
 
 same-length : tie.Need-same-length
 same-length c = search needs
@@ -76,27 +175,25 @@ same-length c = search needs
 returns-2 : tie.Need-returns-2
 returns-2 c =
     let k = c .before in
-    let s = c .before .before .before .before .before .before .before .before in
+    let asked = k .before .before in
+    let l = asked .before .before in
+    let s = start l in
     let a = s .args in
     list-refused (a .run .now) (s .pre) (a .c) (a .m) (a .h) _
-    (judged-not-open (a .c) (a .m) (a .h) (factsOf (a .run .now)) (limits (c .before .before .before .before .before))
+    (judged-not-open (a .c) (a .m) (a .h) (factsOf (a .run .now)) (limits l)
     (ap not (sym (k .is-open-at .ensures)) ∙ c .if2 .taken))
     (refused-no-ground NotOpen)
 
 look-up-strike-requires : tie.Need-look-up-strike-requires
 look-up-strike-requires c κs =
-    let s = c .before .before .before .before .before .before .before .before .before in
+    let o = c .before in
+    let s = start (within o) in
     let a = s .args in
-    let written = passed (isWritten (callJ (a .c) (a .m) (a .h))) (limits (c .before .before .before .before .before .before)) in
-    (s .pre, (search ands, omega (arith, class-room (a .run .now) (s .pre) (a .c) (opened (c .before)), c .before .before .before .before .class-at .ensures)))
+    let written = passed (isWritten (callJ (a .c) (a .m) (a .h))) (limits (within o)) in
+    (record { book = s .pre; month = search ands; begins = begins o }, search ands)
 
 judge-found-requires : tie.Need-judge-found-requires
-judge-found-requires c κs =
-    let l = c .before in
-    let q = l .before .before .before .before .before in
-    let s = c .before .before .before .before .before .before .before .before .before .before .before in
-    let a = s .args in
-    sought (a .run .now) (s .pre) (a .c) (a .m) (a .h) (opened (l .before .before)) (limits (q .before .before)) _ (q .class-at .ensures) _ (found l)
+judge-found-requires c κs = sought (c .before)
 
 enum-known-answer : tie.Need-enum-known-answer
 enum-known-answer c = search needs
@@ -107,7 +204,7 @@ same-length-2 c = search needs
 returns-3 : tie.Need-returns-3
 returns-3 c =
     let g = c .before in
-    let s = g .before .before .before .before .before .before .before .before .before .before .before .before in
+    let s = called g in
     let a = s .args in
     list-refused (a .run .now) (s .pre) (a .c) (a .m) (a .h) _ (judged g) (no-ground _ (c .match .keys2))
 
@@ -117,7 +214,7 @@ used-requires c κs = search needs
 add-if4 : tie.Need-add-if4
 add-if4 c =
     let j = c .before .before .before in
-    let s = j .before .before .before .before .before .before .before .before .before .before .before .before .before .before .before .before in
+    let s = called (ruled j) in
     let few : j .if3 .needed ≤ 2 = ⊎-elim (λ x. omega arith) (λ x. omega arith) (j .if3 .came) in
     omega (arith, book-room (s .args .run .now) (s .pre), book-long (s .args .run .now) (s .pre), c .before .used .ensures)
 
@@ -127,42 +224,13 @@ same-length-3 c = search needs
 returns-4 : tie.Need-returns-4
 returns-4 c =
     let j = c .before .before .before .before in
-    let q = j .before .before in
-    let g = q .before .before in
-    let s = g .before .before .before .before .before .before .before .before .before .before .before .before in
+    let s = called (ruled j) in
     let a = s .args in
-    let w = a .run .now in
-    let ground = sym (judged g) ∙ q .answer .given .1 in
-    let stands = ap (λ (r : StrikeSearch). r .expiration) (found (g .before .before)) in
-    out-of-words w (s .pre) (a .c) (a .m) (a .h) _ ground _ (needed-words j ∙ ap (λ (b : Bool). cond {A = ℕ} b 1 2) stands)
+    out-of-words (a .run .now) (s .pre) (a .c) (a .m) (a .h) _ (ground j) _ (needed j)
     (omega (arith, c .before .before .used .ensures))
 
 insert-strike-requires : tie.Need-insert-strike-requires
-insert-strike-requires c κs =
-    let j = c .before .before .before .before .before in
-    let q = j .before .before in
-    let g = q .before .before in
-    let s = g .before .before .before .before .before .before .before .before .before .before .before .before in
-    let a = s .args in
-    let w = a .run .now in
-    let p = permits (a .c) (a .m) (a .h) (factsOf w) _ (sym (judged g) ∙ q .answer .given .1) in
-    let place = ap (λ (r : StrikeSearch). r .at) (found (g .before .before)) in
-    let written = p .limits in (
-      s .pre,
-      (
-        search ands,
-        (
-          search ands,
-          (
-            p .known,
-            (
-              omega (arith, place, place-used w (s .pre) (a .c) (a .m) (a .h) (p .opened)),
-              omega (arith, c .before .if4 .left, c .before .before .before .used .ensures, needed-words j),
-            ),
-          ),
-        ),
-      ),
-    )
+insert-strike-requires c κs = insertable (c .before)
 
 same-length-4 : tie.Need-same-length-4
 same-length-4 c = search needs
@@ -171,19 +239,12 @@ returns-5 : tie.Need-returns-5
 returns-5 c =
     let i = c .before .before in
     let e = i .before .before in
-    let j = e .before .before .before .before in
-    let q = j .before .before in
-    let g = q .before .before in
-    let s = g .before .before .before .before .before .before .before .before .before .before .before .before in
+    let j = counted e in
+    let s = called (ruled j) in
     let a = s .args in
-    let w = a .run .now in
-    let ground = sym (judged g) ∙ q .answer .given .1 in
-    let place = ap (λ (r : StrikeSearch). r .at) (found (g .before .before)) in
-    let stands = ap (λ (r : StrikeSearch). r .expiration) (found (g .before .before)) in
-    let p = permits (a .c) (a .m) (a .h) (factsOf w) _ ground in
-    list-done w (s .pre) (a .c) (a .m) (a .h) _ ground _ (needed-words j ∙ ap (λ (b : Bool). cond {A = ℕ} b 1 2) stands)
+    list-done (a .run .now) (s .pre) (a .c) (a .m) (a .h) _ (ground j) _ (needed j)
     (omega (arith, e .if4 .left, e .before .before .used .ensures)) _
-    (i .insert-strike .ensures (a .c) (p .opened) (p .absent) place stands)
+    (i .insert-strike .ensures (insertable e))
 
 pub list-strike-spec : {M : Type 1} → statement M
 list-strike-spec =
