@@ -1,4 +1,5 @@
--- The ways out of `D`, over plain variables: by what a claim draws, which is the number of the conditions in all cases of their tests. Assumes nothing.
+-- The ways out of `D`, over plain variables: by what a claim draws, which is the number of the conditions in all cases
+-- of their tests. Assumes nothing.
 use Prim.Native.Nat.{ℕ}
 use mathlib.Core.Path.{_≡_, refl, sym, ap, _∙_}
 use mathlib.Core.Bool.{Bool, true, false, cond, not, _&&_}
@@ -20,11 +21,12 @@ use Rattle.book.specs.Calls.{callD, isWritten, isNotOpen, isCapReached, Conditi
 use Rattle.book.specs.Made.{Made}
 use Rattle.book.proofs.Tests.{ands, and-intro}
 use Rattle.book.proofs.Answered.{made-refused}
+use Rattle.edit.specs.Asked.{Storable}
 use Rattle.class_call.specs.declared.programs.Claim.{Claim}
 use Rattle.class_call.specs.declared.programs.Claim.the-variants.{Granted, Refused as NotGranted}
 use Rattle.class_call.specs.Claims.{claimOf}
 use Rattle.class_call.proofs.Ways.{within-limits, decided, not-open, Found, found-figures, found-limits}
-use Rattle.class_call.proofs.FigureWays.{Storable, Stored, storable, figures-stored}
+use Rattle.class_call.proofs.FigureWays.{Stored, storable, figures-set}
 
 -- the answer that a claim makes
 abbrev answerOf : Claim → Answer
@@ -64,7 +66,9 @@ module _ (d : ℕ) (r : ClassRecord) where
   number-kept true = refl
   number-kept false = refl
 
-  in-limits : (dollar : Bool) → T (areFigures r) → T (isDesignation d) → T (areFigures (cond dollar (withDollar d r) (withHalf d r)))
+  in-limits :
+      (dollar : Bool) → T (areFigures r) → T (isDesignation d)
+      → T (areFigures (cond dollar (withDollar d r) (withHalf d r)))
   in-limits true old given = search (ands, and-intro) depth 12
   in-limits false old given = search (ands, and-intro) depth 12
 
@@ -76,7 +80,8 @@ module _ (c p d : ℕ) (w : List ℕ) (book : T (isBook w)) (within : not (isWri
   module _ (at : ℕ) (r : ClassRecord) (found : Found w c at r) where
     drawn :
         (claim : Claim) → claim ≡ claimOf (factsOf w) r p d
-        → (first (conditions (length w) (callD c p d) (factsOf w)) ≡ answerNumber (answerOf claim)) × (0 ≡ answerValue (answerOf claim))
+        → (first (conditions (length w) (callD c p d) (factsOf w)) ≡ answerNumber (answerOf claim))
+        × (0 ≡ answerValue (answerOf claim))
     unfolding conditions claimOf
     drawn claim e =
         let f = factsOf w in
@@ -100,13 +105,13 @@ module _ (c p d : ℕ) (w : List ℕ) (book : T (isBook w)) (within : not (isWri
       pub designation-storable : Storable w at new
       designation-storable =
           let given = within-limits (callD c p d) within in
-          storable w book c at r found new (withDesignation p d r) e
+          storable w book c at r found (withDesignation p d) (number-kept d r (eqb p 1)) new e
           (in-limits d r (eqb p 1) (found-limits w book c at r found) (search ands))
 
       pub designation-set :
-          (w′ : List ℕ) (claim : Claim) → claim ≡ claimOf (factsOf w) r p d → claim ≡ Granted → Stored w at new w′
+          (w′ : List ℕ) (claim : Claim) → claim ≡ claimOf (factsOf w) r p d → claim ≡ Granted → Stored w new w′
           → Made (callD c p d) w [] Done w′ []
       unfolding changed listed acceptedValue
       designation-set w′ claim drew granted stored =
-          figures-stored (callD c p d) w book within c at r found (withDesignation p d) (number-kept d r (eqb p 1)) refl new e w′
-          (drawn Granted (sym granted ∙ drew) .0) refl stored
+          figures-set w book c at r found (withDesignation p d) (number-kept d r (eqb p 1)) new e (callD c p d) within
+          refl w′ (drawn Granted (sym granted ∙ drew) .0) refl stored

@@ -1,5 +1,6 @@
--- The ways out of `C` and `V`, over plain variables: by one law of calls that store the figures of an open class. Assumes nothing.
-use Prim.Native.Nat.{ℕ, _+_, _≤_}
+-- The ways out of `C` and `V`, over plain variables: by one law of calls that store the figures of an open class.
+-- Assumes nothing.
+use Prim.Native.Nat.{ℕ}
 use mathlib.Core.Path.{_≡_, refl, sym, ap, _∙_}
 use mathlib.Core.Bool.{true, false, not}
 use mathlib.Core.List.{List, []}
@@ -9,7 +10,7 @@ use Rattle.word.specs.declared.class.ClassRecord.{ClassRecord}
 use Rattle.word.specs.declared.answer.Answer.the-variants.{Done, Refused}
 use Rattle.word.specs.declared.answer.Refusal.the-variants.{NotOpen}
 use Rattle.word.specs.Class.{withClose, withVolume}
-use Rattle.book.specs.Facts.{isOpen, withFigures}
+use Rattle.book.specs.Facts.{withFigures}
 use Rattle.book.specs.Layout.{layout, factsOf}
 use Rattle.book.specs.Books.{areFigures, isBook}
 use Rattle.book.specs.Calls.{Call, callC, callV, isWritten, class, isNotOpen, update, first, conditions, changed, listed, acceptedValue}
@@ -17,39 +18,42 @@ use Rattle.book.specs.Places.{classPlace}
 use Rattle.book.specs.Made.{over, Made}
 use Rattle.book.proofs.Tests.{ands, and-intro}
 use Rattle.book.proofs.Answered.{made-accepted}
-use Rattle.class_call.proofs.Ways.{within-limits, decided, not-open, open-room, Found, found-open, found-figures, found-number, found-limits}
+use Rattle.edit.specs.Asked.{Storable}
+use Rattle.class_call.proofs.Ways.{within-limits, decided, not-open, Found, found-open, found-figures, found-number, found-limits}
 
--- what `store_figures` asks
-abbrev pub Storable : List ℕ → ℕ → ClassRecord → Type 0
-Storable w at new = T (isBook w) × (T (areFigures new) × (at + 3 ≤ length w))
+-- what `store_figures` leaves
+abbrev pub Stored : List ℕ → ClassRecord → List ℕ → Type 0
+Stored w new w′ = w′ ≡ layout (length w) (update (withFigures new (class (factsOf w) (new .number))) (factsOf w))
 
--- what `store_figures` ensures
-abbrev pub Stored : List ℕ → ℕ → ClassRecord → List ℕ → Type 0
-Stored w at new w′ =
-    (c : ℕ) → T (isOpen c (factsOf w .classes)) → at ≡ classPlace c (factsOf w) → new .number ≡ c
-    → w′ ≡ layout (length w) (update (withFigures new (class (factsOf w) c)) (factsOf w))
-
-pub storable :
-    (w : List ℕ) → T (isBook w) → (c at : ℕ) (r : ClassRecord) → Found w c at r
-    → (new good : ClassRecord) → new ≡ good → T (areFigures good) → Storable w at new
-storable w book c at r found new good e limits = (book, (rw e limits, open-room w book c at (found .is-open) (found .place)))
-
--- a call that changes the figures of the class c
+-- the class c found, with a change of its figures
 module _
-    (x : Call) (w : List ℕ) (book : T (isBook w)) (within : not (isWritten x) ≡ false) (c at : ℕ) (r : ClassRecord)
-    (found : Found w c at r) (change : ClassRecord → ClassRecord)
-    (keeps : change r .number ≡ r .number)
-    (changes : changed x (factsOf w) ≡ update (withFigures (change (class (factsOf w) c .figures)) (class (factsOf w) c)) (factsOf w))
-    (new : ClassRecord) (e : new ≡ change r) where
-  pub figures-stored :
-      (w′ : List ℕ) → first (conditions (length w) x (factsOf w)) ≡ 0 → 0 ≡ acceptedValue x (factsOf w) → Stored w at new w′
-      → Made x w [] Done w′ (over (listed x (factsOf w)) [])
-  figures-stored w′ none value stored =
+    (w : List ℕ) (book : T (isBook w)) (c at : ℕ) (r : ClassRecord) (found : Found w c at r)
+    (change : ClassRecord → ClassRecord) (keeps : change r .number ≡ r .number) (new : ClassRecord)
+    (e : new ≡ change r) where
+  number : new .number ≡ c
+  number = ap (λ (y : ClassRecord). y .number) e ∙ keeps ∙ found-number w book c at r found
+
+  pub storable : T (areFigures (change r)) → Storable w at new
+  storable limits =
+      record {
+        book = book;
+        limits = rw e limits;
+        is-open = rw number (found-open w book c at r found);
+        place = found .place ∙ ap (λ (k : ℕ). classPlace k (factsOf w)) (sym number);
+      }
+
+  -- a call that makes this change
+  pub figures-set :
+      (x : Call) → not (isWritten x) ≡ false
+      → changed x (factsOf w)
+      ≡ update (withFigures (change (class (factsOf w) c .figures)) (class (factsOf w) c)) (factsOf w)
+      → (w′ : List ℕ) → first (conditions (length w) x (factsOf w)) ≡ 0 → 0 ≡ acceptedValue x (factsOf w)
+      → Stored w new w′ → Made x w [] Done w′ (over (listed x (factsOf w)) [])
+  figures-set x within changes w′ none value stored =
+      let figures : new ≡ change (class (factsOf w) c .figures) = e ∙ ap change (found-figures w book c at r found) in
       made-accepted x w [] book Done w′ refl (decided (length w) x (factsOf w) within ∙ none) value
-      (stored c (found-open w book c at r found) (found .place)
-      (ap (λ (y : ClassRecord). y .number) e ∙ keeps ∙ found-number w book c at r found)
-      ∙ ap (λ (y : ClassRecord). layout (length w) (update (withFigures y (class (factsOf w) c)) (factsOf w)))
-      (e ∙ ap change (found-figures w book c at r found))
+      (stored
+      ∙ (λ i. layout (length w) (update (withFigures (figures i) (class (factsOf w) (number i))) (factsOf w)))
       ∙ ap (layout (length w)) (sym changes))
 
 -- ---- `C`
@@ -66,13 +70,13 @@ module _ (c p : ℕ) (w : List ℕ) (book : T (isBook w)) (within : not (isWritt
     close-storable =
         let old = found-limits w book c at r found in
         let given = within-limits (callC c p) within in
-        storable w book c at r found new (withClose p r) e (search (ands, and-intro) depth 12)
+        storable w book c at r found (withClose p) refl new e (search (ands, and-intro) depth 12)
 
-    pub close-set : (w′ : List ℕ) → Stored w at new w′ → Made (callC c p) w [] Done w′ []
+    pub close-set : (w′ : List ℕ) → Stored w new w′ → Made (callC c p) w [] Done w′ []
     unfolding changed conditions listed acceptedValue
     close-set w′ stored =
-        figures-stored (callC c p) w book within c at r found (withClose p) refl refl new e w′
-        (rw (found .is-open)) refl stored
+        figures-set w book c at r found (withClose p) refl new e (callC c p) within refl w′ (rw (found .is-open)) refl
+        stored
 
 -- ---- `V`
 
@@ -88,10 +92,10 @@ module _ (c n : ℕ) (w : List ℕ) (book : T (isBook w)) (within : not (isWritt
     volume-storable =
         let old = found-limits w book c at r found in
         let given = within-limits (callV c n) within in
-        storable w book c at r found new (withVolume n r) e (search (ands, and-intro) depth 12)
+        storable w book c at r found (withVolume n) refl new e (search (ands, and-intro) depth 12)
 
-    pub volume-set : (w′ : List ℕ) → Stored w at new w′ → Made (callV c n) w [] Done w′ []
+    pub volume-set : (w′ : List ℕ) → Stored w new w′ → Made (callV c n) w [] Done w′ []
     unfolding changed conditions listed acceptedValue
     volume-set w′ stored =
-        figures-stored (callV c n) w book within c at r found (withVolume n) refl refl new e w′
-        (rw (found .is-open)) refl stored
+        figures-set w book c at r found (withVolume n) refl new e (callV c n) within refl w′ (rw (found .is-open)) refl
+        stored

@@ -1,4 +1,5 @@
--- The ways out of `M`, `O` and `R`, and those that calls share, over plain variables: by the law of each way out and the number of the call's conditions. Assumes nothing.
+-- The ways out of `M`, `O` and `R`, and those that calls share, over plain variables: by the law of each way out and
+-- the number of the call's conditions. Assumes nothing.
 use Prim.Native.Nat.{ℕ, _+_, _-_, _≤_, _<_}
 use mathlib.Core.Path.{_≡_, refl, sym, ap, _∙_}
 use mathlib.Core.Bool.{true, false, not}
@@ -10,9 +11,8 @@ use borrow.Author.Tests.{not-false, lt-ltb, le-ltb, eq-eqb, ne-eqb}
 use Rattle.word.specs.declared.class.ClassRecord.{ClassRecord}
 use Rattle.word.specs.declared.answer.Answer.the-variants.{Done, Removed, Refused}
 use Rattle.word.specs.declared.answer.Refusal.the-variants.{BeyondLimits, AlreadyOpen, NotOpen, MonthOutside, NoClose, OutOfWords}
-use Rattle.word.specs.Limits.{isClassNumber}
 use Rattle.book.specs.Facts.{Facts, newClass, isOpen, wordsOf, wordsTaken}
-use Rattle.book.specs.Layout.{seriesWords, used, layout, factsOf}
+use Rattle.book.specs.Layout.{used, layout, factsOf}
 use Rattle.book.specs.Books.{areFigures, isBook}
 use Rattle.book.specs.Calls.{Call, callM, callO, callR, isWritten, class, isNotOpen, isReviewed, Condition, draws, first, conditions, changed, numberOf, listed, acceptedValue}
 use Rattle.book.specs.Places.{classPlace}
@@ -28,10 +28,13 @@ use Rattle.book.proofs.Answered.{made-refused, made-accepted}
 use Rattle.place.specs.Search.{firstAt, isFrom, figuresAt}
 use Rattle.place.proofs.Heads.{book-good, book-form, book-is, book-room, book-long}
 use Rattle.place.proofs.Found.{class-room, figures-found, class-ended}
+use Rattle.edit.specs.Asked.{Openable}
+use Rattle.removal.specs.Asked.{Reviewable}
 
 -- ---- any call
 
-pub beyond-limits : (x : Call) (w : List ℕ) → T (isBook w) → not (isWritten x) ≡ true → Made x w [] (Refused BeyondLimits) w []
+pub beyond-limits :
+    (x : Call) (w : List ℕ) → T (isBook w) → not (isWritten x) ≡ true → Made x w [] (Refused BeyondLimits) w []
 unfolding numberOf
 beyond-limits x w book e = made-refused x w [] book BeyondLimits (rw e) refl
 
@@ -113,7 +116,8 @@ module _ (m : ℕ) (w : List ℕ) (book : T (isBook w)) (within : not (isWritten
       let f = factsOf w in
       month-set w (omega arith)
       (sym (book-is w book)
-      ∙ ap (layout (length w)) (sym (ap (λ (k : ℕ). changed (callM k) f) e ∙ month-again (length w) f (book-form w book))))
+      ∙ ap (layout (length w))
+      (sym (ap (λ (k : ℕ). changed (callM k) f) e ∙ month-again (length w) f (book-form w book))))
 
 -- ---- `O`
 
@@ -135,12 +139,15 @@ module _ (c : ℕ) (w : List ℕ) (book : T (isBook w)) (within : not (isWritten
         refl
 
     module _ (room : end + 3 ≤ length w) where
-      pub class-insertable :
-          (at : ℕ) → at ≡ classPlace c (factsOf w)
-          → T (isBook w)
-          × (T (isClassNumber c)
-          × (T (not (isOpen c (factsOf w .classes))) × ((at ≡ classPlace c (factsOf w)) × (used (factsOf w) + 3 ≤ length w))))
-      class-insertable at place = (book, (within-limits (callO c) within, (rw closed tt, (place, omega arith))))
+      pub class-openable : (at : ℕ) → at ≡ classPlace c (factsOf w) → Openable w at c
+      class-openable at place =
+          record {
+            book = book;
+            number = within-limits (callO c) within;
+            is-closed = rw closed tt;
+            place = place;
+            room = omega arith;
+          }
 
       pub class-opened :
           (w′ : List ℕ) → w′ ≡ layout (length w) (changed (callO c) (factsOf w)) → Made (callO c) w [] Done w′ []
@@ -173,41 +180,46 @@ module _ (c : ℕ) (w : List ℕ) (book : T (isBook w)) (within : not (isWritten
         ))
         refl
 
-    -- with what `next_class` and `review` ensure
+    -- with what `next_class` ensures
     module _
-        (to k : ℕ) (w′ : List ℕ)
-        (e : to ≡ at + 3 + firstAt (isFrom 2 14 0) (take (used (factsOf w) - (at + 3)) (drop (at + 3) w)))
-        (done : (c : ℕ) → T (isOpen c (factsOf w .classes)) → at + 3 ≡ classPlace c (factsOf w) + 3
-        → to ≡ at + 3 + length (seriesWords 0 (class (factsOf w) c .series) [])
-        → r .close ≡ class (factsOf w) c .figures .close
-        → (k ≡ acceptedValue (callR c) (factsOf w)) × (w′ ≡ layout (length w) (changed (callR c) (factsOf w)))) where
-      reviewed : (k ≡ acceptedValue (callR c) (factsOf w)) × (w′ ≡ layout (length w) (changed (callR c) (factsOf w)))
-      reviewed =
+        (to : ℕ)
+        (e : to ≡ at + 3 + firstAt (isFrom 2 14 0) (take (used (factsOf w) - (at + 3)) (drop (at + 3) w))) where
+      abbrev pub class-reviewable : Reviewable w (at + 3) to (r .close)
+      class-reviewable =
           let o = found-open w book c at r found in
-          let p : at + 3 ≡ classPlace c (factsOf w) + 3 = omega arith in
-          done c o p (class-ended w book c o (at + 3) to p e) (ap (λ (x : ClassRecord). x .close) (found-figures w book c at r found))
+          let p : at + 3 ≡ classPlace c (factsOf w) + 3 = omega (arith, found .place) in
+          record {
+            book = book;
+            number = c;
+            is-open = o;
+            begins = p;
+            ends = class-ended w book c o (at + 3) to p e;
+            close = ap (λ (x : ClassRecord). x .close) (found-figures w book c at r found);
+          }
 
-      pub review-count : k ≤ 65535
-      unfolding acceptedValue
-      review-count =
-          let x = class (factsOf w) c in
-          omega (
-            arith,
-            reviewed .0,
-            length-only (isReviewed x) (x .series),
-            sum-put wordsOf (newClass c) (factsOf w .classes) (found-open w book c at r found),
-            book-form w book .room,
-            book-long w book,
-          )
+    pub review-count : (k : ℕ) → k ≡ acceptedValue (callR c) (factsOf w) → k ≤ 65535
+    unfolding acceptedValue
+    review-count k count =
+        let x = class (factsOf w) c in
+        omega (
+          arith,
+          length-only (isReviewed x) (x .series),
+          sum-put wordsOf (newClass c) (factsOf w .classes) (found-open w book c at r found),
+          book-form w book .room,
+          book-long w book,
+        )
 
-      pub review-made : (r .close ≡ 0 → ⊥) → Made (callR c) w [] (Removed k) w′ []
-      unfolding conditions listed
-      review-made n =
-          made-accepted (callR c) w [] book (Removed k) w′ refl
-          (decided (length w) (callR c) (factsOf w) within
-          ∙ rw (
-            found .is-open,
-            ← found-figures w book c at r found,
-            ne-eqb (r .close) 0 n,
-          ))
-          (reviewed .0) (reviewed .1)
+    pub review-made :
+        (k : ℕ) (w′ : List ℕ)
+        → (k ≡ acceptedValue (callR c) (factsOf w)) × (w′ ≡ layout (length w) (changed (callR c) (factsOf w)))
+        → (r .close ≡ 0 → ⊥) → Made (callR c) w [] (Removed k) w′ []
+    unfolding conditions listed
+    review-made k w′ done n =
+        made-accepted (callR c) w [] book (Removed k) w′ refl
+        (decided (length w) (callR c) (factsOf w) within
+        ∙ rw (
+          found .is-open,
+          ← found-figures w book c at r found,
+          ne-eqb (r .close) 0 n,
+        ))
+        (done .0) (done .1)

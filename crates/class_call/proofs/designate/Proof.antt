@@ -1,12 +1,47 @@
 -- `designate` keeps the contract of `D`: each way out by its law. Assumes nothing.
+use mathlib.Core.Path.{_≡_}
+use mathlib.Core.Bool.{false, not}
 use native.Mathlib.Omega.{arith}
-use Rattle.book.specs.Calls.{callD}
-use Rattle.book.proofs.Tests.{ands}
-use Rattle.class_call.proofs.Ways.{beyond-limits, within-limits, open-room}
-use Rattle.class_call.proofs.DesignationWays.{designation-not-open, designation-refused, designation-storable, designation-set}
 use borrow.Author.Needs.{needs}
+use Rattle.book.specs.Calls.{callD, isWritten}
+use Rattle.book.proofs.Tests.{ands}
+use Rattle.class_call.proofs.Ways.{beyond-limits, within-limits, open-room, Found}
+use Rattle.class_call.proofs.DesignationWays.{designation-not-open, designation-refused, designation-storable, designation-set}
 use Rattle.class_call.proofs.designate.Statement.{statement}
 use Rattle.class_call.proofs.designate.Tie as tie
+
+-- before the place where the class is open: that where it was looked up, and that where the limits were passed
+abbrev sought : tie.Else2 → tie.After-class-at
+sought p = p .before .before .before
+
+abbrev limited : tie.Else2 → tie.Else1
+limited p = sought p .before .before
+
+-- .. and where the last number was tested
+abbrev start : tie.After-is-designation → tie.Start
+start p = p .before .before .before .before
+
+within :
+    (p : tie.Else1)
+    → let a = start (p .before) .args in
+    not (isWritten (callD (a .c) (a .p) (a .d))) ≡ false
+within p =
+    let q = p .before in
+    rw (q .before .before .is-class-number .ensures, q .before .is-program .ensures, q .is-designation .ensures)
+    at (p .if1 .left)
+
+found :
+    (p : tie.After-figures-at)
+    → let q = p .before .before in
+    let s = start (limited q .before) in
+    Found (s .args .run .now) (s .args .c) (sought q .class-at .result) (p .figures-at .result)
+found p =
+    let q = p .before .before in
+    record {
+      is-open = rw (q .before .is-open-at .ensures) at (q .if2 .left);
+      place = sought q .class-at .ensures;
+      said = p .figures-at .ensures;
+    }
 
 is-class-number-requires : tie.Need-is-class-number-requires
 is-class-number-requires c κs = search needs
@@ -19,18 +54,16 @@ is-designation-requires c κs = search needs
 
 returns : tie.Need-returns
 returns c =
-    beyond-limits (callD _ _ _) _ (c .before .before .before .before .before .pre)
-    (rw (c .before .before .before .is-class-number .ensures, c .before .before .is-program .ensures, c .before .is-designation .ensures)
+    let p = c .before in
+    beyond-limits (callD _ _ _) _ (start p .pre)
+    (rw (p .before .before .is-class-number .ensures, p .before .is-program .ensures, p .is-designation .ensures)
     at (c .if1 .taken))
 
 class-at-requires : tie.Need-class-at-requires
 class-at-requires c κs =
-    let i = c .before in
-    let s = i .before .before .before .before .before in
-    let t =
-    within-limits (callD (s .args .c) (s .args .p) (s .args .d))
-    (rw (i .before .before .before .is-class-number .ensures, i .before .before .is-program .ensures, i .before .is-designation .ensures)
-    at (i .if1 .left)) in
+    let p = c .before in
+    let s = start (p .before) in
+    let t = within-limits (callD (s .args .c) (s .args .p) (s .args .d)) (within p) in
     (s .pre, search ands)
 
 is-open-at-requires : tie.Need-is-open-at-requires
@@ -41,20 +74,18 @@ same-length c = search needs
 
 returns-2 : tie.Need-returns-2
 returns-2 c =
-    let i = c .before .before .before .before .before in
-    designation-not-open _ _ _ _ (i .before .before .before .before .before .pre)
-    (rw (i .before .before .before .is-class-number .ensures, i .before .before .is-program .ensures, i .before .is-designation .ensures)
-    at (i .if1 .left))
-    (rw (c .before .is-open-at .ensures) at (c .if2 .taken))
+    let asked = c .before in
+    let p = asked .before .before .before .before in
+    designation-not-open _ _ _ _ (start (p .before) .pre) (within p)
+    (rw (asked .is-open-at .ensures) at (c .if2 .taken))
 
 figures-at-requires : tie.Need-figures-at-requires
 figures-at-requires c κs =
-    let o = c .before in
-    let a = o .before .before .before in
-    let i = a .before .before in
+    let p = c .before in
     omega (
       arith,
-      open-room _ (i .before .before .before .before .before .pre) _ _ (rw (o .before .is-open-at .ensures) at (o .if2 .left)) (a .class-at .ensures),
+      open-room _ (start (limited p .before) .pre) _ _ (rw (p .before .is-open-at .ensures) at (p .if2 .left))
+          (sought p .class-at .ensures),
     )
 
 claim-of-requires : tie.Need-claim-of-requires
@@ -68,19 +99,11 @@ same-length-2 c = search needs
 
 returns-3 : tie.Need-returns-3
 returns-3 c =
-    let a = c .before .before .before in
-    let g = a .before .before in
-    let o = g .before .before in
-    let i = o .before .before .before .before .before in
-    designation-refused _ _ _ _ (i .before .before .before .before .before .pre)
-    (rw (i .before .before .before .is-class-number .ensures, i .before .before .is-program .ensures, i .before .is-designation .ensures)
-    at (i .if1 .left)) _ _
-    (record {
-      is-open = rw (o .before .is-open-at .ensures) at (o .if2 .left);
-      place = o .before .before .before .class-at .ensures;
-      said = g .figures-at .ensures;
-    })
-    _ _ (a .claim-of .ensures) (c .before .claim .given .1)
+    let claimed = c .before .before .before in
+    let read = claimed .before .before in
+    let p = limited (read .before .before) in
+    designation-refused _ _ _ _ (start (p .before) .pre) (within p) _ _ (found read) _ _ (claimed .claim-of .ensures)
+    (c .before .claim .given .1)
 
 enum-told : tie.Need-enum-told
 enum-told c = search needs
@@ -90,41 +113,26 @@ with-designation-requires c κs = search needs
 
 store-figures-requires : tie.Need-store-figures-requires
 store-figures-requires c κs =
-    let g = c .before .before .before .before .before .before in
-    let o = g .before .before in
-    let i = o .before .before .before .before .before in
-    let s = i .before .before .before .before .before in
-    designation-storable _ (s .args .p) (s .args .d) _ (s .pre)
-    (rw (i .before .before .before .is-class-number .ensures, i .before .before .is-program .ensures, i .before .is-designation .ensures)
-    at (i .if1 .left)) _ _
-    (record {
-      is-open = rw (o .before .is-open-at .ensures) at (o .if2 .left);
-      place = o .before .before .before .class-at .ensures;
-      said = g .figures-at .ensures;
-    })
-    _ (c .with-designation .ensures)
+    let claimed = c .before .before .before .before in
+    let read = claimed .before .before in
+    let p = limited (read .before .before) in
+    let s = start (p .before) in
+    designation-storable _ (s .args .p) (s .args .d) _ (s .pre) (within p) _ _ (found read) _
+    (c .with-designation .ensures)
 
 same-length-3 : tie.Need-same-length-3
 same-length-3 c = search needs
 
 returns-4 : tie.Need-returns-4
 returns-4 c =
-    let n = c .before .before .before in
-    let t = n .before .before in
-    let a = t .before .before in
-    let g = a .before .before in
-    let o = g .before .before in
-    let i = o .before .before .before .before .before in
-    designation-set _ _ _ _ (i .before .before .before .before .before .pre)
-    (rw (i .before .before .before .is-class-number .ensures, i .before .before .is-program .ensures, i .before .is-designation .ensures)
-    at (i .if1 .left)) _ _
-    (record {
-      is-open = rw (o .before .is-open-at .ensures) at (o .if2 .left);
-      place = o .before .before .before .class-at .ensures;
-      said = g .figures-at .ensures;
-    })
-    _ (n .with-designation .ensures) _ _ (a .claim-of .ensures) (t .enum-told .given .1)
-    (c .before .before .store-figures .ensures)
+    let stored = c .before .before in
+    let made = stored .before in
+    let granted = made .before .before in
+    let claimed = granted .before .before in
+    let read = claimed .before .before in
+    let p = limited (read .before .before) in
+    designation-set _ _ _ _ (start (p .before) .pre) (within p) _ _ (found read) _ (made .with-designation .ensures) _ _
+    (claimed .claim-of .ensures) (granted .enum-told .given .1) (stored .store-figures .ensures)
 
 pub designate-spec : {M : Type 1} → statement M
 designate-spec =

@@ -1,23 +1,42 @@
 -- `open_class` keeps the contract of `O`: each way out by its law. Assumes nothing.
+use mathlib.Core.Path.{_≡_}
+use mathlib.Core.Bool.{false, not}
 use native.Mathlib.Omega.{arith}
-use Rattle.book.specs.Calls.{callO}
-use Rattle.class_call.proofs.Ways.{beyond-limits, within-limits, already-open, out-of-words, class-insertable, class-opened}
 use borrow.Author.Needs.{needs}
+use Rattle.book.specs.Facts.{isOpen}
+use Rattle.book.specs.Layout.{factsOf}
+use Rattle.book.specs.Calls.{callO, isWritten}
 use Rattle.place.proofs.Heads.{book-room, book-long}
+use Rattle.class_call.proofs.Ways.{beyond-limits, within-limits, already-open, out-of-words, class-openable, class-opened}
 use Rattle.class_call.proofs.open_class.Statement.{statement}
 use Rattle.class_call.proofs.open_class.Tie as tie
+
+-- before the place where the class is not open: that where it was looked up, and that where the limits were passed
+abbrev sought : tie.Else2 → tie.After-class-at
+sought p = p .before .before .before
+
+abbrev limited : tie.Else2 → tie.Else1
+limited p = sought p .before .before
+
+abbrev start : tie.Else1 → tie.Start
+start p = p .before .before .before
+
+within : (p : tie.Else1) → not (isWritten (callO (start p .args .c))) ≡ false
+within p = rw (p .before .is-class-number .ensures) at (p .if1 .left)
+
+is-closed : (p : tie.Else2) → let a = start (limited p) .args in isOpen (a .c) (factsOf (a .run .now) .classes) ≡ false
+is-closed p = rw (p .before .is-open-at .ensures) at (p .if2 .left)
 
 is-class-number-requires : tie.Need-is-class-number-requires
 is-class-number-requires c κs = search needs
 
 returns : tie.Need-returns
-returns c = beyond-limits (callO _) _ (c .before .before .before .pre) (rw (c .before .is-class-number .ensures) at (c .if1 .taken))
+returns c =
+    let tested = c .before in
+    beyond-limits (callO _) _ (tested .before .before .pre) (rw (tested .is-class-number .ensures) at (c .if1 .taken))
 
 class-at-requires : tie.Need-class-at-requires
-class-at-requires c κs =
-    let i = c .before in
-    let s = i .before .before .before in
-    (s .pre, within-limits (callO (s .args .c)) (rw (i .before .is-class-number .ensures) at (i .if1 .left)))
+class-at-requires c κs = let p = c .before in (start p .pre, within-limits (callO (start p .args .c)) (within p))
 
 is-open-at-requires : tie.Need-is-open-at-requires
 is-open-at-requires c κs = search needs
@@ -27,17 +46,16 @@ same-length c = search needs
 
 returns-2 : tie.Need-returns-2
 returns-2 c =
-    let i = c .before .before .before .before .before in
-    already-open _ _ (i .before .before .before .pre) (rw (i .before .is-class-number .ensures) at (i .if1 .left))
-    (rw (c .before .is-open-at .ensures) at (c .if2 .taken))
+    let asked = c .before in
+    let p = asked .before .before .before .before in
+    already-open _ _ (start p .pre) (within p) (rw (asked .is-open-at .ensures) at (c .if2 .taken))
 
 used-requires : tie.Need-used-requires
 used-requires c κs = search needs
 
 add-if3 : tie.Need-add-if3
 add-if3 c =
-    let i = c .before .before .before .before .before .before .before in
-    let book = i .before .before .before .pre in
+    let book = start (limited (c .before .before)) .pre in
     omega (arith, c .used .ensures, book-room _ book, book-long _ book)
 
 same-length-2 : tie.Need-same-length-2
@@ -45,34 +63,32 @@ same-length-2 c = search needs
 
 returns-3 : tie.Need-returns-3
 returns-3 c =
-    let u = c .before in
-    let o = u .before .before in
-    let i = o .before .before .before .before .before in
-    out-of-words _ _ (i .before .before .before .pre) (rw (i .before .is-class-number .ensures) at (i .if1 .left))
-    (rw (o .before .is-open-at .ensures) at (o .if2 .left)) _ (u .used .ensures) (c .if3 .taken)
+    let counted = c .before in
+    let p = counted .before .before in
+    let q = limited p in
+    out-of-words _ _ (start q .pre) (within q) (is-closed p) _ (counted .used .ensures) (c .if3 .taken)
 
 insert-class-requires : tie.Need-insert-class-requires
 insert-class-requires c κs =
-    let j = c .before in
-    let u = j .before in
-    let o = u .before .before in
-    let a = o .before .before .before in
-    let i = a .before .before in
-    class-insertable _ _ (i .before .before .before .pre) (rw (i .before .is-class-number .ensures) at (i .if1 .left))
-    (rw (o .before .is-open-at .ensures) at (o .if2 .left)) _ (u .used .ensures) (j .if3 .left) _ (a .class-at .ensures)
+    let fits = c .before in
+    let counted = fits .before in
+    let p = counted .before .before in
+    let q = limited p in
+    class-openable _ _ (start q .pre) (within q) (is-closed p) _ (counted .used .ensures) (fits .if3 .left) _
+    (sought p .class-at .ensures)
 
 same-length-3 : tie.Need-same-length-3
 same-length-3 c = search needs
 
 returns-4 : tie.Need-returns-4
 returns-4 c =
-    let j = c .before .before .before .before in
-    let u = j .before in
-    let o = u .before .before in
-    let i = o .before .before .before .before .before in
-    class-opened _ _ (i .before .before .before .pre) (rw (i .before .is-class-number .ensures) at (i .if1 .left))
-    (rw (o .before .is-open-at .ensures) at (o .if2 .left)) _ (u .used .ensures) (j .if3 .left) _
-    (c .before .before .insert-class .ensures)
+    let put = c .before .before in
+    let fits = put .before .before in
+    let counted = fits .before in
+    let p = counted .before .before in
+    let q = limited p in
+    class-opened _ _ (start q .pre) (within q) (is-closed p) _ (counted .used .ensures) (fits .if3 .left) _
+    (put .insert-class .ensures)
 
 pub open-class-spec : {M : Type 1} → statement M
 open-class-spec =

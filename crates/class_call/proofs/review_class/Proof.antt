@@ -1,23 +1,65 @@
 -- `review_class` keeps the contract of `R`: each way out by its law. Assumes nothing.
+use Prim.Native.Nat.{_+_}
+use mathlib.Core.Path.{_≡_}
+use mathlib.Core.Bool.{false, not}
 use native.Mathlib.Omega.{arith}
-use Rattle.book.specs.Calls.{callR}
-use Rattle.class_call.proofs.Ways.{beyond-limits, within-limits, open-within, open-room, review-not-open, review-no-close, review-count, review-made}
 use borrow.Author.Needs.{needs}
+use Rattle.book.specs.Layout.{factsOf}
+use Rattle.book.specs.Calls.{callR, isWritten, isNotOpen}
 use Rattle.place.proofs.Heads.{book-long}
+use Rattle.removal.specs.Asked.{Reviewable}
+use Rattle.class_call.proofs.Ways.{beyond-limits, within-limits, open-within, open-room, Found, review-not-open, review-no-close, class-reviewable, review-count, review-made}
 use Rattle.class_call.proofs.review_class.Statement.{statement}
 use Rattle.class_call.proofs.review_class.Tie as tie
+
+-- before the place where the class is open: that where it was looked up, and that where the limits were passed
+abbrev sought : tie.Else2 → tie.After-class-at
+sought p = p .before .before .before
+
+abbrev limited : tie.Else2 → tie.Else1
+limited p = sought p .before .before
+
+abbrev start : tie.Else1 → tie.Start
+start p = p .before .before .before
+
+within : (p : tie.Else1) → not (isWritten (callR (start p .args .c))) ≡ false
+within p = rw (p .before .is-class-number .ensures) at (p .if1 .left)
+
+is-open : (p : tie.Else2) → let a = start (limited p) .args in isNotOpen (factsOf (a .run .now)) (a .c) ≡ false
+is-open p = rw (p .before .is-open-at .ensures) at (p .if2 .left)
+
+found :
+    (p : tie.After-figures-at)
+    → let q = p .before .before in
+    let s = start (limited q) in
+    Found (s .args .run .now) (s .args .c) (sought q .class-at .result) (p .figures-at .result)
+found p =
+    let q = p .before .before in
+    record { is-open = is-open q; place = sought q .class-at .ensures; said = p .figures-at .ensures }
+
+-- before the place where the series end: that where the figures were read
+abbrev read : tie.After-next-class → tie.After-figures-at
+read p = p .before .before .before .before
+
+abbrev reviewable :
+    (p : tie.After-next-class)
+    → let q = read p .before .before in
+    Reviewable (start (limited q) .args .run .now) (sought q .class-at .result + 3) (p .next-class .result)
+    (read p .figures-at .result .close)
+reviewable p =
+    let q = limited (read p .before .before) in
+    class-reviewable _ _ (start q .pre) (within q) _ _ (found (read p)) _ (p .next-class .ensures .0)
 
 is-class-number-requires : tie.Need-is-class-number-requires
 is-class-number-requires c κs = search needs
 
 returns : tie.Need-returns
-returns c = beyond-limits (callR _) _ (c .before .before .before .pre) (rw (c .before .is-class-number .ensures) at (c .if1 .taken))
+returns c =
+    let tested = c .before in
+    beyond-limits (callR _) _ (tested .before .before .pre) (rw (tested .is-class-number .ensures) at (c .if1 .taken))
 
 class-at-requires : tie.Need-class-at-requires
-class-at-requires c κs =
-    let i = c .before in
-    let s = i .before .before .before in
-    (s .pre, within-limits (callR (s .args .c)) (rw (i .before .is-class-number .ensures) at (i .if1 .left)))
+class-at-requires c κs = let p = c .before in (start p .pre, within-limits (callR (start p .args .c)) (within p))
 
 is-open-at-requires : tie.Need-is-open-at-requires
 is-open-at-requires c κs = search needs
@@ -27,67 +69,48 @@ same-length c = search needs
 
 returns-2 : tie.Need-returns-2
 returns-2 c =
-    let i = c .before .before .before .before .before in
-    review-not-open _ _ (i .before .before .before .pre) (rw (i .before .is-class-number .ensures) at (i .if1 .left))
-    (rw (c .before .is-open-at .ensures) at (c .if2 .taken))
+    let asked = c .before in
+    let p = asked .before .before .before .before in
+    review-not-open _ _ (start p .pre) (within p) (rw (asked .is-open-at .ensures) at (c .if2 .taken))
 
 figures-at-requires : tie.Need-figures-at-requires
 figures-at-requires c κs =
-    let o = c .before in
-    let a = o .before .before .before in
-    let i = a .before .before in
-    omega (arith, open-room _ (i .before .before .before .pre) _ _ (rw (o .before .is-open-at .ensures) at (o .if2 .left)) (a .class-at .ensures))
+    let p = c .before in
+    omega (arith, open-room _ (start (limited p) .pre) _ _ (is-open p) (sought p .class-at .ensures))
 
 same-length-2 : tie.Need-same-length-2
 same-length-2 c = search needs
 
 returns-3 : tie.Need-returns-3
 returns-3 c =
-    let g = c .before .before in
-    let o = g .before .before in
-    let i = o .before .before .before .before .before in
-    review-no-close _ _ (i .before .before .before .pre) (rw (i .before .is-class-number .ensures) at (i .if1 .left)) _ _
-    (record {
-      is-open = rw (o .before .is-open-at .ensures) at (o .if2 .left);
-      place = o .before .before .before .class-at .ensures;
-      said = g .figures-at .ensures;
-    })
-    (c .if3 .taken)
+    let p = c .before .before in
+    let q = limited (p .before .before) in
+    review-no-close _ _ (start q .pre) (within q) _ _ (found p) (c .if3 .taken)
 
 add-from : tie.Need-add-from
 add-from c =
-    let o = c .before .before .before .before in
-    let a = o .before .before .before in
-    let i = a .before .before in
-    let book = i .before .before .before .pre in
-    omega (arith, open-room _ book _ _ (rw (o .before .is-open-at .ensures) at (o .if2 .left)) (a .class-at .ensures), book-long _ book)
+    let p = c .before .before .before .before in
+    let book = start (limited p) .pre in
+    omega (arith, open-room _ book _ _ (is-open p) (sought p .class-at .ensures), book-long _ book)
 
 next-class-requires : tie.Need-next-class-requires
 next-class-requires c κs =
-    let o = c .before .before .before .before .before in
-    let a = o .before .before .before in
-    let i = a .before .before in
-    let book = i .before .before .before .pre in
-    (book, (omega arith, open-within _ book _ _ (rw (o .before .is-open-at .ensures) at (o .if2 .left)) (a .class-at .ensures)))
+    let closed = c .before in
+    let p = closed .before .before .before .before in
+    let book = start (limited p) .pre in
+    (book, (omega arith, open-within _ book _ _ (is-open p) (sought p .class-at .ensures)))
 
 review-requires : tie.Need-review-requires
-review-requires c κs = search needs
+review-requires c κs = reviewable (c .before)
 
 cast-t24 : tie.Need-cast-t24
 cast-t24 c =
-    let n = c .before .before .before .before in
-    let g = n .before .before .before .before in
-    let o = g .before .before in
-    let i = o .before .before .before .before .before in
+    let reviewed = c .before .before in
+    let p = reviewed .before .before in
+    let q = limited (read p .before .before) in
     omega (
       arith,
-      review-count _ _ (i .before .before .before .pre) (rw (i .before .is-class-number .ensures) at (i .if1 .left)) _ _
-          (record {
-            is-open = rw (o .before .is-open-at .ensures) at (o .if2 .left);
-            place = o .before .before .before .class-at .ensures;
-            said = g .figures-at .ensures;
-          })
-          _ _ _ (n .next-class .ensures .0) (c .before .before .review .ensures),
+      review-count _ _ (start q .pre) (within q) _ _ (found (read p)) _ (reviewed .review .ensures (reviewable p) .0),
     )
 
 same-length-3 : tie.Need-same-length-3
@@ -95,18 +118,12 @@ same-length-3 c = search needs
 
 returns-4 : tie.Need-returns-4
 returns-4 c =
-    let n = c .before .before .before .before in
-    let j = n .before .before in
-    let g = j .before .before in
-    let o = g .before .before in
-    let i = o .before .before .before .before .before in
-    review-made _ _ (i .before .before .before .pre) (rw (i .before .is-class-number .ensures) at (i .if1 .left)) _ _
-    (record {
-      is-open = rw (o .before .is-open-at .ensures) at (o .if2 .left);
-      place = o .before .before .before .class-at .ensures;
-      said = g .figures-at .ensures;
-    })
-    _ _ _ (n .next-class .ensures .0) (c .before .before .review .ensures) (j .if3 .left)
+    let reviewed = c .before .before in
+    let p = reviewed .before .before in
+    let closed = p .before .before in
+    let q = limited (read p .before .before) in
+    review-made _ _ (start q .pre) (within q) _ _ (found (read p)) _ _ (reviewed .review .ensures (reviewable p))
+    (closed .if3 .left)
 
 pub review-class-spec : {M : Type 1} → statement M
 review-class-spec =

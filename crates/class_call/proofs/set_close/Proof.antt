@@ -1,12 +1,40 @@
 -- `set_close` keeps the contract of `C`: each way out by its law. Assumes nothing.
+use mathlib.Core.Path.{_≡_}
+use mathlib.Core.Bool.{false, not}
 use native.Mathlib.Omega.{arith}
-use Rattle.book.specs.Calls.{callC}
-use Rattle.book.proofs.Tests.{ands}
-use Rattle.class_call.proofs.Ways.{beyond-limits, within-limits, open-room}
-use Rattle.class_call.proofs.FigureWays.{close-not-open, close-storable, close-set}
 use borrow.Author.Needs.{needs}
+use Rattle.book.specs.Calls.{callC, isWritten}
+use Rattle.book.proofs.Tests.{ands}
+use Rattle.class_call.proofs.Ways.{beyond-limits, within-limits, open-room, Found}
+use Rattle.class_call.proofs.FigureWays.{close-not-open, close-storable, close-set}
 use Rattle.class_call.proofs.set_close.Statement.{statement}
 use Rattle.class_call.proofs.set_close.Tie as tie
+
+-- before the place where the class is open: that where it was looked up, and that where the limits were passed
+abbrev sought : tie.Else2 → tie.After-class-at
+sought p = p .before .before .before
+
+abbrev limited : tie.Else2 → tie.Else1
+limited p = sought p .before .before
+
+abbrev start : tie.Else1 → tie.Start
+start p = p .before .before .before .before
+
+within : (p : tie.Else1) → not (isWritten (callC (start p .args .c) (start p .args .p))) ≡ false
+within p = rw (p .before .before .is-class-number .ensures, p .before .is-price .ensures) at (p .if1 .left)
+
+found :
+    (p : tie.After-figures-at)
+    → let q = p .before .before in
+    let s = start (limited q) in
+    Found (s .args .run .now) (s .args .c) (sought q .class-at .result) (p .figures-at .result)
+found p =
+    let q = p .before .before in
+    record {
+      is-open = rw (q .before .is-open-at .ensures) at (q .if2 .left);
+      place = sought q .class-at .ensures;
+      said = p .figures-at .ensures;
+    }
 
 is-class-number-requires : tie.Need-is-class-number-requires
 is-class-number-requires c κs = search needs
@@ -16,17 +44,15 @@ is-price-requires c κs = search needs
 
 returns : tie.Need-returns
 returns c =
-    beyond-limits (callC _ _) _ (c .before .before .before .before .pre)
-    (rw (c .before .before .is-class-number .ensures, c .before .is-price .ensures) at (c .if1 .taken))
+    let tested = c .before in
+    beyond-limits (callC _ _) _ (tested .before .before .before .pre)
+    (rw (tested .before .is-class-number .ensures, tested .is-price .ensures) at (c .if1 .taken))
 
 class-at-requires : tie.Need-class-at-requires
 class-at-requires c κs =
-    let i = c .before in
-    let s = i .before .before .before .before in
-    let t =
-    within-limits (callC (s .args .c) (s .args .p))
-    (rw (i .before .before .is-class-number .ensures, i .before .is-price .ensures) at (i .if1 .left)) in
-    (s .pre, search ands)
+    let p = c .before in
+    let t = within-limits (callC (start p .args .c) (start p .args .p)) (within p) in
+    (start p .pre, search ands)
 
 is-open-at-requires : tie.Need-is-open-at-requires
 is-open-at-requires c κs = search needs
@@ -36,19 +62,17 @@ same-length c = search needs
 
 returns-2 : tie.Need-returns-2
 returns-2 c =
-    let i = c .before .before .before .before .before in
-    close-not-open _ _ _ (i .before .before .before .before .pre)
-    (rw (i .before .before .is-class-number .ensures, i .before .is-price .ensures) at (i .if1 .left))
-    (rw (c .before .is-open-at .ensures) at (c .if2 .taken))
+    let asked = c .before in
+    let p = asked .before .before .before .before in
+    close-not-open _ _ _ (start p .pre) (within p) (rw (asked .is-open-at .ensures) at (c .if2 .taken))
 
 figures-at-requires : tie.Need-figures-at-requires
 figures-at-requires c κs =
-    let o = c .before in
-    let a = o .before .before .before in
-    let i = a .before .before in
+    let p = c .before in
     omega (
       arith,
-      open-room _ (i .before .before .before .before .pre) _ _ (rw (o .before .is-open-at .ensures) at (o .if2 .left)) (a .class-at .ensures),
+      open-room _ (start (limited p) .pre) _ _ (rw (p .before .is-open-at .ensures) at (p .if2 .left))
+          (sought p .class-at .ensures),
     )
 
 with-close-requires : tie.Need-with-close-requires
@@ -56,35 +80,21 @@ with-close-requires c κs = search needs
 
 store-figures-requires : tie.Need-store-figures-requires
 store-figures-requires c κs =
-    let g = c .before .before in
-    let o = g .before .before in
-    let i = o .before .before .before .before .before in
-    close-storable _ _ _ (i .before .before .before .before .pre)
-    (rw (i .before .before .is-class-number .ensures, i .before .is-price .ensures) at (i .if1 .left)) _ _
-    (record {
-      is-open = rw (o .before .is-open-at .ensures) at (o .if2 .left);
-      place = o .before .before .before .class-at .ensures;
-      said = g .figures-at .ensures;
-    })
-    _ (c .with-close .ensures)
+    let read = c .before .before in
+    let p = limited (read .before .before) in
+    close-storable _ _ _ (start p .pre) (within p) _ _ (found read) _ (c .with-close .ensures)
 
 same-length-2 : tie.Need-same-length-2
 same-length-2 c = search needs
 
 returns-3 : tie.Need-returns-3
 returns-3 c =
-    let n = c .before .before .before in
-    let g = n .before .before in
-    let o = g .before .before in
-    let i = o .before .before .before .before .before in
-    close-set _ _ _ (i .before .before .before .before .pre)
-    (rw (i .before .before .is-class-number .ensures, i .before .is-price .ensures) at (i .if1 .left)) _ _
-    (record {
-      is-open = rw (o .before .is-open-at .ensures) at (o .if2 .left);
-      place = o .before .before .before .class-at .ensures;
-      said = g .figures-at .ensures;
-    })
-    _ (n .with-close .ensures) _ (c .before .before .store-figures .ensures)
+    let stored = c .before .before in
+    let made = stored .before in
+    let read = made .before .before in
+    let p = limited (read .before .before) in
+    close-set _ _ _ (start p .pre) (within p) _ _ (found read) _ (made .with-close .ensures) _
+    (stored .store-figures .ensures)
 
 pub set-close-spec : {M : Type 1} → statement M
 set-close-spec =
