@@ -2,11 +2,13 @@
 
 use crate::books::Book;
 use crate::side::{work, Lent, Side, Work};
+use calls::Answer;
 use std::hint::black_box;
 use std::time::Instant;
 
-/// Different books, so that the processor can't learn one by heart, and the work on each. They are copied outside of the timed part, so that each call,
-/// whether it changes the book or not, is timed on the same words.
+/// Different books, so that the processor can't learn one by heart, and the work on each. They are
+/// copied outside of the timed part, so that each call, whether it changes the book or not, is
+/// timed on the same words.
 pub struct Batch<'a> {
     books: &'a [Book],
     works: &'a [Work],
@@ -37,7 +39,7 @@ impl<'a> Batch<'a> {
     }
 
     #[inline(always)]
-    fn timed(&mut self, once: impl Fn(&Work, &mut [u32], &mut Lent) -> (u32, u32)) -> f64 {
+    fn timed(&mut self, once: impl Fn(&Work, &mut [u32], &mut Lent) -> Answer) -> f64 {
         let start = Instant::now();
         for (run, what) in self.runs.iter_mut().zip(self.works) {
             black_box(once(what, black_box(run), &mut self.lent));

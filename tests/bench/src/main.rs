@@ -1,5 +1,7 @@
-//! Prints how long the proved functions take beside two versions in Rust, as ratios measured in one run: (b) is `tests/hand`, made for speed, and (a) is
-//! `tests/second`, written plainly. `bench sheet` times the sheet programs instead. The tables go to standard output, the nanoseconds to standard error.
+//! Prints how long the proved functions take beside two versions in Rust, as ratios measured in one
+//! run: (b) is `tests/hand`, made for speed, and (a) is `tests/second`, written plainly. `bench
+//! sheet` times the sheet programs instead. The tables go to standard output, the nanoseconds to
+//! standard error.
 
 mod books;
 mod clock;
@@ -9,8 +11,9 @@ mod proved;
 mod side;
 
 use books::Book;
+use calls::words::{places, used, CLASS};
+use calls::Call;
 use clock::{compare, Batch, Compared};
-use second::Call;
 use side::{work, Lent, Side, Work};
 
 const LENGTHS: [usize; 3] = [64, 4_096, 65_535];
@@ -58,7 +61,8 @@ fn rows_of(books: &[Book]) -> Vec<(&'static str, Vec<Work>)> {
     rows
 }
 
-/// Checks that all sides answer the same and leave the same words in all runs, and that a call is accepted, or refused where its row says so.
+/// Checks that all sides answer the same and leave the same words in all runs, and that a call is
+/// accepted, or refused where its row says so.
 fn check(name: &str, book: &Book, what: &Work, lent: &Lent) {
     let did = |side| {
         let (mut run, mut lent) = (book.run.clone(), lent.clone());
@@ -68,7 +72,7 @@ fn check(name: &str, book: &Book, what: &Work, lent: &Lent) {
     let proved = did(Side::Proved);
     assert!(proved == did(Side::Hand), "{name}: (b) differs");
     assert!(proved == did(Side::Plain), "{name}: (a) differs");
-    let number = proved.0 .0;
+    let number = proved.0.number;
     match what {
         Work::IsBook => assert_eq!(number, 1),
         Work::Call(_) if name.ends_with("refused 6") => assert_eq!(number, 6),
@@ -117,8 +121,8 @@ fn table(title: &str, kind: Kind) {
     let mut rows: Vec<Row> = Vec::new();
     for length in LENGTHS {
         let books = books_of(kind, length);
-        let used = books[0].run[0] >> 10 & 65_535;
-        let classes = books[0].run.iter().filter(|word| **word >> 28 == 2).count();
+        let used = used(&books[0].run);
+        let classes = places(&books[0].run, CLASS).len();
         eprintln!("{title}, {used} of {length} words used, classes: {classes}");
         for (place, (name, works)) in rows_of(&books).iter().enumerate() {
             if place == rows.len() {
@@ -129,7 +133,11 @@ fn table(title: &str, kind: Kind) {
         }
     }
     println!("### {title}\n");
-    println!("| | 64 words: (b) best | median | (a) | 4,096: (b) best | median | (a) | 65,535: (b) best | median | (a) |");
+    print!("| |");
+    for length in ["64 words", "4,096", "65,535"] {
+        print!(" {length}: (b) best | median | (a) |");
+    }
+    println!();
     println!("|---|---|---|---|---|---|---|---|---|---|");
     for row in &rows {
         print!("| {} |", row.name);
@@ -148,7 +156,8 @@ fn small(ratio: f64) -> String {
     format!("{ratio:.places$}")
 }
 
-/// The proved function's time for each word of the run, as a ratio to that at 4,096 words; the three lengths are timed in turn.
+/// The proved function's time for each word of the run, as a ratio to that at 4,096 words; the
+/// three lengths are timed in turn.
 fn growth() {
     println!("### Time per word of the run, beside that at 4,096 words\n");
     println!("| | book | 64 | 4,096 | 65,535 |");

@@ -1,10 +1,10 @@
 //! The sheet programs on a sheet of a million mixed lines, through files and through pipes.
 
 use crate::clock::compare;
+use calls::program::piped;
 use std::fs::{read, write, File};
-use std::io::{Read, Write};
 use std::path::{Path, PathBuf};
-use std::process::{Command, Stdio};
+use std::process::Command;
 use std::time::Instant;
 
 const ROUNDS: usize = 21;
@@ -21,23 +21,9 @@ fn by_files(program: &Path, sheet: &Path, output: &Path) -> f64 {
 
 /// The same through pipes; and what was printed.
 fn by_pipes(program: &Path, sheet: &[u8]) -> (f64, Vec<u8>) {
-    let mut printed = Vec::with_capacity(sheet.len());
     let start = Instant::now();
-    let mut child = Command::new(program)
-        .stdin(Stdio::piped())
-        .stdout(Stdio::piped())
-        .spawn()
-        .unwrap();
-    let mut input = child.stdin.take().unwrap();
-    let mut output = child.stdout.take().unwrap();
-    std::thread::scope(|scope| {
-        scope.spawn(move || input.write_all(sheet).unwrap());
-        output.read_to_end(&mut printed).unwrap();
-    });
-    let status = child.wait().unwrap();
-    let time = start.elapsed();
-    assert!(status.success());
-    (time.as_secs_f64() * 1e9, printed)
+    let printed = piped(program, &[sheet]).unwrap();
+    (start.elapsed().as_secs_f64() * 1e9, printed)
 }
 
 /// A program that must have been built.

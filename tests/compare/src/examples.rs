@@ -1,9 +1,8 @@
 //! Document 01's examples, with the answers that it gives, asserted of both sides.
 
 use crate::pair::{same, same_words, Pair};
-use crate::tally::Tally;
-use crate::written;
-use second::{parse_line, printed, Reply};
+use calls::Tally;
+use second::{parse_line, printed};
 use strikebook::library;
 
 /// What `A` prints for these strikes.
@@ -29,13 +28,9 @@ fn list(length: usize, calls: &str, answers: &str, tally: &mut Tally) -> Result<
     for (line, wanted) in calls.iter().zip(answers) {
         let call = parse_line(line.as_bytes());
         let told = |text| format!("`{line}`: {text}");
-        let (reply, second) = pair.make(&call, &[7; 512], tally).map_err(told)?;
+        let (answer, second) = pair.make(&call, &[7; 512], tally).map_err(told)?;
         // The two sides agree; the strikes are those that the library wrote.
-        let strikes = match (written::letter(&call), reply.number) {
-            ('A', 0) => second[..reply.value as usize].to_vec(),
-            _ => Vec::new(),
-        };
-        let text = printed(&call, &Reply { strikes, ..reply });
+        let text = printed(&call, answer, &second);
         if text != wanted {
             let said = format!("both sides answer {text}, document 01 {wanted}");
             return Err(told(said));

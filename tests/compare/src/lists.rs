@@ -1,11 +1,8 @@
 //! Lists of calls on books of 1 to 5,000 words, compared after every call.
 
-use crate::books;
-use crate::draw::{self, Mix};
 use crate::pair::Pair;
-use crate::random::Random;
-use crate::tally::Tally;
-use crate::written::line;
+use calls::draw::{self, Mix};
+use calls::{books, Random, StrikeBook, Tally};
 
 /// A kind of list: how many there are, of how many calls.
 struct Kind {
@@ -16,21 +13,13 @@ struct Kind {
     start: fn(&mut Random) -> Result<Pair, String>,
 }
 
-/// A fresh book of a length up to `most`, made of any words.
-fn fresh(random: &mut Random, most: u64) -> Result<Pair, String> {
-    let length = random.between(1, most) as usize;
+/// A fresh book of any words.
+fn fresh(random: &mut Random, least: u32, most: u32) -> Result<Pair, String> {
+    let length = random.between(least, most) as usize;
     Pair::fresh(random.words(length))
 }
 
-/// A full book, or nearly so.
-fn full(random: &mut Random, least: u64, most: u64) -> Pair {
-    let length = random.between(least, most) as usize;
-    let used = length - random.index(4).min(length - 1);
-    let strikes = random.pick(&[2, 6, 25, 60]);
-    Pair::of(books::any(random, length, used, strikes))
-}
-
-const KINDS: [Kind; 7] = [
+const KINDS: [Kind; 8] = [
     Kind {
         name: "short books",
         lists: 2_000,
@@ -39,7 +28,7 @@ const KINDS: [Kind; 7] = [
             weights: [2, 8, 10, 5, 9, 40, 10, 6, 9, 3, 2],
             highest: 4,
         },
-        start: |random| fresh(random, 60),
+        start: |random| fresh(random, 1, 60),
     },
     Kind {
         name: "crowded expirations",
@@ -49,10 +38,17 @@ const KINDS: [Kind; 7] = [
             weights: [1, 2, 5, 2, 10, 60, 20, 5, 1, 1, 1],
             highest: 2,
         },
-        start: |random| {
-            let length = random.between(60, 150) as usize;
-            Pair::fresh(random.words(length))
+        start: |random| fresh(random, 60, 150),
+    },
+    Kind {
+        name: "crowded expirations of any grounds",
+        lists: 2_000,
+        calls: 60,
+        mix: Mix {
+            weights: [0, 0, 1, 0, 2, 20, 40, 3, 3, 1, 1],
+            highest: books::CROWDED,
         },
+        start: |random| Ok(Pair::of(books::crowded(random).0)),
     },
     Kind {
         name: "middling books",
@@ -62,7 +58,7 @@ const KINDS: [Kind; 7] = [
             weights: [1, 5, 8, 4, 8, 50, 8, 6, 12, 3, 1],
             highest: 12,
         },
-        start: |random| fresh(random, 600),
+        start: |random| fresh(random, 1, 600),
     },
     Kind {
         name: "full books",
@@ -72,7 +68,10 @@ const KINDS: [Kind; 7] = [
             weights: [2, 10, 6, 3, 6, 40, 5, 14, 8, 4, 1],
             highest: 40,
         },
-        start: |random| Ok(full(random, 1, 400)),
+        start: |random| {
+            let length = random.between(1, 400) as usize;
+            Ok(Pair::of(books::full(random, length)))
+        },
     },
     Kind {
         name: "books of any form",
@@ -84,8 +83,7 @@ const KINDS: [Kind; 7] = [
         },
         start: |random| {
             let length = random.between(1, 1_500) as usize;
-            let used = random.index(length);
-            Ok(Pair::of(books::any(random, length, used, 12)))
+            Ok(Pair::of(books::any(random, length)))
         },
     },
     Kind {
@@ -96,7 +94,10 @@ const KINDS: [Kind; 7] = [
             weights: [1, 6, 6, 3, 6, 40, 8, 12, 10, 6, 1],
             highest: 1_700,
         },
-        start: |random| Ok(full(random, 1_000, 5_000)),
+        start: |random| {
+            let length = random.between(1_000, 5_000) as usize;
+            Ok(Pair::of(books::full(random, length)))
+        },
     },
     Kind {
         name: "books near the caps",
@@ -107,7 +108,6 @@ const KINDS: [Kind; 7] = [
             highest: 162,
         },
         start: |random| {
-            // 160 classes take 481 words.
             let length = random.between(481, 600) as usize;
             Ok(Pair::of(books::near_caps(random, length)))
         },
@@ -118,12 +118,13 @@ fn one(kind: &Kind, seed: u64, tally: &mut Tally) -> Result<(), String> {
     let mut random = Random::new(seed);
     let mut pair = (kind.start)(&mut random)?;
     for place in 0..kind.calls {
-        let call = draw::call(&mut random, &pair.plain, &kind.mix);
-        let second = draw::second_run(&mut random, &pair.plain, &call);
+        let call = draw::call(&mut random, &pair.words, &kind.mix);
+        let needed = || pair.plain.clone().make(&call, &mut []).value;
+        let second = draw::second_run(&mut random, &call, needed);
         if let Err(text) = pair.make(&call, &second, tally) {
             return Err(format!(
                 "call {place}, `{}`, on {} words, with a second run of {}: {text}",
-                line(&call),
+                call.line(),
                 pair.words.len(),
                 second.len()
             ));

@@ -2,20 +2,15 @@
 //! examples, and more than a million generated calls from fixed seeds. It fails at the first
 //! difference, with its seed and its call.
 
-mod books;
-mod draw;
 mod examples;
 mod lists;
 mod pair;
 mod proved;
-mod random;
 mod runs;
 mod sheets;
-mod tally;
-mod written;
 
+use calls::Tally;
 use std::process::ExitCode;
-use tally::Tally;
 
 type Part = fn(&mut Tally) -> Result<(), String>;
 

@@ -1,8 +1,8 @@
 //! One call made on both sides, and what it left compared.
 
-use crate::proved;
-use crate::tally::Tally;
-use second::{make_on_words, Call, PlainBook, Reply};
+use crate::proved::{told, Proved};
+use calls::{Answer, Call, StrikeBook, Tally};
+use second::{make_on_words, PlainBook};
 use strikebook::library;
 
 /// A book on both sides: the words that the library has, and the plain book.
@@ -12,37 +12,34 @@ pub struct Pair {
 }
 
 impl Pair {
-    /// A fresh book, made by the library of any words.
-    pub fn fresh(mut words: Vec<u32>) -> Result<Pair, String> {
-        let plain = PlainBook::fresh(words.len()).expect("a good length");
-        let reply = library::fresh(&mut words);
-        same("the answers to fresh", (reply.number, reply.value), (0, 0))?;
-        same_words("the fresh run", &words, &plain.words())?;
-        Ok(Pair { plain, words })
+    /// A fresh book, made of any words of a good length.
+    pub fn fresh(words: Vec<u32>) -> Result<Pair, String> {
+        fresh(words).map(Pair::of)
     }
 
-    pub fn of(plain: PlainBook) -> Pair {
-        let words = plain.words();
+    /// A book that stands in its words.
+    pub fn of(words: Vec<u32>) -> Pair {
+        let plain = PlainBook::read(&words).expect("a book");
         Pair { plain, words }
     }
 
     /// Makes the call on both sides, with the same second run, and compares number, value and every
-    /// word of both runs. Answers the reply, and the second run as it is left.
+    /// word of both runs. Answers what both answered, and the second run as it is left.
     pub fn make(
         &mut self,
         call: &Call,
         second: &[u32],
         tally: &mut Tally,
-    ) -> Result<(Reply, Vec<u32>), String> {
+    ) -> Result<(Answer, Vec<u32>), String> {
         let mut expected = second.to_vec();
         let mut written = second.to_vec();
-        let reply = self.plain.make(call, &mut expected);
-        let answer = proved::make(&mut self.words, &mut written, call);
-        same_answer(answer, &reply)?;
+        let wanted = self.plain.make(call, &mut expected);
+        let answer = Proved(&mut self.words).make(call, &mut written);
+        same("the number and the value", answer, wanted)?;
         same_words("the run", &self.words, &self.plain.words())?;
         same_words("the second run", &written, &expected)?;
-        tally.count(call, reply.number);
-        Ok((reply, written))
+        tally.count(call, answer.number);
+        Ok((answer, written))
     }
 }
 
@@ -55,19 +52,25 @@ pub fn make_on_any(
 ) -> Result<(), String> {
     let (mut expected, mut left) = (words.to_vec(), words.to_vec());
     let (mut expected_second, mut left_second) = (second.to_vec(), second.to_vec());
-    let reply = make_on_words(&mut expected, &mut expected_second, call);
-    let answer = proved::make(&mut left, &mut left_second, call);
-    same_answer(answer, &reply)?;
+    let wanted = make_on_words(&mut expected, &mut expected_second, call);
+    let answer = Proved(&mut left).make(call, &mut left_second);
+    same("the number and the value", answer, wanted)?;
     same_words("the run", &left, &expected)?;
     same_words("the second run", &left_second, &expected_second)?;
-    tally.count(call, reply.number);
+    tally.count(call, answer.number);
     Ok(())
 }
 
-fn same_answer(library: library::Reply, second: &Reply) -> Result<(), String> {
-    let answer = (library.number, library.value);
-    let expected = (second.number, second.value);
-    same("the number and the value", answer, expected)
+/// Makes a fresh book of any words on both sides. Answers the words that it left.
+pub fn fresh(mut words: Vec<u32>) -> Result<Vec<u32>, String> {
+    let (number, expected) = match PlainBook::fresh(words.len()) {
+        Some(book) => (0, book.words()),
+        None => (1, words.clone()),
+    };
+    let answer = told(library::fresh(&mut words));
+    same("the answer to fresh", answer, Answer { number, value: 0 })?;
+    same_words("the run after fresh", &words, &expected)?;
+    Ok(words)
 }
 
 pub fn same<T: PartialEq + std::fmt::Debug>(
@@ -83,12 +86,13 @@ pub fn same<T: PartialEq + std::fmt::Debug>(
     ))
 }
 
-/// Compares two runs of one length.
+/// Compares two runs. Fails at the first word that differs.
 pub fn same_words(what: &str, library: &[u32], expected: &[u32]) -> Result<(), String> {
-    for (at, (word, wanted)) in library.iter().zip(expected).enumerate() {
-        if word != wanted {
-            return same(&format!("{what}, word {at}"), word, wanted);
-        }
+    if library == expected {
+        return Ok(());
     }
-    Ok(())
+    let pairs = library.iter().zip(expected);
+    let at = pairs.take_while(|(word, wanted)| word == wanted).count();
+    let what = format!("{what}, word {at}");
+    same(&what, library.get(at), expected.get(at))
 }

@@ -1,29 +1,78 @@
-//! One call made through the static library.
+//! The calls through the static library.
 
-use second::Call;
+use calls::{Answer, StrikeBook};
 use strikebook::library::{self, Reply};
 
-/// Makes one call, whose numbers have 32 bits. A malformed line is made as a sheet of one empty line.
+/// A lent run of any words.
+pub struct Proved<'a>(pub &'a mut [u32]);
+
 #[inline(always)]
-pub fn make(run: &mut [u32], second: &mut [u32], call: &Call) -> Reply {
-    let n = |number: u64| u32::try_from(number).expect("a number of 32 bits");
-    match *call {
-        Call::M { m } => library::set_month(run, n(m)),
-        Call::O { c } => library::open_class(run, n(c)),
-        Call::C { c, p } => library::set_close(run, n(c), n(p)),
-        Call::V { c, n: volume } => library::set_volume(run, n(c), n(volume)),
-        Call::D { c, p, d } => library::designate(run, n(c), n(p), n(d)),
-        Call::L { c, m, h } => library::list_strike(run, n(c), n(m), n(h)),
-        Call::J { c, m, h } => library::judge_strike(run, n(c), n(m), n(h)),
-        Call::X { c, m, h } => library::delist_strike(run, n(c), n(m), n(h)),
-        Call::I { c, m, h, a, b } => library::mark_strike(run, n(c), n(m), n(h), n(a), n(b)),
-        Call::R { c } => library::review_class(run, n(c)),
-        Call::A { c, m } => library::list_permitted(run, second, n(c), n(m)),
-        Call::Malformed => {
-            let mut answers = [0; 2];
-            library::run_sheet(run, second, b"\n", &mut answers);
-            let [number, value] = answers;
-            Reply { number, value }
-        }
+pub fn told(reply: Reply) -> Answer {
+    let Reply { number, value } = reply;
+    Answer { number, value }
+}
+
+impl StrikeBook for Proved<'_> {
+    #[inline(always)]
+    fn set_month(&mut self, m: u32) -> Answer {
+        told(library::set_month(self.0, m))
+    }
+
+    #[inline(always)]
+    fn open_class(&mut self, c: u32) -> Answer {
+        told(library::open_class(self.0, c))
+    }
+
+    #[inline(always)]
+    fn set_close(&mut self, c: u32, p: u32) -> Answer {
+        told(library::set_close(self.0, c, p))
+    }
+
+    #[inline(always)]
+    fn set_volume(&mut self, c: u32, n: u32) -> Answer {
+        told(library::set_volume(self.0, c, n))
+    }
+
+    #[inline(always)]
+    fn designate(&mut self, c: u32, p: u32, d: u32) -> Answer {
+        told(library::designate(self.0, c, p, d))
+    }
+
+    #[inline(always)]
+    fn list_strike(&mut self, c: u32, m: u32, h: u32) -> Answer {
+        told(library::list_strike(self.0, c, m, h))
+    }
+
+    #[inline(always)]
+    fn judge_strike(&mut self, c: u32, m: u32, h: u32) -> Answer {
+        told(library::judge_strike(self.0, c, m, h))
+    }
+
+    #[inline(always)]
+    fn delist_strike(&mut self, c: u32, m: u32, h: u32) -> Answer {
+        told(library::delist_strike(self.0, c, m, h))
+    }
+
+    #[inline(always)]
+    fn mark_strike(&mut self, c: u32, m: u32, h: u32, a: u32, b: u32) -> Answer {
+        told(library::mark_strike(self.0, c, m, h, a, b))
+    }
+
+    #[inline(always)]
+    fn review_class(&mut self, c: u32) -> Answer {
+        told(library::review_class(self.0, c))
+    }
+
+    #[inline(always)]
+    fn list_permitted(&mut self, second: &mut [u32], c: u32, m: u32) -> Answer {
+        told(library::list_permitted(self.0, second, c, m))
+    }
+
+    /// As the one line, an empty one, of a sheet.
+    fn malformed(&mut self) -> Answer {
+        let mut answers = [0; 2];
+        library::run_sheet(self.0, &mut [], b"\n", &mut answers);
+        let [number, value] = answers;
+        Answer { number, value }
     }
 }

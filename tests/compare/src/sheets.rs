@@ -1,12 +1,9 @@
 //! Whole sheets of lines and of noise, over books and over runs that are none.
 
-use crate::books;
-use crate::draw::{self, Mix};
 use crate::pair::{same, same_words};
-use crate::random::Random;
-use crate::runs::damaged;
-use crate::tally::Tally;
-use crate::written::{letter, line_of, numbers};
+use crate::proved::Proved;
+use calls::draw::Mix;
+use calls::{books, runs, sheets, Random, StrikeBook, Tally};
 use second::{lines, parse_line, PlainBook};
 use strikebook::library;
 
@@ -17,89 +14,12 @@ const MIX: Mix = Mix {
     highest: 5,
 };
 
-/// A number written wrongly or beyond its limits: with a leading zero, with more than 8, 32 or 64
-/// bits, very long, with a byte that is no digit.
-fn odd(random: &mut Random, number: u64) -> String {
-    let wide = u128::from(number);
-    match random.below(9) {
-        0 => format!("0{number}"),
-        1 => (wide + (1 << 32)).to_string(),
-        2 => (wide + (1 << 64)).to_string(),
-        3 => (wide + 100_000_000).to_string(),
-        4 => (wide + 256).to_string(),
-        5 => format!("{number}{}", "0".repeat(random.index(400))),
-        6 => format!("{}{number}", "9".repeat(random.index(30))),
-        7 => format!("{number}{}", random.pick(&[" ", ".", "x", "\t", "\r", "-"])),
-        _ => format!("{}{number}", random.pick(&[" ", "+", "-", "\t"])),
-    }
-}
-
-/// Lines of calls drawn over the book that they make; `oddly` writes some numbers oddly.
-fn calls(random: &mut Random, start: &[u32], oddly: bool) -> Vec<u8> {
-    let mut book = PlainBook::read(start)
-        .unwrap_or_else(|| PlainBook::fresh(64).expect("64 is a good length"));
-    let mut sheet = String::new();
-    for _ in 0..random.below(70) {
-        let call = draw::call(random, &book, &MIX);
-        book.make(&call, &mut []);
-        let mut written = Vec::new();
-        for number in numbers(&call) {
-            written.push(match oddly && random.one_in(6) {
-                true => odd(random, number),
-                false => number.to_string(),
-            });
-        }
-        sheet.push_str(&line_of(letter(&call), &written));
-        sheet.push('\n');
-    }
-    sheet.into_bytes()
-}
-
-fn noise(random: &mut Random) -> Vec<u8> {
-    let alphabet: &[u8] = random.pick(&[
-        &b"MOCVDLJXIRA 0123456789\n"[..],
-        &b"MO 1234567\n"[..],
-        &b"\n \r\t\0M 1\n"[..],
-    ]);
-    let any = random.one_in(2);
-    let mut sheet = Vec::new();
-    for _ in 0..random.below(500) {
-        sheet.push(match any {
-            true => random.below(256) as u8,
-            false => random.pick(alphabet),
-        });
-    }
-    sheet
-}
-
-/// A few bytes replaced, put in, taken out or turned.
-fn damage(random: &mut Random, sheet: &mut Vec<u8>) {
-    for _ in 0..random.between(1, 12) {
-        if sheet.is_empty() {
-            return;
-        }
-        let at = random.index(sheet.len());
-        let byte = match random.one_in(3) {
-            true => random.below(256) as u8,
-            false => random.pick(b"\n\n  \r\t0179MOLAJ"),
-        };
-        match random.below(4) {
-            0 => sheet[at] = byte,
-            1 => sheet.insert(at, byte),
-            2 => {
-                sheet.remove(at);
-            }
-            _ => sheet[at] ^= 1 << random.below(8),
-        }
-    }
-}
-
 /// A fresh book, any book, or a run that is mostly none.
 fn start(random: &mut Random) -> Vec<u32> {
     let length = random.between(1, 300) as usize;
     match random.below(8) {
-        0 => damaged(random),
-        1..=2 => books::any(random, length, length / 2, 8).words(),
+        0 => runs::damaged(random, 120),
+        1..=2 => books::any(random, length),
         _ => PlainBook::fresh(length).expect("a good length").words(),
     }
 }
@@ -125,8 +45,8 @@ fn read(
         let (number, value) = match &mut book {
             None => (1, 0),
             Some(book) => {
-                let reply = book.make(&call, &mut expected_second);
-                (reply.number, reply.value)
+                let answer = book.make(&call, &mut expected_second);
+                (answer.number, answer.value)
             }
         };
         tally.count(&call, number);
@@ -164,17 +84,10 @@ fn located(
 fn one(seed: u64, tally: &mut Tally) -> Result<(), String> {
     let mut random = Random::new(seed);
     let start = start(&mut random);
-    let mut sheet = match random.below(8) {
-        0 => noise(&mut random),
-        1..=2 => calls(&mut random, &start, true),
-        _ => calls(&mut random, &start, false),
-    };
-    if random.one_in(4) {
-        damage(&mut random, &mut sheet);
-    }
-    if random.one_in(3) {
-        sheet.pop();
-    }
+    let count = random.index(70);
+    let sheet = sheets::any(&mut random, start.clone(), &MIX, count, |run, call| {
+        Proved(run).make(call, &mut []);
+    });
     let room = random.pick(&[0, 5, 25, 31, 100, 700]);
     let second = random.words(room);
     let places = 2 * lines(&sheet).len();

@@ -12,8 +12,9 @@ pub fn fresh(run: &mut [u32]) -> bool {
     true
 }
 
-/// Whether `w` is a strike word that may follow `before`, an expiration or a strike. That h is at least 1 after an expiration, and at most 19,999 at
-/// the end of a stretch of strikes, is tested elsewhere.
+/// Whether `w` is a strike word that may follow `before`, an expiration or a strike. That h is at
+/// least 1 after an expiration, and at most 19,999 at the end of a stretch of strikes, is tested
+/// elsewhere.
 #[inline(always)]
 fn is_next_strike(before: u32, w: u32) -> bool {
     (w & 0xfff2_0000 == STRIKE) & ((w & KEY) as i32 > (before & KEY) as i32)

@@ -1,12 +1,13 @@
 //! Searches over the words of a book. They stop at the zeros past the words used, or at the end of the run.
 //!
-//! Each looks for the first word that is at most a bound, with its lowest field turned over where that counts: a higher kind still counts for more, and of
-//! two words of one kind the later counts for less.
+//! Each looks for the first word that is at most a bound, with its lowest field turned over where
+//! that counts: a higher kind still counts for more, and of two words of one kind the later counts
+//! for less.
 
 use crate::word::{CLASS, EXPIRATION, STRIKE, VOLUME};
 
-/// The first place from `from` on where the word, its bits `turn` turned over and only those of `keep` kept, is at most `bound`; or, where none is
-/// before `to`, some place from `to` on.
+/// The first place from `from` on where the word, its bits `turn` turned over and only those of
+/// `keep` kept, is at most `bound`; or, where none is before `to`, some place from `to` on.
 #[inline(always)]
 fn first<const LANES: usize>(
     run: &[u32],
@@ -70,12 +71,14 @@ pub fn strike_from(run: &[u32], from: usize, h: u32) -> usize {
     )
 }
 
-/// Where the class `c` stands, or where its words would be put: the place of the first class word whose number is `c` or more, or the words used. Of
-/// three steps one halves the words and two split them where `c` is to be expected.
+/// Where the class `c` stands, or where its words would be put: the place of the first class word
+/// whose number is `c` or more, or the words used. Of three steps one halves the words and two
+/// split them where `c` is to be expected.
 #[inline]
 pub fn class_place(run: &[u32], used: usize, c: u32) -> usize {
-    // All classes before `low` are below c. Those from `high` on aren't, and none begins from `edge` on before `high`. `low` may pass `edge` by a
-    // word or two, and `high` may be the word before it.
+    // All classes before `low` are below c. Those from `high` on aren't, and none begins from
+    // `edge` on before `high`. `low` may pass `edge` by a word or two, and `high` may be the word
+    // before it.
     let (mut low, mut edge, mut high) = (1, used, used);
     // The last number before `low`, and that at `high`; 0 where unknown.
     let (mut below, mut above) = (0, 0);

@@ -297,7 +297,8 @@ pub fn review_class(run: &mut [u32], c: u32) -> Answer {
     // The lowest and the highest strike that aren't far from the close.
     let low = ((close.saturating_sub(500) + 49) / 50) as i32;
     let high = ((close + 500) / 50) as i32;
-    // Whether a strike goes if it is outside the marked ones: its ground is 1 or 3, it has no mark and is far. No expiration word passes for one.
+    // Whether a strike goes if it is outside the marked ones: its ground is 1 or 3, it has no mark
+    // and is far. No expiration word passes for one.
     let may_go = |w: u32| {
         let h = (w & 0x7fff) as i32;
         (w & (1 << 15 | MARKS) == 1 << 15) & ((h < low) | (h > high))

@@ -10,10 +10,12 @@ pub mod inner;
 mod permitted;
 mod rule;
 pub mod sheet;
+mod strike_book;
 mod word;
 
 pub use book::{fresh, is_book};
 pub use sheet::run_sheet;
+pub use strike_book::{Known, Tested};
 
 /// What a call answers: document 01's number, 0 if accepted, and the value.
 #[derive(Clone, Copy, PartialEq, Eq, Debug)]

@@ -8,7 +8,8 @@ use std::io::{ErrorKind, Read, Result, Write};
 
 const PIECE: usize = 1 << 16;
 
-/// More than a line of output can take: 512 strikes of five digits, a number and a count, each with a space or the line end.
+/// More than a line of output can take: 512 strikes of five digits, a number and a count, each with
+/// a space or the line end.
 const LONGEST: usize = 4_096;
 
 /// The lines of the answers without strikes: 0 to 15, and from 16 on the grounds. Each is its bytes, and how many.

@@ -1,4 +1,5 @@
-//! All permitted strikes of an expiration, for `A`: those below $64 as a set of bits, the others as stretches of the ladder between standing strikes.
+//! All permitted strikes of an expiration, for `A`: those below $64 as a set of bits, the others as
+//! stretches of the ladder between standing strikes.
 
 use crate::rule::Terms;
 use crate::word::{STRIKE, UNMARKED};
@@ -101,8 +102,8 @@ fn low(terms: &Terms, standing: &[u32]) -> u128 {
     }
 }
 
-/// Hands on the permitted strikes from $64 up, as stretches: the first strike, the step and the count. Here only the ladder is left, by $5 to $200
-/// and by $10 above.
+/// Hands on the permitted strikes from $64 up, as stretches: the first strike, the step and the
+/// count. Here only the ladder is left, by $5 to $200 and by $10 above.
 #[inline(always)]
 fn high(terms: &Terms, standing: &[u32], mut each: impl FnMut(u32, u32, u32)) {
     let reach = if terms.near { 0 } else { 2 };

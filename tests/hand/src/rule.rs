@@ -13,7 +13,8 @@ pub struct Terms {
     pub dollar_program: bool,
     /// Ground 2 may be had: near, a half class, P at most 500, volume at least 1,000.
     pub half_program: bool,
-    /// The lowest and the highest strike in range on grounds 0 and 1, and the ends of the range for a wing's two multiples of $5.
+    /// The lowest and the highest strike in range on grounds 0 and 1, and the ends of the range for
+    /// a wing's two multiples of $5.
     pub low: u32,
     pub high: u32,
 }
@@ -47,8 +48,9 @@ impl Terms {
         (self.close / 25).max(self.close / 50 + 5).min(11)
     }
 
-    /// The ground of a strike that isn't standing, or 11, 12 or 13. `below` and `above` are the words before and after its place among the standing
-    /// strikes; those that are no strikes don't count.
+    /// The ground of a strike that isn't standing, or 11, 12 or 13. `below` and `above` are the
+    /// words before and after its place among the standing strikes; those that are no strikes don't
+    /// count.
     #[inline(always)]
     pub fn judge(&self, h: u32, below: u32, above: u32) -> Answer {
         let rest = h % 10;
@@ -112,7 +114,8 @@ impl Terms {
     }
 }
 
-/// The fifth of the lowest strikes above `q`, the close in half dollars, at most 40: on whole dollars, on multiples of $5, or on the ladder.
+/// The fifth of the lowest strikes above `q`, the close in half dollars, at most 40: on whole
+/// dollars, on multiples of $5, or on the ladder.
 #[inline(always)]
 fn fifth_above(q: u32, near: bool, dollar: bool) -> u32 {
     if dollar {

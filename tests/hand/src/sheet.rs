@@ -26,14 +26,16 @@ impl Reader<'_> {
         u64::from_le_bytes(bytes)
     }
 
-    /// The numbers after a letter and a space, if they are all that the line still holds; the reader then is at the line's end. A number of more than
-    /// seven digits is beyond every limit and counts as none.
+    /// The numbers after a letter and a space, if they are all that the line still holds; the
+    /// reader then is at the line's end. A number of more than seven digits is beyond every limit
+    /// and counts as none.
     #[inline(always)]
     fn numbers<const N: usize>(&mut self) -> Option<[u32; N]> {
         let mut numbers = [0; N];
         for i in 0..N {
             let text = self.eight(self.at);
-            // Digits are 0 to 9 here, and have no high bit in `stops`. Bytes after the first other one may be marked wrongly.
+            // Digits are 0 to 9 here, and have no high bit in `stops`. Bytes after the first other
+            // one may be marked wrongly.
             let digits = text ^ 0x3030_3030_3030_3030;
             let stops =
                 (digits.wrapping_add(0x7676_7676_7676_7676) | digits) & 0x8080_8080_8080_8080;
@@ -70,8 +72,9 @@ fn decimal(digits: u64) -> u32 {
     (fours.wrapping_mul(42_949_672_960_001) >> 32) as u32
 }
 
-/// Makes the calls of a sheet over a run that is known to be a book, and hands on each line's letter, its answer and the second run; a line that is
-/// malformed, or has a number of more than seven digits, has no letter (0).
+/// Makes the calls of a sheet over a run that is known to be a book, and hands on each line's
+/// letter, its answer and the second run; a line that is malformed, or has a number of more than
+/// seven digits, has no letter (0).
 #[inline(always)]
 pub fn each_line(
     run: &mut [u32],
@@ -155,8 +158,9 @@ fn call(reader: &mut Reader, letter: u8, run: &mut [u32], second: &mut [u32]) ->
     })
 }
 
-/// Makes the calls of a whole sheet over a run that is tested once. Writes the number and the value of each answer to `answers`, two words a line, as
-/// far as it has places, and answers the number of lines.
+/// Makes the calls of a whole sheet over a run that is tested once. Writes the number and the value
+/// of each answer to `answers`, two words a line, as far as it has places, and answers the number
+/// of lines.
 pub fn run_sheet(run: &mut [u32], second: &mut [u32], sheet: &[u8], answers: &mut [u32]) -> usize {
     if !is_book(run) {
         let ends = sheet.iter().filter(|&&byte| byte == b'\n').count();

@@ -7,7 +7,8 @@ pub const VOLUME: u32 = 4 << 28;
 pub const EXPIRATION: u32 = 5 << 28;
 pub const STRIKE: u32 = 6 << 28;
 
-/// The kind and the widest number that orders words of one kind: h, or a month, or a class number with its designations.
+/// The kind and the widest number that orders words of one kind: h, or a month, or a class number
+/// with its designations.
 pub const KEY: u32 = 0xf000_7fff;
 
 /// All of a strike word but its marks.

@@ -1,18 +1,16 @@
-//! The rules: all closes up to $51 against the plain implementation, `A` against `J`, and document 01's closes at the edges.
+//! The rules: all closes up to $51 against the plain implementation, `A` against `J`, and document
+//! 01's closes at the edges.
 
-mod common;
-use common::*;
-use hand::inner;
-use second::{Call, PlainBook};
+use calls::books::{crowded, CROWDED};
+use calls::words::{class, half_dollars, head, places, CLOSE, EXPIRATION, STRIKE, VOLUME};
+use calls::{words, Random, StrikeBook};
+use hand::{inner, Known};
+use second::PlainBook;
 
 /// A book at `now` 4 with one class, 7, and no strike.
 fn one_class(close: u32, dollar: u32, half: u32, volume: u32) -> Vec<u32> {
-    let mut run = vec![
-        HEAD | 4 | 4 << 10,
-        CLASS | 7 | dollar << 14 | half << 16,
-        CLOSE | close,
-        VOLUME | volume,
-    ];
+    let class = class(7, dollar, half);
+    let mut run = vec![head(4, 4), class, CLOSE | close, VOLUME | volume];
     run.resize(60, 0);
     assert!(hand::is_book(&run));
     run
@@ -35,7 +33,7 @@ fn every_close() {
             if close > 501 && half != 0 && dollar == 0 {
                 continue;
             }
-            let run = one_class(close, dollar, half, volume);
+            let mut run = one_class(close, dollar, half, volume);
             let mut book = PlainBook::read(&run).unwrap();
             let highest = if close > 2_000 { 3 * close / 100 } else { 80 };
             let step = if close > 5_100 { highest / 150 } else { 1 };
@@ -44,14 +42,9 @@ fn every_close() {
                     .step_by(step as usize)
                     .filter(|h| *h < 20_000)
                 {
-                    let (c, m64, h64) = (7, u64::from(m), u64::from(h));
-                    let wanted = book.make(&Call::J { c, m: m64, h: h64 }, &mut []);
-                    let got = inner::judge_strike(&run, 7, m, h);
-                    assert_eq!(
-                        (got.number, got.value),
-                        (wanted.number, wanted.value),
-                        "{close} {dollar} {half} {volume} {m} {h}"
-                    );
+                    let wanted = book.judge_strike(7, m, h);
+                    let got = Known(&mut run).judge_strike(7, m, h);
+                    assert_eq!(got, wanted, "{close} {dollar} {half} {volume} {m} {h}");
                     tests += 1;
                 }
             }
@@ -63,19 +56,19 @@ fn every_close() {
 /// `A` writes what `J` accepts, between standing strikes of any grounds.
 #[test]
 fn all_permitted() {
-    let mut random = Seeded(0x5eed_0021);
+    let mut random = Random::new(0x5eed_0021);
     let mut strikes = 0;
-    for round in 0..30_000 {
-        let (run, m) = crowded_book(&mut random, round % 2 == 0);
-        let close = run[2] & 0xfffff;
+    for _ in 0..30_000 {
+        let (run, m) = crowded(&mut random);
+        let close = words::close(run[2]);
         let last = (close / 50 * 2 + 100).min(19_999);
         let wanted: Vec<u32> = (1..=last)
-            .filter(|h| inner::judge_strike(&run, 7, m, *h).number == 0)
+            .filter(|h| inner::judge_strike(&run, CROWDED, m, *h).number == 0)
             .collect();
         let filler = vec![0xdead_beef; 800];
         for length in [800, wanted.len(), wanted.len().saturating_sub(1)] {
             let mut second = filler[..length].to_vec();
-            let answer = inner::list_permitted(&run, &mut second, 7, m);
+            let answer = inner::list_permitted(&run, &mut second, CROWDED, m);
             if wanted.len() > length {
                 assert_eq!((answer.number, answer.value), (15, wanted.len() as u32));
                 assert_eq!(second, filler[..length]);
@@ -97,22 +90,22 @@ fn all_permitted() {
 /// `A` at closes up to the highest.
 #[test]
 fn high_closes() {
-    let mut random = Seeded(0x5eed_0022);
+    let mut random = Random::new(0x5eed_0022);
     for _ in 0..300 {
-        let close = 6_000 + random.below(994_000) as u32;
-        let mut run = one_class(close, random.below(3) as u32, 0, 0);
-        let m = random.one_of(&[5, 20]) as u32;
+        let close = 6_000 + random.below(994_000);
+        let mut run = one_class(close, random.below(3), 0, 0);
+        let m = random.pick(&[5, 20]);
         let mut h = close / 100;
         run.truncate(4);
         run.push(EXPIRATION | m);
         for _ in 0..80 {
-            h += 1 + random.below(u64::from(close) / 2_000 + 12) as u32;
+            h += 1 + random.below(close / 2_000 + 12);
             if h > 19_999 {
                 break;
             }
             run.push(STRIKE | h);
         }
-        run[0] = HEAD | 4 | (run.len() as u32) << 10;
+        run[0] = head(4, run.len());
         assert!(hand::is_book(&run));
         let wanted: Vec<u32> = (1..=19_999)
             .filter(|h| inner::judge_strike(&run, 7, m, *h).number == 0)
@@ -207,11 +200,8 @@ fn review() {
             hand::review_class(&mut run, 7).value,
             if marked { 1 } else { 2 }
         );
-        let left: Vec<u32> = run
-            .iter()
-            .filter(|w| **w >> 28 == 6)
-            .map(|w| w & 0x7fff)
-            .collect();
+        let strikes = places(&run, STRIKE);
+        let left: Vec<u32> = strikes.iter().map(|at| half_dollars(run[*at])).collect();
         assert_eq!(
             left,
             if marked {

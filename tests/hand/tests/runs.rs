@@ -1,73 +1,62 @@
 //! Whether a run is a book, against the plain implementation.
 
-mod common;
-use common::*;
+use calls::words::{head, month, CLASS, CLOSE, EXPIRATION, HEAD, STRIKE, VOLUME};
+use calls::{books, runs, Random};
+use second::PlainBook;
+
+fn is_book(run: &[u32]) -> bool {
+    PlainBook::read(run).is_some()
+}
 
 #[test]
 fn changed_books() {
-    let mut random = Seeded(0x5eed_0011);
+    let mut random = Random::new(0x5eed_0011);
     let (mut books, mut others) = (0, 0);
     for _ in 0..60_000 {
-        let shape = Shape::random(&mut random);
-        let longest = random.one_of(&[30, 600, 600]);
-        let length = 1 + random.below(longest) as usize;
-        let book = random_book(&mut random, &shape, length);
+        let most = random.pick(&[30, 600, 600]);
+        let length = 1 + random.index(most);
+        let book = books::any(&mut random, length);
         assert!(hand::is_book(&book), "{book:x?}");
         assert!(is_book(&book), "{book:x?}");
         for _ in 0..10 {
             let mut run = book.clone();
-            damage(&mut random, &mut run);
+            runs::damage(&mut random, &mut run);
             let wanted = is_book(&run);
             assert_eq!(hand::is_book(&run), wanted, "{run:x?}");
-            if wanted {
-                books += 1;
-            } else {
-                others += 1;
+            match wanted {
+                true => books += 1,
+                false => others += 1,
             }
         }
     }
     println!("{books} books and {others} others among the changed runs, no difference");
 }
 
-/// Each bit of each word turned over, and each word replaced by one of each kind, in books whose stretches end at all places of the blocks.
+/// Each bit of each word turned over, and each word replaced by one of each kind, in books whose
+/// stretches end at all places of the blocks.
 #[test]
 fn every_bit() {
-    let mut random = Seeded(0x5eed_0012);
+    let mut random = Random::new(0x5eed_0012);
     let mut tests = 0;
     for round in 0..120 {
-        let shape = Shape {
-            classes: random.one_of(&[2, 10, 60]),
-            spread: false,
-        };
-        let length = 60 + round + random.below(100) as usize;
-        let book = random_book(&mut random, &shape, length);
+        let length = 60 + round + random.index(100);
+        let book = books::any(&mut random, length);
         for at in 0..length {
             let mut run = book.clone();
-            let mut same = |w: u32| {
-                run[at] = w;
-                assert_eq!(
-                    hand::is_book(&run),
-                    is_book(&run),
-                    "{at} {w:x} in {book:x?}"
-                );
+            let mut same = |word: u32| {
+                run[at] = word;
+                let told = hand::is_book(&run);
+                assert_eq!(told, is_book(&run), "{at} {word:x} in {book:x?}");
                 tests += 1;
             };
             for bit in 0..32 {
                 same(book[at] ^ 1 << bit);
             }
-            for w in [
-                0,
-                HEAD | 1 << 10,
-                CLASS | 5,
-                CLOSE,
-                VOLUME,
-                EXPIRATION | book[0] & 1_023,
-                STRIKE,
-                STRIKE | 1,
-                STRIKE | 19_999,
-                STRIKE | 20_000,
-            ] {
-                same(w);
+            let kinds = [0, CLOSE, VOLUME, EXPIRATION | month(book[0])];
+            let heads = [HEAD | 1 << 10, CLASS | 5];
+            let strikes = [0, 1, 19_999, 20_000].map(|h| STRIKE | h);
+            for word in kinds.into_iter().chain(heads).chain(strikes) {
+                same(word);
             }
         }
     }
@@ -82,7 +71,7 @@ fn lengths() {
         assert_eq!(hand::fresh(&mut run), good);
         assert_eq!(hand::is_book(&run), good);
         if good {
-            assert_eq!(run, second::PlainBook::fresh(length).unwrap().words());
+            assert_eq!(run, PlainBook::fresh(length).unwrap().words());
         } else {
             assert!(run.iter().all(|w| *w == 0xffff_ffff));
         }
@@ -94,7 +83,7 @@ fn lengths() {
 fn caps() {
     for (field, cap) in [(14, 150), (16, 20)] {
         for classes in cap - 1..cap + 2 {
-            let mut run = vec![HEAD | (1 + 3 * classes) << 10];
+            let mut run = vec![head(0, 1 + 3 * classes as usize)];
             for c in 1..=classes {
                 run.extend([CLASS | c | 1 << field, CLOSE, VOLUME]);
             }

@@ -1,97 +1,38 @@
 //! Whole sheets against the plain implementation: `run_sheet`, and what the sheet program prints.
 
-mod common;
-use common::*;
-use second::{lines, make_on_words, parse_line, printed, Call, PlainBook};
-use std::io::Write;
-use std::process::{Command, Stdio};
+use calls::draw::Mix;
+use calls::program::{piped, same};
+use calls::{books, runs, sheets, Random, StrikeBook};
+use hand::Tested;
+use second::{lines, make_on_words, parse_line, sheet_program, PlainBook};
+use std::path::Path;
 
-fn text(call: &Call) -> String {
-    match *call {
-        Call::M { m } => format!("M {m}"),
-        Call::O { c } => format!("O {c}"),
-        Call::C { c, p } => format!("C {c} {p}"),
-        Call::V { c, n } => format!("V {c} {n}"),
-        Call::D { c, p, d } => format!("D {c} {p} {d}"),
-        Call::L { c, m, h } => format!("L {c} {m} {h}"),
-        Call::J { c, m, h } => format!("J {c} {m} {h}"),
-        Call::X { c, m, h } => format!("X {c} {m} {h}"),
-        Call::I { c, m, h, a, b } => format!("I {c} {m} {h} {a} {b}"),
-        Call::R { c } => format!("R {c}"),
-        Call::A { c, m } => format!("A {c} {m}"),
-        Call::Malformed => String::new(),
-    }
-}
-
-/// A sheet of random calls that suit the book as they change it; some lines damaged, some noise. Longer ones have fewer of the costly `A`.
-fn random_sheet(random: &mut Seeded, shape: &Shape, run: &[u32], count: usize) -> Vec<u8> {
-    let mut run = run.to_vec();
-    let mut sheet = Vec::new();
-    let damaged = random.one_of(&[0, 3, 20, 1_000]);
-    for _ in 0..count {
-        let call = random_call(random, shape, &run);
-        make(&mut run, &mut [0; 600], &call);
-        let mut line = text(&call).into_bytes();
-        if damaged != 0 && random.chance(damaged) {
-            match random.below(9) {
-                0 => {
-                    let at = random.below(line.len() as u64) as usize;
-                    line[at] = random.next() as u8;
-                }
-                1 => {
-                    let at = random.below(line.len() as u64 + 1) as usize;
-                    let byte = random.one_of(&[32, 48, 49, 10, 13, 9, 45, 43, 0, 255, 65]) as u8;
-                    line.insert(at, byte);
-                }
-                2 => {
-                    let at = random.below(line.len() as u64) as usize;
-                    line.remove(at);
-                }
-                3 => line.clear(),
-                4 => line.push(b' '),
-                5 => line.extend_from_slice(format!(" {}", random.below(9)).as_bytes()),
-                6 => {
-                    let digits = random.below(40) as usize;
-                    line.extend(std::iter::repeat(b'0' + random.below(10) as u8).take(digits));
-                }
-                7 => line = (0..random.below(30)).map(|_| random.next() as u8).collect(),
-                _ => {
-                    let letters = b"MOCVDLJXIRA 0123456789\n";
-                    line = (0..random.below(20))
-                        .map(|_| letters[random.below(letters.len() as u64) as usize])
-                        .collect();
-                }
-            }
-        }
-        sheet.extend(line);
-        sheet.push(b'\n');
-    }
-    if random.chance(3) {
-        sheet.pop();
-    }
-    if random.chance(8) {
-        sheet.push(b'\n');
-    }
-    if random.chance(10) {
-        sheet.truncate(random.below(sheet.len() as u64 + 1) as usize);
-    }
-    sheet
+/// A sheet of calls that suit the run as they change it, or noise; at times damaged.
+fn any_sheet(random: &mut Random, run: &[u32], count: usize) -> Vec<u8> {
+    let mix = Mix {
+        weights: [3, 7, 8, 5, 10, 30, 12, 8, 8, 5, 4],
+        highest: random.pick(&[1, 2, 4, 4, 10, 40, 200, 16_383]),
+    };
+    sheets::any(random, run.to_vec(), &mix, count, |run, call| {
+        Tested(run).make(call, &mut [0; 600]);
+    })
 }
 
 /// `run_sheet` against the plain implementation; answers the lines.
-fn compare(random: &mut Seeded, run: &[u32], sheet: &[u8]) -> usize {
-    let second = random_second(random);
+fn compare(random: &mut Random, run: &[u32], sheet: &[u8]) -> usize {
+    let room = random.pick(&[0, 5, 13, 30, 60, 512, 700]);
+    let second = random.words(room);
     let all = lines(sheet);
     let places = match random.below(4) {
-        0 => random.below(2 * all.len() as u64 + 3) as usize,
+        0 => random.index(2 * all.len() + 3),
         _ => 2 * all.len() + 3,
     };
     let mut wanted_run = run.to_vec();
     let mut wanted_second = second.clone();
     let mut wanted_answers = Vec::new();
     for line in &all {
-        let reply = make_on_words(&mut wanted_run, &mut wanted_second, &parse_line(line));
-        wanted_answers.extend([reply.number, reply.value]);
+        let answer = make_on_words(&mut wanted_run, &mut wanted_second, &parse_line(line));
+        wanted_answers.extend([answer.number, answer.value]);
     }
     wanted_answers.resize(wanted_answers.len().max(places), 0xdead_beef);
     wanted_answers.truncate(places);
@@ -114,22 +55,19 @@ fn compare(random: &mut Seeded, run: &[u32], sheet: &[u8]) -> usize {
 
 #[test]
 fn random_sheets() {
-    let mut random = Seeded(0x5eed_0031);
+    let mut random = Random::new(0x5eed_0031);
     let mut count = 0;
     for _ in 0..2_000 {
-        let shape = Shape::random(&mut random);
-        let length = 1 + random.below(600) as usize;
-        let run = if random.chance(2) {
-            PlainBook::fresh(length).unwrap().words()
-        } else {
-            random_book(&mut random, &shape, length)
+        let length = 1 + random.index(600);
+        let mut run = match random.one_in(2) {
+            true => PlainBook::fresh(length).unwrap().words(),
+            false => books::any(&mut random, length),
         };
-        let size = random.one_of(&[0, 1, 5, 60, 60]) as usize;
-        let sheet = random_sheet(&mut random, &shape, &run, size);
+        let size = random.pick(&[0, 1, 5, 60, 60]);
+        let sheet = any_sheet(&mut random, &run, size);
         count += compare(&mut random, &run, &sheet);
-        if random.chance(6) {
-            let mut run = run;
-            damage(&mut random, &mut run);
+        if random.one_in(6) {
+            runs::damage(&mut random, &mut run);
             count += compare(&mut random, &run, &sheet);
         }
     }
@@ -139,7 +77,7 @@ fn random_sheets() {
 /// Short lines of every kind of byte that matters, all ends and all lengths.
 #[test]
 fn noise() {
-    let mut random = Seeded(0x5eed_0032);
+    let mut random = Random::new(0x5eed_0032);
     let run = {
         let mut run = PlainBook::fresh(40).unwrap().words();
         let sheet = b"M 4\nO 7\nO 12\nC 7 200\nD 7 1 1\nL 7 5 4\n";
@@ -150,9 +88,7 @@ fn noise() {
     let mut count = 0;
     for _ in 0..150_000 {
         let length = random.below(25);
-        let sheet: Vec<u8> = (0..length)
-            .map(|_| bytes[random.below(bytes.len() as u64) as usize])
-            .collect();
+        let sheet: Vec<u8> = (0..length).map(|_| random.pick(bytes)).collect();
         count += compare(&mut random, &run, &sheet);
     }
     for line in [
@@ -183,50 +119,14 @@ fn noise() {
     println!("{count} lines, no difference");
 }
 
-/// What the sheet program prints.
-fn program(sheet: &[u8]) -> Vec<u8> {
-    let mut child = Command::new(env!("CARGO_BIN_EXE_hand"))
-        .stdin(Stdio::piped())
-        .stdout(Stdio::piped())
-        .spawn()
-        .unwrap();
-    let mut input = child.stdin.take().unwrap();
-    let sheet = sheet.to_vec();
-    let writer = std::thread::spawn(move || input.write_all(&sheet).unwrap());
-    let output = child.wait_with_output().unwrap();
-    writer.join().unwrap();
-    assert!(output.status.success());
-    output.stdout
-}
-
-/// What the plain implementation prints.
-fn wanted(sheet: &[u8]) -> String {
-    let mut book = PlainBook::fresh(4_096).unwrap();
-    let mut second = [0; 512];
-    let mut printed_text = String::new();
-    for line in lines(sheet) {
-        let call = parse_line(line);
-        let reply = book.make(&call, &mut second);
-        printed_text.push_str(&printed(&call, &reply));
-        printed_text.push('\n');
-    }
-    printed_text
+/// What the sheet program prints, its input in these parts.
+fn program(parts: &[&[u8]]) -> Vec<u8> {
+    piped(Path::new(env!("CARGO_BIN_EXE_hand")), parts).unwrap()
 }
 
 fn same_print(sheet: &[u8]) -> usize {
-    let got = program(sheet);
-    let wanted = wanted(sheet);
-    if got != wanted.as_bytes() {
-        let got = String::from_utf8_lossy(&got).into_owned();
-        for (n, (line, (got, wanted))) in lines(sheet)
-            .iter()
-            .zip(got.lines().zip(wanted.lines()))
-            .enumerate()
-        {
-            assert_eq!(got, wanted, "line {n}: {}", String::from_utf8_lossy(line));
-        }
-        panic!("{} bytes, wanted {}", got.len(), wanted.len());
-    }
+    let printed = program(&[sheet]);
+    same(sheet, &printed, sheet_program(sheet).as_bytes()).unwrap();
     lines(sheet).len()
 }
 
@@ -234,25 +134,23 @@ fn same_print(sheet: &[u8]) -> usize {
 fn the_example() {
     let sheet = b"M 4\nO 7\nC 7 200\nD 7 1 1\nA 7 5\nL 7 5 14\nL 7 5 16\nL 7 5 14\n";
     let text = "0\n0\n0\n0\n0 7 2 4 6 8 10 12 14\n0 1\n12\n6\n";
-    assert_eq!(program(sheet), text.as_bytes());
-    assert_eq!(program(&sheet[..sheet.len() - 1]), text.as_bytes());
-    assert_eq!(program(b""), b"");
-    assert_eq!(program(b"\n"), b"2\n");
+    assert_eq!(program(&[sheet]), text.as_bytes());
+    assert_eq!(program(&[&sheet[..sheet.len() - 1]]), text.as_bytes());
+    assert_eq!(program(&[]), b"");
+    assert_eq!(program(&[b"\n"]), b"2\n");
 }
 
 #[test]
 fn random_programs() {
-    let mut random = Seeded(0x5eed_0033);
+    let mut random = Random::new(0x5eed_0033);
+    let fresh = PlainBook::fresh(4_096).unwrap().words();
     let mut count = 0;
     for round in 0..60 {
-        let shape = Shape::random(&mut random);
-        let fresh = PlainBook::fresh(4_096).unwrap().words();
-        let size = if round % 10 == 0 {
-            9_000
-        } else {
-            random.below(400) as usize
+        let size = match round % 10 {
+            0 => 9_000,
+            _ => random.index(400),
         };
-        count += same_print(&random_sheet(&mut random, &shape, &fresh, size));
+        count += same_print(&any_sheet(&mut random, &fresh, size));
     }
     println!("{count} lines, no difference");
 }

@@ -49,10 +49,7 @@ fn read_class_word(word: u32) -> Option<(u32, u32, u32)> {
     let number = bits(word, 0, 13);
     let dollar = bits(word, 14, 15);
     let half = bits(word, 16, 17);
-    if !is_class_number(number.into())
-        || !is_designation(dollar.into())
-        || !is_designation(half.into())
-    {
+    if !is_class_number(number) || !is_designation(dollar) || !is_designation(half) {
         return None;
     }
     Some((number, dollar, half))
@@ -68,7 +65,7 @@ fn read_close_word(word: u32) -> Option<u32> {
         return None;
     }
     let close = bits(word, 0, 19);
-    if close != 0 && !is_price(close.into()) {
+    if close != 0 && !is_price(close) {
         return None;
     }
     Some(close)
@@ -84,7 +81,7 @@ fn read_volume_word(word: u32) -> Option<u32> {
         return None;
     }
     let volume = bits(word, 0, 23);
-    if !is_volume(volume.into()) {
+    if !is_volume(volume) {
         return None;
     }
     Some(volume)
@@ -114,7 +111,7 @@ fn read_strike_word(word: u32) -> Option<(u32, Strike)> {
     }
     let h = bits(word, 0, 14);
     let ground = bits(word, 15, 17);
-    if !is_strike(h.into()) || !is_ground(ground.into()) {
+    if !is_strike(h) || !is_ground(ground) {
         return None;
     }
     let put = bits(word, 18, 18);

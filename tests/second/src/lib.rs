@@ -2,12 +2,12 @@
 //! sets, no words until its own layout.
 
 mod book;
-mod calls;
 mod layout;
+mod on_book;
 mod rules;
 mod sheet;
 mod units;
 
 pub use book::{Class, PlainBook, Strike};
-pub use calls::{make_on_words, Call, Reply};
-pub use sheet::{lines, parse_line, printed};
+pub use on_book::make_on_words;
+pub use sheet::{lines, parse_line, printed, sheet_program};

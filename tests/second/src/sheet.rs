@@ -1,7 +1,8 @@
 //! "The calls of a list, as a sheet writes them", and what the sheet program
 //! prints.
 
-use crate::calls::{Call, Reply};
+use crate::PlainBook;
+use calls::{Answer, Call, StrikeBook};
 
 /// The lines of a sheet: each ends in byte 10. "The last line may lack its
 /// line end."
@@ -31,53 +32,44 @@ pub fn parse_line(line: &[u8]) -> Call {
             None => return Call::Malformed,
         }
     }
-    match (pieces[0], numbers.as_slice()) {
-        (b"M", &[m]) => Call::M { m },
-        (b"O", &[c]) => Call::O { c },
-        (b"C", &[c, p]) => Call::C { c, p },
-        (b"V", &[c, n]) => Call::V { c, n },
-        (b"D", &[c, p, d]) => Call::D { c, p, d },
-        (b"L", &[c, m, h]) => Call::L { c, m, h },
-        (b"J", &[c, m, h]) => Call::J { c, m, h },
-        (b"X", &[c, m, h]) => Call::X { c, m, h },
-        (b"I", &[c, m, h, a, b]) => Call::I { c, m, h, a, b },
-        (b"R", &[c]) => Call::R { c },
-        (b"A", &[c, m]) => Call::A { c, m },
+    match pieces[0] {
+        &[letter] => Call::of(char::from(letter), &numbers),
         _ => Call::Malformed,
     }
 }
 
 /// A number in base ten "without leading zeros", of any number of digits;
-/// one beyond `u64` saturates, which is beyond every limit.
-fn parse_number(digits: &[u8]) -> Option<u64> {
+/// one beyond 32 bits saturates, which is beyond every limit.
+fn parse_number(digits: &[u8]) -> Option<u32> {
     if digits.is_empty() {
         return None;
     }
     if digits[0] == b'0' && digits.len() > 1 {
         return None;
     }
-    let mut number: u64 = 0;
+    let mut number: u32 = 0;
     for digit in digits {
         if !digit.is_ascii_digit() {
             return None;
         }
-        let digit = u64::from(*digit - b'0');
+        let digit = u32::from(*digit - b'0');
         number = number.saturating_mul(10).saturating_add(digit);
     }
     Some(number)
 }
 
 /// "prints per line the number, then any value, then `A`'s strikes; a refusal
-/// prints its number, and for 15 on `A` the value too."
-pub fn printed(call: &Call, reply: &Reply) -> String {
-    let mut text = reply.number.to_string();
-    if prints_value(call, reply.number) {
-        text.push(' ');
-        text.push_str(&reply.value.to_string());
+/// prints its number, and for 15 on `A` the value too." The strikes are those
+/// at the front of the second run.
+pub fn printed(call: &Call, answer: Answer, second: &[u32]) -> String {
+    let mut text = answer.number.to_string();
+    if prints_value(call, answer.number) {
+        text.push_str(&format!(" {}", answer.value));
     }
-    for strike in &reply.strikes {
-        text.push(' ');
-        text.push_str(&strike.to_string());
+    if matches!(call, Call::A { .. }) && answer.number == 0 {
+        for strike in &second[..answer.value as usize] {
+            text.push_str(&format!(" {strike}"));
+        }
     }
     text
 }
@@ -90,4 +82,19 @@ fn prints_value(call: &Call, number: u32) -> bool {
         Call::A { .. } => number == 0 || number == 15,
         _ => false,
     }
+}
+
+/// "The sheet program reads standard input over a fresh book of 4,096 words,
+/// with a second run of 512, and prints per line": what it prints.
+pub fn sheet_program(sheet: &[u8]) -> String {
+    let mut book = PlainBook::fresh(4_096).expect("4,096 is a good length");
+    let mut second = [0; 512];
+    let mut text = String::new();
+    for line in lines(sheet) {
+        let call = parse_line(line);
+        let answer = book.make(&call, &mut second);
+        text.push_str(&printed(&call, answer, &second));
+        text.push('\n');
+    }
+    text
 }

@@ -1,7 +1,7 @@
 //! "Units": the limits of each number, in base ten.
 
 /// "A price P is in cents, 1 to 999,999."
-pub fn is_price(n: u64) -> bool {
+pub fn is_price(n: u32) -> bool {
     (1..=999_999).contains(&n)
 }
 
@@ -9,7 +9,7 @@ pub fn is_price(n: u64) -> bool {
 pub const LOWEST_STRIKE: u32 = 1;
 pub const HIGHEST_STRIKE: u32 = 19_999;
 
-pub fn is_strike(n: u64) -> bool {
+pub fn is_strike(n: u32) -> bool {
     (1..=19_999).contains(&n)
 }
 
@@ -19,37 +19,37 @@ pub fn cents(h: u32) -> u32 {
 }
 
 /// "A month is 0 to 1,023"
-pub fn is_month(n: u64) -> bool {
+pub fn is_month(n: u32) -> bool {
     n <= 1_023
 }
 
 /// "A class number is 1 to 16,383."
-pub fn is_class_number(n: u64) -> bool {
+pub fn is_class_number(n: u32) -> bool {
     (1..=16_383).contains(&n)
 }
 
 /// "Volume, the national average of contracts a day, is 0 to 9,999,999."
-pub fn is_volume(n: u64) -> bool {
+pub fn is_volume(n: u32) -> bool {
     n <= 9_999_999
 }
 
 /// "program p (1 for $1, 2 for $0.50)"
-pub fn is_program(n: u64) -> bool {
+pub fn is_program(n: u32) -> bool {
     n == 1 || n == 2
 }
 
 /// "(0 none, 1 ours, 2 another exchange's)"
-pub fn is_designation(n: u64) -> bool {
+pub fn is_designation(n: u32) -> bool {
     n <= 2
 }
 
 /// "put mark a, call mark b, 0 or 1."
-pub fn is_mark(n: u64) -> bool {
+pub fn is_mark(n: u32) -> bool {
     n <= 1
 }
 
 /// "ground in 15–17 (0 to 3)"
-pub fn is_ground(n: u64) -> bool {
+pub fn is_ground(n: u32) -> bool {
     n <= 3
 }
 

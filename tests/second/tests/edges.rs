@@ -1,8 +1,9 @@
 //! "Closes at the edges", the likely mistakes, and the order of the numbers.
 
 mod common;
+use calls::StrikeBook;
 use common::*;
-use second::PlainBook;
+use second::{sheet_program, PlainBook};
 
 #[test]
 fn sample_sheet() {
@@ -785,16 +786,15 @@ fn fifteen_on_a() {
     let mut book = at_close(666_666);
     // $3,340 to $9,990 by $10: 666 strikes.
     expect(&mut book, &[("A 7 5", "15 666")]);
-    let call = second::parse_line(b"A 7 5");
     let mut run = vec![77; 665];
-    let reply = book.make(&call, &mut run);
-    assert_eq!((reply.number, reply.value), (15, 666));
-    assert!(reply.strikes.is_empty());
+    let answer = book.list_permitted(&mut run, 7, 5);
+    assert_eq!((answer.number, answer.value), (15, 666));
     assert!(run.iter().all(|word| *word == 77));
     let mut run = vec![77; 668];
-    let reply = book.make(&call, &mut run);
-    assert_eq!((reply.number, reply.value), (0, 666));
-    assert_eq!(run[..666], reply.strikes[..]);
+    let answer = book.list_permitted(&mut run, 7, 5);
+    assert_eq!((answer.number, answer.value), (0, 666));
+    let strikes: Vec<u32> = (6_680..=19_980).step_by(20).collect();
+    assert_eq!(run[..666], strikes);
     assert_eq!(run[666..], [77, 77]);
 }
 
@@ -806,8 +806,8 @@ fn a_with_no_strike() {
         accept(&mut book, &[&format!("L 7 5 {h}")]);
     }
     expect(&mut book, &[("A 7 5", "0 0")]);
-    let reply = book.make(&second::parse_line(b"A 7 5"), &mut []);
-    assert_eq!((reply.number, reply.value), (0, 0));
+    let answer = book.list_permitted(&mut [], 7, 5);
+    assert_eq!((answer.number, answer.value), (0, 0));
 }
 
 #[test]

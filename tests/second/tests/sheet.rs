@@ -1,8 +1,7 @@
 //! The written form of a list.
 
-mod common;
-use common::*;
-use second::{lines, parse_line, Call};
+use calls::Call;
+use second::{lines, parse_line, sheet_program};
 
 #[test]
 fn lines_of_a_sheet() {
@@ -27,28 +26,22 @@ fn well_formed_lines() {
     assert_eq!(parse_line(b"X 7 5 14"), Call::X { c: 7, m: 5, h: 14 });
     assert_eq!(
         parse_line(b"I 7 5 14 1 0"),
-        Call::I {
-            c: 7,
-            m: 5,
-            h: 14,
-            a: 1,
-            b: 0
-        }
+        Call::of('I', &[7, 5, 14, 1, 0])
     );
     assert_eq!(parse_line(b"R 7"), Call::R { c: 7 });
     assert_eq!(parse_line(b"A 7 5"), Call::A { c: 7, m: 5 });
-    assert_eq!(
-        parse_line(b"M 18446744073709551615"),
-        Call::M { m: u64::MAX }
-    );
-    assert_eq!(
-        parse_line(b"M 18446744073709551617"),
-        Call::M { m: u64::MAX }
-    );
-    assert_eq!(
-        parse_line(&[b"M ".as_slice(), &[b'1'; 5_000]].concat()),
-        Call::M { m: u64::MAX }
-    );
+    let highest = Call::M { m: u32::MAX };
+    assert_eq!(parse_line(b"M 4294967294"), Call::M { m: u32::MAX - 1 });
+    for beyond in [
+        "4294967295",
+        "4294967296",
+        "4294967300",
+        "18446744073709551617",
+    ] {
+        assert_eq!(parse_line(format!("M {beyond}").as_bytes()), highest);
+    }
+    let long = [b"M ".as_slice(), &[b'1'; 5_000]].concat();
+    assert_eq!(parse_line(&long), highest);
 }
 
 #[test]
@@ -109,7 +102,9 @@ fn malformed_lines() {
 
 #[test]
 fn printed_values() {
-    let sheet = b"O 7\nC 7 1300\nD 7 1 1\nV 7 5\nL 7 1 14\nJ 7 1 20\nI 7 1 14 0 0\nR 7\nR 7\nA 7 0\nX 7 1 14\nC 7 666666\nA 7 1\nL 7 1 1\n";
+    let sheet =
+        b"O 7\nC 7 1300\nD 7 1 1\nV 7 5\nL 7 1 14\nJ 7 1 20\nI 7 1 14 0 0\nR 7\nR 7\nA 7 0\n\
+        X 7 1 14\nC 7 666666\nA 7 1\nL 7 1 1\n";
     assert_eq!(
         sheet_program(sheet),
         "0\n0\n0\n0\n0 1\n0 0\n0\n0 1\n0 0\n5\n7\n0\n15 666\n11\n"

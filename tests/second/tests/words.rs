@@ -1,19 +1,10 @@
 //! The layout: books, and words that are no book.
 
-mod common;
-use common::*;
-use second::{make_on_words, Call, PlainBook};
-
-const HEAD: u32 = 1 << 28;
-const CLASS: u32 = 2 << 28;
-const CLOSE: u32 = 3 << 28;
-const VOLUME: u32 = 4 << 28;
-const EXPIRATION: u32 = 5 << 28;
-const STRIKE: u32 = 6 << 28;
-
-fn head(now: u32, used: u32) -> u32 {
-    HEAD + now + used * 1_024
-}
+use calls::draw::{self, Mix};
+use calls::runs::damage;
+use calls::words::{head, CLASS, CLOSE, EXPIRATION, HEAD, STRIKE, VOLUME};
+use calls::{Call, Random, StrikeBook};
+use second::{make_on_words, PlainBook};
 
 fn is_book(words: &[u32]) -> bool {
     match PlainBook::read(words) {
@@ -155,8 +146,8 @@ fn damaged_words() {
             Call::A { c: 7, m: 9 },
             Call::O { c: 3 },
         ] {
-            let reply = make_on_words(&mut changed, &mut second, &call);
-            assert_eq!((reply.number, reply.value, reply.strikes.len()), (1, 0, 0));
+            let answer = make_on_words(&mut changed, &mut second, &call);
+            assert_eq!((answer.number, answer.value), (1, 0));
         }
         assert_eq!(changed, words);
         assert_eq!(second, [5, 6]);
@@ -185,7 +176,7 @@ fn damaged_words() {
 #[test]
 fn caps_in_a_read_book() {
     let designated = |count: u32, bits: u32| {
-        let mut words = vec![head(0, 1 + 3 * count)];
+        let mut words = vec![head(0, 1 + 3 * count as usize)];
         for c in 1..=count {
             words.extend([CLASS + c + bits, CLOSE, VOLUME]);
         }
@@ -222,130 +213,59 @@ fn single_bits() {
 
 // ---- Random calls ------------------------------------------------------
 
-/// Any standing series of the book.
-fn standing_series(random: &mut Seeded, book: &PlainBook) -> Option<(u64, u64, u64)> {
-    let mut all = Vec::new();
-    for (c, class) in &book.classes {
-        for (m, h) in class.strikes.keys() {
-            all.push((u64::from(*c), u64::from(*m), u64::from(*h)));
-        }
-    }
-    if all.is_empty() {
-        return None;
-    }
-    Some(all[random.below(all.len() as u64) as usize])
-}
-
-fn random_call(random: &mut Seeded, book: &PlainBook) -> Call {
-    let c = random.one_of(&[1, 7, 7, 7, 7, 7, 16_383, 0, 9]);
-    let m = match random.below(12) {
-        0 => random.below(1_030),
-        1 => random.below(60),
-        _ => random.one_of(&[1, 5, 6, 7, 14, 16, 17, 40]),
-    };
-    let h = match random.below(12) {
-        0 => random.below(20_010),
-        1 => 5 * random.below(300),
-        2 => random.below(100),
-        _ => random.one_of(&[
-            1, 4, 5, 6, 10, 14, 15, 20, 24, 25, 26, 38, 40, 44, 45, 46, 50, 54, 60,
-        ]),
-    };
-    // Half of the series named are standing ones, or $0.50 or $1 beside.
-    let (c, m, h) = match (random.below(2), standing_series(random, book)) {
-        (0, Some((c, m, h))) => (c, m, h + random.one_of(&[0, 0, 0, 1, 2])),
-        _ => (c, m, h),
-    };
-    match random.below(40) {
-        0 => match random.below(20) {
-            0 => Call::M {
-                m: random.below(40),
-            },
-            1..=9 => Call::M { m: random.below(8) },
-            _ => Call::M { m: 0 },
-        },
-        1 => Call::X { c, m, h },
-        2..=4 => Call::O { c },
-        5..=7 => {
-            let edges = [
-                200, 500, 501, 1_300, 2_000, 2_001, 2_450, 2_500, 4_999, 5_000, 20_000, 0,
-            ];
-            let p = match random.below(3) {
-                0 => random.below(6_000),
-                _ => random.one_of(&edges),
-            };
-            Call::C { c, p }
-        }
-        8..=9 => Call::V {
-            c,
-            n: random.one_of(&[0, 999, 1_000, 1_001, 9_999_999, 10_000_000]),
-        },
-        10..=13 => Call::D {
-            c,
-            p: 1 + random.below(2),
-            d: random.below(3),
-        },
-        14..=28 => Call::L { c, m, h },
-        29..=30 => Call::J { c, m, h },
-        31 => Call::X { c, m, h },
-        32..=36 => Call::I {
-            c,
-            m,
-            h,
-            a: random.below(2),
-            b: random.below(2),
-        },
-        37 => Call::R { c },
-        38 => Call::A { c, m },
-        _ => Call::Malformed,
-    }
-}
+const MIX: Mix = Mix {
+    weights: [1, 3, 3, 2, 4, 15, 3, 2, 5, 1, 1],
+    highest: 9,
+};
 
 /// One call on the plain book and the same on its words: all equal, the book
 /// read back from its own words, refusals changing nothing.
-fn check_call(book: &mut PlainBook, words: &mut Vec<u32>, call: &Call, room: usize) -> u32 {
+fn check_call(book: &mut PlainBook, words: &mut [u32], call: &Call, room: usize) -> u32 {
     let before = book.clone();
     let mut second = vec![99; room];
     let mut second_on_words = second.clone();
-    let reply = book.make(call, &mut second);
-    let reply_on_words = make_on_words(words, &mut second_on_words, call);
-    assert_eq!(reply, reply_on_words, "{call:?}");
+    let answer = book.make(call, &mut second);
+    let answer_on_words = make_on_words(words, &mut second_on_words, call);
+    assert_eq!(answer, answer_on_words, "{call:?}");
     assert_eq!(second, second_on_words);
     assert_eq!(&book.words(), words);
     assert_eq!(PlainBook::read(words).as_ref(), Some(&*book));
-    assert_eq!(second[..reply.strikes.len()], reply.strikes[..]);
-    assert!(second[reply.strikes.len()..].iter().all(|word| *word == 99));
-    if reply.number != 0 {
+    let written = match (call, answer.number) {
+        (Call::A { .. }, 0) => answer.value as usize,
+        _ => 0,
+    };
+    assert!(second[written..].iter().all(|word| *word == 99));
+    if answer.number != 0 {
         assert_eq!(&before, book);
-        assert!(reply.strikes.is_empty());
     }
-    if let (Call::A { c, m }, true) = (call, reply.number == 0) {
-        for h in 1..=19_999 {
-            let judged = book.make(&Call::J { c: *c, m: *m, h }, &mut []);
-            assert_eq!(judged.number == 0, reply.strikes.contains(&(h as u32)));
-        }
+    if let (Call::A { c, m }, 0) = (call, answer.number) {
+        let judged = |h: &u32| book.judge_strike(*c, *m, *h).number == 0;
+        let accepted: Vec<u32> = (1..=19_999).filter(judged).collect();
+        assert_eq!(second[..written], accepted);
     }
-    reply.number
+    answer.number
 }
 
 #[test]
 fn random_lists() {
-    let mut random = Seeded(0x5EED_0001);
+    let mut random = Random::new(0x5EED_0001);
     let mut drawn = [0; 16];
     for _ in 0..150 {
-        let length = random.one_of(&[1, 5, 12, 30, 60, 200, 500]) as usize;
+        let length = random.pick(&[1, 5, 12, 30, 60, 200, 500]);
         let mut book = PlainBook::fresh(length).unwrap();
         let mut words = book.words();
         for _ in 0..400 {
-            let call = random_call(&mut random, &book);
-            let room = random.one_of(&[0, 3, 20, 100]) as usize;
+            let call = match random.one_in(40) {
+                true => Call::Malformed,
+                false => draw::call(&mut random, &words, &MIX),
+            };
+            let room = random.pick(&[0, 3, 20, 100]);
             drawn[check_call(&mut book, &mut words, &call, room) as usize] += 1;
         }
         // Damage: what is still a book is laid out as it stood.
         for _ in 0..50 {
             let mut damaged = words.clone();
-            let at = random.below(book.words_taken() as u64 + 1) as usize % length;
-            damaged[at] ^= 1 << random.below(32);
+            damage(&mut random, &mut damaged);
             is_book(&damaged);
         }
     }

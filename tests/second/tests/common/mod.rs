@@ -1,13 +1,13 @@
-#![allow(dead_code)]
-use second::{lines, parse_line, printed, Call, PlainBook};
+use calls::{Call, StrikeBook};
+use second::{parse_line, printed, PlainBook};
 
 /// Makes one written line on a book, with a second run of 512.
 pub fn say(book: &mut PlainBook, line: &str) -> String {
     let call = parse_line(line.as_bytes());
     assert_ne!(call, Call::Malformed, "{line}");
     let mut second = [0; 512];
-    let reply = book.make(&call, &mut second);
-    printed(&call, &reply)
+    let answer = book.make(&call, &mut second);
+    printed(&call, answer, &second)
 }
 
 /// Makes each line and wants each answer: pairs of (line, answer).
@@ -48,49 +48,15 @@ pub fn dollar_class(close: u32) -> PlainBook {
 }
 
 /// What `A 7 m` writes.
-pub fn permitted(book: &mut PlainBook, m: u64) -> Vec<u32> {
+pub fn permitted(book: &mut PlainBook, m: u32) -> Vec<u32> {
     let mut second = vec![0; 20_000];
-    let reply = book.make(&Call::A { c: 7, m }, &mut second);
-    assert_eq!(reply.number, 0);
-    assert_eq!(reply.value as usize, reply.strikes.len());
-    reply.strikes
+    let answer = book.list_permitted(&mut second, 7, m);
+    assert_eq!(answer.number, 0);
+    second.truncate(answer.value as usize);
+    second
 }
 
 /// h of whole dollars.
 pub fn dollars(list: &[u32]) -> Vec<u32> {
     list.iter().map(|dollar| dollar * 2).collect()
-}
-
-/// What the sheet program prints.
-pub fn sheet_program(sheet: &[u8]) -> String {
-    let mut book = fresh();
-    let mut second = [0; 512];
-    let mut text = String::new();
-    for line in lines(sheet) {
-        let call = parse_line(line);
-        let reply = book.make(&call, &mut second);
-        text.push_str(&printed(&call, &reply));
-        text.push('\n');
-    }
-    text
-}
-
-/// A seeded generator (xorshift).
-pub struct Seeded(pub u64);
-
-impl Seeded {
-    pub fn next(&mut self) -> u64 {
-        self.0 ^= self.0 << 13;
-        self.0 ^= self.0 >> 7;
-        self.0 ^= self.0 << 17;
-        self.0.wrapping_mul(0x2545_F491_4F6C_DD1D) >> 16
-    }
-
-    pub fn below(&mut self, n: u64) -> u64 {
-        self.next() % n
-    }
-
-    pub fn one_of(&mut self, choices: &[u64]) -> u64 {
-        choices[self.below(choices.len() as u64) as usize]
-    }
 }

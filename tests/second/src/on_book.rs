@@ -3,157 +3,98 @@
 use crate::book::{Class, PlainBook, Strike};
 use crate::rules::{ground_or_refusal, Setting, DOLLAR, WING};
 use crate::units::*;
-
-/// The eleven calls, with the numbers a sheet wrote (saturated at
-/// `u64::MAX`), and the malformed line.
-#[derive(Clone, Debug, PartialEq, Eq)]
-pub enum Call {
-    /// `M m`
-    M {
-        m: u64,
-    },
-    /// `O c`
-    O {
-        c: u64,
-    },
-    /// `C c P`
-    C {
-        c: u64,
-        p: u64,
-    },
-    /// `V c n`
-    V {
-        c: u64,
-        n: u64,
-    },
-    /// `D c p d`
-    D {
-        c: u64,
-        p: u64,
-        d: u64,
-    },
-    /// `L c m h`
-    L {
-        c: u64,
-        m: u64,
-        h: u64,
-    },
-    /// `J c m h`
-    J {
-        c: u64,
-        m: u64,
-        h: u64,
-    },
-    /// `X c m h`
-    X {
-        c: u64,
-        m: u64,
-        h: u64,
-    },
-    /// `I c m h a b`
-    I {
-        c: u64,
-        m: u64,
-        h: u64,
-        a: u64,
-        b: u64,
-    },
-    /// `R c`
-    R {
-        c: u64,
-    },
-    /// `A c m`
-    A {
-        c: u64,
-        m: u64,
-    },
-    Malformed,
-}
-
-/// What a call answers: its number, its value, and the strikes `A` wrote.
-#[derive(Clone, Debug, PartialEq, Eq)]
-pub struct Reply {
-    pub number: u32,
-    pub value: u32,
-    pub strikes: Vec<u32>,
-}
-
-/// "An accepted call answers 0 and a value"
-fn accept(value: u32) -> Reply {
-    Reply {
-        number: 0,
-        value,
-        strikes: Vec::new(),
-    }
-}
-
-/// "A refusal ... carries value 0 except 15 on `A`."
-fn refuse(number: u32) -> Reply {
-    Reply {
-        number,
-        value: 0,
-        strikes: Vec::new(),
-    }
-}
+use calls::{Answer, Call, StrikeBook};
 
 /// The value of an accepted call, or the number of its refusal.
-type Answer = Result<u32, u32>;
+type Answered = Result<u32, u32>;
 
-fn answered(answer: Answer) -> Reply {
-    match answer {
-        Ok(value) => accept(value),
-        Err(number) => refuse(number),
+/// "An accepted call answers 0 and a value"; "A refusal ... carries value 0".
+fn answer(answered: Answered) -> Answer {
+    match answered {
+        Ok(value) => Answer { number: 0, value },
+        Err(number) => Answer { number, value: 0 },
     }
 }
 
-/// "2 a number beyond its limits, or a malformed line"
-fn in_limits(call: &Call) -> bool {
-    match *call {
-        Call::M { m } => is_month(m),
-        Call::O { c } => is_class_number(c),
-        Call::C { c, p } => is_class_number(c) && is_price(p),
-        Call::V { c, n } => is_class_number(c) && is_volume(n),
-        Call::D { c, p, d } => is_class_number(c) && is_program(p) && is_designation(d),
-        Call::L { c, m, h } => is_series(c, m, h),
-        Call::J { c, m, h } => is_series(c, m, h),
-        Call::X { c, m, h } => is_series(c, m, h),
-        Call::I { c, m, h, a, b } => is_series(c, m, h) && is_mark(a) && is_mark(b),
-        Call::R { c } => is_class_number(c),
-        Call::A { c, m } => is_class_number(c) && is_month(m),
-        Call::Malformed => false,
+/// "2 a number beyond its limits"
+fn limits(hold: bool) -> Result<(), u32> {
+    match hold {
+        true => Ok(()),
+        false => Err(2),
     }
 }
 
-fn is_series(c: u64, m: u64, h: u64) -> bool {
+fn is_series(c: u32, m: u32, h: u32) -> bool {
     is_class_number(c) && is_month(m) && is_strike(h)
 }
 
-impl PlainBook {
-    /// Makes one call. "The lowest number that applies is given": each call
-    /// below tests its refusals in rising order. What 15 refuses is taken back.
-    pub fn make(&mut self, call: &Call, second: &mut [u32]) -> Reply {
-        if !in_limits(call) {
-            return refuse(2);
-        }
-        // Within their limits all numbers fit 32 bits.
-        let n = |number: u64| number as u32;
-        match *call {
-            Call::M { m } => answered(self.set_now(n(m))),
-            Call::O { c } => answered(self.open(n(c))),
-            Call::C { c, p } => answered(self.set_close(n(c), n(p))),
-            Call::V { c, n: volume } => answered(self.set_volume(n(c), n(volume))),
-            Call::D { c, p: 1, d } => answered(self.designate_dollar(n(c), n(d))),
-            Call::D { c, d, .. } => answered(self.designate_half(n(c), n(d))),
-            Call::L { c, m, h } => answered(self.list(n(c), n(m), n(h))),
-            Call::J { c, m, h } => answered(self.judge(n(c), n(m), n(h))),
-            Call::X { c, m, h } => answered(self.delist(n(c), n(m), n(h))),
-            Call::I { c, m, h, a, b } => answered(self.mark(n(c), n(m), n(h), n(a), n(b))),
-            Call::R { c } => answered(self.review(n(c))),
-            Call::A { c, m } => self.all_permitted(n(c), n(m), second),
-            Call::Malformed => refuse(2),
-        }
+/// "The lowest number that applies is given": each call tests its refusals in rising order. What 15
+/// refuses is taken back.
+impl StrikeBook for PlainBook {
+    fn set_month(&mut self, m: u32) -> Answer {
+        answer(self.try_set_month(m))
     }
 
+    fn open_class(&mut self, c: u32) -> Answer {
+        answer(self.try_open_class(c))
+    }
+
+    fn set_close(&mut self, c: u32, p: u32) -> Answer {
+        answer(self.try_set_close(c, p))
+    }
+
+    fn set_volume(&mut self, c: u32, n: u32) -> Answer {
+        answer(self.try_set_volume(c, n))
+    }
+
+    fn designate(&mut self, c: u32, p: u32, d: u32) -> Answer {
+        answer(self.try_designate(c, p, d))
+    }
+
+    fn list_strike(&mut self, c: u32, m: u32, h: u32) -> Answer {
+        answer(self.try_list_strike(c, m, h))
+    }
+
+    fn judge_strike(&mut self, c: u32, m: u32, h: u32) -> Answer {
+        answer(self.try_judge_strike(c, m, h))
+    }
+
+    fn delist_strike(&mut self, c: u32, m: u32, h: u32) -> Answer {
+        answer(self.try_delist_strike(c, m, h))
+    }
+
+    fn mark_strike(&mut self, c: u32, m: u32, h: u32, a: u32, b: u32) -> Answer {
+        answer(self.try_mark_strike(c, m, h, a, b))
+    }
+
+    fn review_class(&mut self, c: u32) -> Answer {
+        answer(self.try_review_class(c))
+    }
+
+    /// "15 ... `A`'s strikes exceed the second run, and then their count is the value." "After `A`,
+    /// words past the count are unchanged."
+    fn list_permitted(&mut self, second: &mut [u32], c: u32, m: u32) -> Answer {
+        let strikes = match self.permitted(c, m) {
+            Ok(strikes) => strikes,
+            Err(number) => return answer(Err(number)),
+        };
+        let value = strikes.len() as u32;
+        if strikes.len() > second.len() {
+            return Answer { number: 15, value };
+        }
+        for (place, h) in strikes.iter().enumerate() {
+            second[place] = *h;
+        }
+        answer(Ok(value))
+    }
+
+    /// "2 ... a malformed line"
+    fn malformed(&mut self) -> Answer {
+        answer(Err(2))
+    }
+}
+
+impl PlainBook {
     /// "4 class not open"
     fn class(&self, c: u32) -> Result<&Class, u32> {
         self.classes.get(&c).ok_or(4)
@@ -165,7 +106,8 @@ impl PlainBook {
 
     /// "`M m`: sets `now`, removes strikes of earlier months. Equal to `now`
     /// is accepted." "5 `M` below `now`"
-    fn set_now(&mut self, m: u32) -> Answer {
+    fn try_set_month(&mut self, m: u32) -> Answered {
+        limits(is_month(m))?;
         if m < self.now {
             return Err(5);
         }
@@ -178,7 +120,8 @@ impl PlainBook {
 
     /// "`O` adds a class with close, volume and designations 0 and no
     /// strike." "3 class already open"; "15 the words needed exceed the run"
-    fn open(&mut self, c: u32) -> Answer {
+    fn try_open_class(&mut self, c: u32) -> Answered {
+        limits(is_class_number(c))?;
         if self.classes.contains_key(&c) {
             return Err(3);
         }
@@ -191,21 +134,32 @@ impl PlainBook {
     }
 
     /// "`C c P`: close."
-    fn set_close(&mut self, c: u32, p: u32) -> Answer {
+    fn try_set_close(&mut self, c: u32, p: u32) -> Answered {
+        limits(is_class_number(c) && is_price(p))?;
         self.class_mut(c)?.close = p;
         Ok(0)
     }
 
     /// "`V c n`: volume."
-    fn set_volume(&mut self, c: u32, volume: u32) -> Answer {
-        self.class_mut(c)?.volume = volume;
+    fn try_set_volume(&mut self, c: u32, n: u32) -> Answered {
+        limits(is_class_number(c) && is_volume(n))?;
+        self.class_mut(c)?.volume = n;
         Ok(0)
+    }
+
+    /// "program p (1 for $1, 2 for $0.50) gets designation d."
+    fn try_designate(&mut self, c: u32, p: u32, d: u32) -> Answered {
+        limits(is_class_number(c) && is_program(p) && is_designation(d))?;
+        match p {
+            1 => self.designate_dollar(c, d),
+            _ => self.designate_half(c, d),
+        }
     }
 
     /// `D c 1 d`. "A repeat of the present d is accepted unchanged, untested.
     /// A new d of 1 needs a close below 5,000 for $1 ... and the cap. d of 0
     /// or 2 needs nothing."
-    fn designate_dollar(&mut self, c: u32, d: u32) -> Answer {
+    fn designate_dollar(&mut self, c: u32, d: u32) -> Answered {
         let class = self.class(c)?;
         if d == class.dollar_designation {
             return Ok(0);
@@ -227,7 +181,7 @@ impl PlainBook {
 
     /// `D c 2 d`. "A new d of 1 needs ... a close of at most 500 and a volume
     /// of at least 1,000 for $0.50, and the cap."
-    fn designate_half(&mut self, c: u32, d: u32) -> Answer {
+    fn designate_half(&mut self, c: u32, d: u32) -> Answered {
         let class = self.class(c)?;
         if d == class.half_designation {
             return Ok(0);
@@ -256,7 +210,8 @@ impl PlainBook {
     }
 
     /// "`J c m h`: the same judgement without 15, adding nothing."
-    fn judge(&self, c: u32, m: u32, h: u32) -> Answer {
+    fn try_judge_strike(&self, c: u32, m: u32, h: u32) -> Answered {
+        limits(is_series(c, m, h))?;
         let class = self.class(c)?;
         self.month_to_add(m)?;
         // "6 strike standing already"
@@ -276,8 +231,8 @@ impl PlainBook {
 
     /// "`L c m h`: adds the strike, no open interest." "`L` adds (m, h, the
     /// ground, 0, 0)." "15 the words needed exceed the run"
-    fn list(&mut self, c: u32, m: u32, h: u32) -> Answer {
-        let ground = self.judge(c, m, h)?;
+    fn try_list_strike(&mut self, c: u32, m: u32, h: u32) -> Answered {
+        let ground = self.try_judge_strike(c, m, h)?;
         let strike = Strike {
             ground,
             put: 0,
@@ -298,7 +253,8 @@ impl PlainBook {
     }
 
     /// "`X c m h`: delists." "14 `X` on a marked strike."
-    fn delist(&mut self, c: u32, m: u32, h: u32) -> Answer {
+    fn try_delist_strike(&mut self, c: u32, m: u32, h: u32) -> Answered {
+        limits(is_series(c, m, h))?;
         if self.standing(c, m, h)?.is_marked() {
             return Err(14);
         }
@@ -307,7 +263,8 @@ impl PlainBook {
     }
 
     /// "`I c m h a b`: put mark a, call mark b" "`I` sets both marks."
-    fn mark(&mut self, c: u32, m: u32, h: u32, a: u32, b: u32) -> Answer {
+    fn try_mark_strike(&mut self, c: u32, m: u32, h: u32, a: u32, b: u32) -> Answered {
+        limits(is_series(c, m, h) && is_mark(a) && is_mark(b))?;
         let ground = self.standing(c, m, h)?.ground;
         let marked = Strike {
             ground,
@@ -319,7 +276,8 @@ impl PlainBook {
     }
 
     /// "`R c`: the review." "strikes removed for `R`"
-    fn review(&mut self, c: u32) -> Answer {
+    fn try_review_class(&mut self, c: u32) -> Answered {
+        limits(is_class_number(c))?;
         let class = self.class_mut(c)?;
         if !class.has_close() {
             return Err(8);
@@ -336,46 +294,16 @@ impl PlainBook {
         Ok(leaving.len() as u32)
     }
 
-    /// "`A c m`: writes all strikes that `J` would accept, h rising, one word
-    /// each, to a second lent run of 32-bit words." "15 ... `A`'s strikes
-    /// exceed the second run, and then their count is the value." "After `A`,
-    /// words past the count are unchanged."
-    fn all_permitted(&self, c: u32, m: u32, second: &mut [u32]) -> Reply {
-        if let Err(number) = self.may_ask_all(c, m) {
-            return refuse(number);
-        }
-        let mut strikes = Vec::new();
-        for h in LOWEST_STRIKE..=HIGHEST_STRIKE {
-            if self.judge(c, m, h).is_ok() {
-                strikes.push(h);
-            }
-        }
-        let count = strikes.len() as u32;
-        if strikes.len() > second.len() {
-            return Reply {
-                number: 15,
-                value: count,
-                strikes: Vec::new(),
-            };
-        }
-        for (place, h) in strikes.iter().enumerate() {
-            second[place] = *h;
-        }
-        Reply {
-            number: 0,
-            value: count,
-            strikes,
-        }
-    }
-
-    /// `A`'s refusals 4, 5 and 8.
-    fn may_ask_all(&self, c: u32, m: u32) -> Result<(), u32> {
+    /// "`A c m`: writes all strikes that `J` would accept, h rising": those strikes.
+    fn permitted(&self, c: u32, m: u32) -> Result<Vec<u32>, u32> {
+        limits(is_class_number(c) && is_month(m))?;
         let class = self.class(c)?;
         self.month_to_add(m)?;
         if !class.has_close() {
             return Err(8);
         }
-        Ok(())
+        let accepted = |h: &u32| self.try_judge_strike(c, m, *h).is_ok();
+        Ok((LOWEST_STRIKE..=HIGHEST_STRIKE).filter(accepted).collect())
     }
 }
 
@@ -411,13 +339,13 @@ fn outside_marked(class: &Class, month: u32, h: u32) -> bool {
     }
 }
 
-/// One call over any words: "1 the run is no book", else what the plain book
-/// and the layout make of them. "A refusal alters no word of either run".
-pub fn make_on_words(words: &mut [u32], second: &mut [u32], call: &Call) -> Reply {
+/// One call over any words: "1 the run is no book", else what the plain book and the layout make of
+/// them. "A refusal alters no word of either run".
+pub fn make_on_words(words: &mut [u32], second: &mut [u32], call: &Call) -> Answer {
     let Some(mut book) = PlainBook::read(words) else {
-        return refuse(1);
+        return answer(Err(1));
     };
-    let reply = book.make(call, second);
+    let answer = book.make(call, second);
     words.copy_from_slice(&book.words());
-    reply
+    answer
 }

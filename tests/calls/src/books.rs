@@ -1,0 +1,192 @@
+//! Words of books: any that the layout allows, those that no call makes too.
+
+use crate::figures;
+use crate::words::{class, head, strike, CLOSE, EXPIRATION, VOLUME};
+use crate::Random;
+use std::collections::BTreeSet;
+
+/// A book of the length, with any number of its words used.
+pub fn any(random: &mut Random, length: usize) -> Vec<u32> {
+    match random.one_in(2) {
+        true => full(random, length),
+        false => {
+            let most = 1 + random.index(length);
+            filled(random, length, most)
+        }
+    }
+}
+
+/// A book of the length that is full, or nearly so.
+pub fn full(random: &mut Random, length: usize) -> Vec<u32> {
+    let most = length - random.index(4).min(length - 1);
+    filled(random, length, most)
+}
+
+/// A book of the length with at most `most` words used, and nearly so many.
+fn filled(random: &mut Random, length: usize, most: usize) -> Vec<u32> {
+    let mut filler = Filler {
+        words: vec![0],
+        most,
+        now: match random.below(4) {
+            0 => random.between(980, 1_023),
+            1 => random.below(1_024),
+            _ => random.below(12),
+        },
+        expirations: random.pick(&[0, 2, 4, 4, 8]),
+        strikes: random.pick(&[1, 2, 6, 12, 25, 70]),
+        ours: random.one_in(6),
+        dollars: 0,
+        halves: 0,
+    };
+    let step = random.pick(&[1, 1, 1, 3, 40, 400]);
+    let mut number = random.between(1, step);
+    while number <= 16_383 && filler.words.len() + 3 <= most {
+        filler.add_class(random, number);
+        number += random.between(1, step);
+    }
+    filler.words[0] = head(filler.now, filler.words.len());
+    filler.words.resize(length, 0);
+    filler.words
+}
+
+/// The words of a book so far, and what it is to be like.
+struct Filler {
+    words: Vec<u32>,
+    /// The words that may be used.
+    most: usize,
+    now: u32,
+    /// Of a class, at most.
+    expirations: u32,
+    /// Of an expiration, at most.
+    strikes: u32,
+    /// Whether all designations are ours, as far as the caps allow.
+    ours: bool,
+    /// The counts against the caps.
+    dollars: u32,
+    halves: u32,
+}
+
+impl Filler {
+    fn add_class(&mut self, random: &mut Random, number: u32) {
+        let [mut dollar, mut half] = match self.ours {
+            true => [1, 1],
+            false => [random.below(3), random.below(3)],
+        };
+        if dollar == 1 && self.dollars == 150 {
+            dollar = 2;
+        }
+        if half == 1 && self.halves == 20 {
+            half = 0;
+        }
+        self.dollars += u32::from(dollar == 1);
+        self.halves += u32::from(half == 1);
+        let close = match random.one_in(8) {
+            true => 0,
+            false => figures::close(random),
+        };
+        let volume = figures::volume(random);
+        let words = [class(number, dollar, half), CLOSE | close, VOLUME | volume];
+        self.words.extend(words);
+        let mut month = self.now;
+        for _ in 0..random.below(self.expirations + 1) {
+            month += random.pick(&[0, 1, 1, 2, 8, 9, 15]);
+            if month > 1_023.min(self.now + 39) || self.words.len() + 2 > self.most {
+                return;
+            }
+            self.add_expiration(random, month, close);
+            month += 1;
+        }
+    }
+
+    fn add_expiration(&mut self, random: &mut Random, month: u32, close: u32) {
+        self.words.push(EXPIRATION | month);
+        let left = self.most - self.words.len();
+        let count = (random.between(1, self.strikes) as usize).min(left);
+        for h in strikes(random, count, close) {
+            self.words.push(any_strike(random, h));
+        }
+    }
+}
+
+/// A strike word of any ground and marks.
+fn any_strike(random: &mut Random, h: u32) -> u32 {
+    let marked = random.one_in(3);
+    let [put, call] = [0, 1].map(|_| u32::from(marked && random.one_in(2)));
+    strike(h, random.below(4), put, call)
+}
+
+/// Up to `count` strikes, at least one, near each other and near the grids.
+fn strikes(random: &mut Random, count: usize, close: u32) -> BTreeSet<u32> {
+    let about = close / 100 + random.below(close / 50 + 1);
+    let lowest = random.pick(&[1, 1, 10, 20, 40, 90, 19_900, about, about, about]);
+    let mut strikes = BTreeSet::new();
+    for _ in 0..count {
+        let h = match random.below(3) {
+            0 => lowest + random.below(100),
+            1 => lowest / 2 * 2 + 2 * random.below(50),
+            _ => lowest / 5 * 5 + 5 * random.below(20),
+        };
+        strikes.insert(h.clamp(1, 19_999));
+    }
+    strikes
+}
+
+/// A book at or just below both caps: 151 to 160 classes that mostly qualify for both programs. They
+/// take at most 481 words.
+pub fn near_caps(random: &mut Random, length: usize) -> Vec<u32> {
+    let mut words = vec![0];
+    let (dollars, halves) = (random.between(148, 150), random.between(18, 20));
+    for number in 1..=random.between(151, 160) {
+        let dollar = if number <= dollars { 1 } else { 0 };
+        let half = if number <= halves { 1 } else { 2 };
+        let close = random.pick(&[0, 200, 499, 500, 500, 501, 4_999, 5_000]);
+        let volume = random.pick(&[999, 1_000, 1_000, 1_000, 1_001]);
+        words.extend([class(number, dollar, half), CLOSE | close, VOLUME | volume]);
+    }
+    words[0] = head(0, words.len());
+    words.resize(length, 0);
+    words
+}
+
+/// The class of a crowded book.
+pub const CROWDED: u32 = 7;
+
+/// A book with one crowded expiration, about the close of its class and of any grounds; and its month.
+pub fn crowded(random: &mut Random) -> (Vec<u32>, u32) {
+    let now = random.below(980);
+    let month = now + random.pick(&[1, 2, 7, 8, 9, 10, 20, 39]);
+    let close = match random.below(3) {
+        0 => random.between(1, 700),
+        1 => random.between(1, 6_000),
+        _ => random.pick(&figures::CLOSES).min(60_000),
+    };
+    let mut words = vec![
+        0,
+        class(CROWDED, random.below(3), random.below(3)),
+        CLOSE | close,
+        VOLUME | random.pick(&[999, 1_000]),
+    ];
+    if random.one_in(2) {
+        // An expiration before it, whose strikes don't count.
+        words.push(EXPIRATION | (month - 1));
+        words.extend([1, 2].map(|more| strike(close / 50 + more, 0, 0, 0)));
+    }
+    words.push(EXPIRATION | month);
+    let last = 3 * close / 100 + 60;
+    let most = random.pick(&[2, 4, 9, 30]);
+    let mut h = close / 100 + random.between(1, most);
+    while h <= last {
+        words.push(any_strike(random, h));
+        h += random.between(1, most);
+    }
+    if random.one_in(2) && month < now + 39 {
+        words.extend([EXPIRATION | (month + 1), strike(h, 0, 0, 0)]);
+    }
+    if random.one_in(2) {
+        words.extend([class(CROWDED + 2, 0, 0), CLOSE, VOLUME]);
+    }
+    words[0] = head(now, words.len());
+    let left = random.index(40);
+    words.resize(words.len() + left, 0);
+    (words, month)
+}

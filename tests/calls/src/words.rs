@@ -1,0 +1,146 @@
+//! The words of a run by document 01's layout, written and read without asking whether it is a book.
+
+/// Bits 28 to 31 of a word are its kind.
+pub const HEAD: u32 = 1 << 28;
+pub const CLASS: u32 = 2 << 28;
+pub const CLOSE: u32 = 3 << 28;
+pub const VOLUME: u32 = 4 << 28;
+pub const EXPIRATION: u32 = 5 << 28;
+pub const STRIKE: u32 = 6 << 28;
+
+pub fn head(now: u32, used: usize) -> u32 {
+    HEAD | now | (used as u32) << 10
+}
+
+pub fn class(number: u32, dollar: u32, half: u32) -> u32 {
+    CLASS | number | dollar << 14 | half << 16
+}
+
+pub fn strike(h: u32, ground: u32, put: u32, call: u32) -> u32 {
+    STRIKE | h | ground << 15 | put << 18 | call << 19
+}
+
+pub fn kind(word: u32) -> u32 {
+    word & 0xf000_0000
+}
+
+/// The current month of a head, or the month of an expiration.
+pub fn month(word: u32) -> u32 {
+    word & 0x3ff
+}
+
+/// The number of a class.
+pub fn number(word: u32) -> u32 {
+    word & 0x3fff
+}
+
+pub fn close(word: u32) -> u32 {
+    word & 0xf_ffff
+}
+
+/// The half dollars of a strike.
+pub fn half_dollars(word: u32) -> u32 {
+    word & 0x7fff
+}
+
+/// The current month; 0 where there is no word.
+pub fn now(run: &[u32]) -> u32 {
+    run.first().map_or(0, |word| month(*word))
+}
+
+/// The words that the head counts as used.
+pub fn used(run: &[u32]) -> usize {
+    run.first().map_or(0, |word| (word >> 10 & 0xffff) as usize)
+}
+
+/// A class as its words show it.
+pub struct Class {
+    pub number: u32,
+    pub close: u32,
+    /// The month and the half dollars of each strike.
+    pub strikes: Vec<(u32, u32)>,
+}
+
+/// The places of the words of a kind.
+pub fn places(run: &[u32], wanted: u32) -> Vec<usize> {
+    let is_wanted = |place: &usize| kind(run[*place]) == wanted;
+    (0..run.len()).filter(is_wanted).collect()
+}
+
+/// The class whose words begin at a place.
+pub fn class_at(run: &[u32], place: usize) -> Class {
+    let mut strikes = Vec::new();
+    let mut expires = 0;
+    for word in &run[place + 1..] {
+        match kind(*word) {
+            CLASS | 0 => break,
+            EXPIRATION => expires = month(*word),
+            STRIKE => strikes.push((expires, half_dollars(*word))),
+            _ => {}
+        }
+    }
+    Class {
+        number: number(run[place]),
+        close: run.get(place + 1).map_or(0, |word| close(*word)),
+        strikes,
+    }
+}
+
+/// The class of a number, if it is open.
+pub fn class_of(run: &[u32], c: u32) -> Option<Class> {
+    let is_it = |word: &u32| kind(*word) == CLASS && number(*word) == c;
+    let place = run.iter().position(is_it)?;
+    Some(class_at(run, place))
+}
+
+/// Any class that is open.
+pub fn any_class(random: &mut crate::Random, run: &[u32]) -> Option<Class> {
+    let places = places(run, CLASS);
+    match places.is_empty() {
+        true => None,
+        false => Some(class_at(run, random.pick(&places))),
+    }
+}
+
+/// The class, the month and the half dollars of any strike that stands.
+pub fn any_strike(random: &mut crate::Random, run: &[u32]) -> Option<(u32, u32, u32)> {
+    let places = places(run, STRIKE);
+    if places.is_empty() {
+        return None;
+    }
+    let place = random.pick(&places);
+    let last = |wanted| run[..place].iter().rfind(|word| kind(**word) == wanted);
+    let (class, expiration) = (last(CLASS)?, last(EXPIRATION)?);
+    Some((number(*class), month(*expiration), half_dollars(run[place])))
+}
+
+#[cfg(test)]
+mod tests {
+    use super::*;
+    use crate::Random;
+
+    #[test]
+    fn a_class_is_read_as_written() {
+        let run = [
+            head(4, 9),
+            class(7, 1, 2),
+            CLOSE | 200,
+            VOLUME,
+            EXPIRATION | 5,
+            strike(14, 3, 1, 1),
+            class(9, 0, 0),
+            CLOSE,
+            VOLUME,
+            0,
+        ];
+        assert_eq!((now(&run), used(&run)), (4, 9));
+        let seven = class_of(&run, 7).unwrap();
+        assert_eq!((seven.number, seven.close), (7, 200));
+        assert_eq!(seven.strikes, [(5, 14)]);
+        assert!(class_of(&run, 9).unwrap().strikes.is_empty());
+        assert!(class_of(&run, 8).is_none());
+        let mut random = Random::new(0);
+        assert_eq!(any_strike(&mut random, &run), Some((7, 5, 14)));
+        assert!(any_class(&mut random, &[]).is_none());
+    }
+}
