@@ -5,6 +5,7 @@ pub mod books;
 mod call;
 pub mod draw;
 pub mod figures;
+pub mod pieces;
 pub mod program;
 mod random;
 pub mod runs;

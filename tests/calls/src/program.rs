@@ -1,8 +1,9 @@
 //! A program run on a sheet, and what it prints.
 
+use std::fs::File;
 use std::io::{self, Read, Write};
 use std::path::Path;
-use std::process::{Command, Stdio};
+use std::process::{Command, ExitStatus, Stdio};
 use std::thread;
 use std::time::Duration;
 
@@ -22,7 +23,7 @@ pub fn piped(program: &Path, parts: &[&[u8]]) -> io::Result<Vec<u8>> {
     })?;
     match child.wait()? {
         status if status.success() => Ok(printed),
-        status => Err(io::Error::other(format!("{}: {status}", program.display()))),
+        status => Err(ended(program, status)),
     }
 }
 
@@ -35,6 +36,19 @@ fn write(mut input: impl Write, parts: &[&[u8]]) -> io::Result<()> {
         input.write_all(part)?;
     }
     Ok(())
+}
+
+/// What a program prints whose input is a file, which it reads in whole pieces.
+pub fn filed(program: &Path, sheet: &Path) -> io::Result<Vec<u8>> {
+    let output = Command::new(program).stdin(File::open(sheet)?).output()?;
+    match output.status.success() {
+        true => Ok(output.stdout),
+        false => Err(ended(program, output.status)),
+    }
+}
+
+fn ended(program: &Path, status: ExitStatus) -> io::Error {
+    io::Error::other(format!("{}: {status}", program.display()))
 }
 
 /// Fails at the first byte that was not wanted, with the line of the sheet that it answers.

@@ -5,6 +5,7 @@
 mod examples;
 mod lists;
 mod pair;
+mod program;
 mod proved;
 mod runs;
 mod sheets;
@@ -19,6 +20,7 @@ const LEAST_CALLS: u64 = 1_000_000;
 fn compare(tally: &mut Tally) -> Result<(), String> {
     examples::compare(tally)?;
     println!("document 01's examples agree");
+    program::compare()?;
     let parts: [(&str, Part); 3] = [
         ("sheets", sheets::compare),
         ("lists", lists::compare),

@@ -2,7 +2,7 @@
 
 use calls::draw::Mix;
 use calls::program::{piped, same};
-use calls::{books, runs, sheets, Random, StrikeBook};
+use calls::{books, pieces, runs, sheets, Random, StrikeBook};
 use hand::Tested;
 use second::{lines, make_on_words, parse_line, sheet_program, PlainBook};
 use std::path::Path;
@@ -124,10 +124,13 @@ fn program(parts: &[&[u8]]) -> Vec<u8> {
     piped(Path::new(env!("CARGO_BIN_EXE_hand")), parts).unwrap()
 }
 
-fn same_print(sheet: &[u8]) -> usize {
-    let printed = program(&[sheet]);
-    same(sheet, &printed, sheet_program(sheet).as_bytes()).unwrap();
-    lines(sheet).len()
+/// What is wanted of the sheet program, however its input comes.
+fn same_print(sheet: &[u8], ways: &[&[&[u8]]]) -> String {
+    let wanted = sheet_program(sheet);
+    for parts in ways {
+        same(sheet, &program(parts), wanted.as_bytes()).unwrap();
+    }
+    wanted
 }
 
 #[test]
@@ -140,54 +143,36 @@ fn the_example() {
     assert_eq!(program(&[b"\n"]), b"2\n");
 }
 
+fn fresh_words() -> Vec<u32> {
+    PlainBook::fresh(4_096).unwrap().words()
+}
+
 #[test]
 fn random_programs() {
     let mut random = Random::new(0x5eed_0033);
-    let fresh = PlainBook::fresh(4_096).unwrap().words();
     let mut count = 0;
     for round in 0..60 {
         let size = match round % 10 {
             0 => 9_000,
             _ => random.index(400),
         };
-        count += same_print(&any_sheet(&mut random, &fresh, size));
+        let sheet = any_sheet(&mut random, &fresh_words(), size);
+        count += same_print(&sheet, &[&[&sheet]]).lines().count();
     }
     println!("{count} lines, no difference");
 }
 
-/// Lines that cross the pieces in which the program reads, and lines longer than those; many strikes, and too many.
+/// Lines that cross the pieces in which the program reads, and lines longer than those; many strikes,
+/// and too many.
 #[test]
 fn large_pieces() {
-    let mut count = 0;
-    let mut sheet = b"M 4\nO 7\nC 7 666633\nO 8\nC 8 600000\nO 9\nC 9 300\nD 9 1 1\n".to_vec();
-    for n in 0..600 {
-        sheet.extend(format!("A {} {}\n", 7 + n % 3, 5 + n % 30).as_bytes());
+    let mut random = Random::new(0x5eed_0034);
+    let sheet = pieces::sheet(&mut random, fresh_words(), |run, call| {
+        Tested(run).make(call, &mut []);
+    });
+    let printed = same_print(&sheet, &[&[&sheet], &pieces::odd_parts(&sheet)]);
+    pieces::tries_pieces(&sheet, printed.as_bytes()).unwrap();
+    for sheet in pieces::others() {
+        same_print(&sheet, &[&[&sheet]]);
     }
-    count += same_print(&sheet);
-    for length in [65_534, 65_535, 65_536, 65_537, 131_072, 200_000] {
-        for first in [b'J', b'1', b' '] {
-            let mut long = sheet[..60].to_vec();
-            long.push(first);
-            long.push(b' ');
-            long.extend(std::iter::repeat(b'1').take(length));
-            long.extend(b"\nJ 9 5 6\nO 9\n");
-            count += same_print(&long);
-            long.truncate(length);
-            count += same_print(&long);
-        }
-    }
-    // A line whose first byte and last bytes alone would be a call.
-    for length in [65_534, 65_535, 65_536, 131_070, 131_071] {
-        let mut long = vec![b'O'];
-        long.extend(std::iter::repeat(b'1').take(length));
-        long.extend(b" 9\nO 9\nO 9");
-        count += same_print(&long);
-    }
-    for shift in 0..40 {
-        let mut long = b"O 11\n".repeat(13_105);
-        long.extend(std::iter::repeat(b'\n').take(shift));
-        long.extend(b"O 7\nC 7 200\nD 7 1 1\nA 7 5\nL 7 5 14\nL 7 5 16\nL 7 5 14\nI 7 5 14 1 1\n");
-        count += same_print(&long);
-    }
-    println!("{count} lines, no difference");
 }
