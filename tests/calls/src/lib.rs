@@ -8,6 +8,7 @@ pub mod figures;
 pub mod pieces;
 pub mod program;
 mod random;
+pub mod records;
 pub mod runs;
 pub mod sheets;
 mod strike_book;

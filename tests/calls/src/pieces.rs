@@ -94,7 +94,7 @@ pub fn others() -> Vec<Vec<u8>> {
     for length in [65_534, 65_535, 65_536, 65_537, 131_072, 200_000] {
         for first in ["J ", "1 ", "  "] {
             let sheet = format!("{OPENING}{first}{}\nJ 7 5 44\nO 7\n", "1".repeat(length));
-            sheets.push(sheet[..length].as_bytes().to_vec());
+            sheets.push(sheet.as_bytes()[..length].to_vec());
             sheets.push(sheet.into_bytes());
         }
     }

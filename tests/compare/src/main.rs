@@ -1,6 +1,6 @@
-//! Compares the static library with `second`, document 01 written a second time: document 01's
-//! examples, and more than a million generated calls from fixed seeds. It fails at the first
-//! difference, with its seed and its call.
+//! Compares the static library and the sheet program with `second`, document 01 written a second time:
+//! document 01's examples, sheets of several pieces, pairs of lists, and more than a million generated
+//! calls from fixed seeds. It fails at the first difference, with its seed and its call.
 
 mod examples;
 mod lists;
@@ -9,6 +9,7 @@ mod program;
 mod proved;
 mod runs;
 mod sheets;
+mod two_lists;
 
 use calls::Tally;
 use std::process::ExitCode;
@@ -21,6 +22,7 @@ fn compare(tally: &mut Tally) -> Result<(), String> {
     examples::compare(tally)?;
     println!("document 01's examples agree");
     program::compare()?;
+    two_lists::compare()?;
     let parts: [(&str, Part); 3] = [
         ("sheets", sheets::compare),
         ("lists", lists::compare),
@@ -48,7 +50,7 @@ fn main() -> ExitCode {
             ExitCode::SUCCESS
         }
         Err(text) => {
-            eprintln!("difference: {text}");
+            eprintln!("compare: {text}");
             ExitCode::FAILURE
         }
     }

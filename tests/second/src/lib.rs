@@ -3,11 +3,13 @@
 
 mod book;
 mod layout;
+mod lists;
 mod on_book;
 mod rules;
 mod sheet;
 mod units;
 
 pub use book::{Class, PlainBook, Strike};
+pub use lists::compare_lists;
 pub use on_book::make_on_words;
 pub use sheet::{lines, parse_line, printed, sheet_program};

@@ -1,0 +1,220 @@
+//! Two lists of calls on two runs, and whether they leave the same book: the answer, and every word of
+//! both runs and of the pool.
+
+use crate::pair::{same, same_words};
+use crate::proved::told;
+use calls::draw::{self, Mix};
+use calls::words::{places, STRIKE};
+use calls::{records, Call, Random, StrikeBook};
+use second::{compare_lists, PlainBook};
+use strikebook::library;
+
+const PAIRS: u64 = 4_000;
+
+/// How often each outcome must come.
+const LEAST: u64 = 100;
+
+const MIX: Mix = Mix {
+    weights: [4, 16, 20, 10, 18, 80, 2, 10, 18, 6, 3],
+    highest: 5,
+};
+
+fn fresh(length: usize) -> PlainBook {
+    PlainBook::fresh(length).expect("a good length")
+}
+
+/// Whether a call would be accepted.
+fn is_accepted(book: &PlainBook, call: &Call) -> bool {
+    book.clone().make(call, &mut [0; 512]).number == 0
+}
+
+/// A call drawn over the book, accepted or not as is wanted; few draws fail.
+fn drawn(
+    random: &mut Random,
+    book: &PlainBook,
+    letter: Option<char>,
+    accepted: bool,
+) -> Option<Call> {
+    let words = book.words();
+    let mut calls = (0..20).map(|_| match letter {
+        Some(letter) => draw::call_of(random, &words, &MIX, letter),
+        None => draw::call(random, &words, &MIX),
+    });
+    calls.find(|call| is_accepted(book, call) == accepted)
+}
+
+/// A list of calls, most of them accepted.
+fn list(random: &mut Random, length: usize) -> Vec<Call> {
+    let mut book = fresh(length);
+    let mut calls = Vec::new();
+    for _ in 0..random.index(50) {
+        let accepted = !random.one_in(8);
+        let call = drawn(random, &book, None, accepted).unwrap_or(Call::Malformed);
+        book.make(&call, &mut []);
+        calls.push(call);
+    }
+    calls
+}
+
+/// The list with calls put in now and then, as `more` gives them for the book at that place.
+fn with(
+    random: &mut Random,
+    length: usize,
+    calls: &[Call],
+    more: fn(&mut Random, &PlainBook) -> Vec<Call>,
+) -> Vec<Call> {
+    let mut book = fresh(length);
+    let mut longer = Vec::new();
+    for call in calls {
+        if random.one_in(4) {
+            longer.extend(more(random, &book));
+        }
+        book.make(call, &mut []);
+        longer.push(*call);
+    }
+    longer
+}
+
+/// A call that is refused.
+fn refused(random: &mut Random, book: &PlainBook) -> Vec<Call> {
+    vec![drawn(random, book, None, false).unwrap_or(Call::Malformed)]
+}
+
+/// A strike added and delisted again, where one can be.
+fn added_and_delisted(random: &mut Random, book: &PlainBook) -> Vec<Call> {
+    match drawn(random, book, Some('L'), true) {
+        Some(Call::L { c, m, h }) => vec![Call::L { c, m, h }, Call::X { c, m, h }],
+        _ => Vec::new(),
+    }
+}
+
+/// The list with some neighbours exchanged that are calls on different classes.
+fn exchanged(random: &mut Random, mut calls: Vec<Call>) -> Vec<Call> {
+    let class = |call: &Call| match call {
+        Call::M { .. } | Call::Malformed => None,
+        call => call.numbers().first().copied(),
+    };
+    for at in 1..calls.len() {
+        let classes = class(&calls[at - 1]).zip(class(&calls[at]));
+        if classes.is_some_and(|(one, other)| one != other) && random.one_in(2) {
+            calls.swap(at - 1, at);
+        }
+    }
+    calls
+}
+
+/// The list without one of its calls, or with one of its numbers changed.
+fn changed(random: &mut Random, mut calls: Vec<Call>) -> Vec<Call> {
+    if calls.is_empty() {
+        return vec![Call::M { m: 1 }];
+    }
+    let at = random.index(calls.len());
+    let call = calls.remove(at);
+    let mut numbers = call.numbers();
+    if !numbers.is_empty() && random.one_in(2) {
+        let place = random.index(numbers.len());
+        numbers[place] = numbers[place].wrapping_add(random.pick(&[1, 5, 10]));
+        calls.insert(at, Call::of(call.letter(), &numbers));
+    }
+    calls
+}
+
+/// Another list than this one, which mostly leaves the same book or mostly not; or this one.
+fn other(random: &mut Random, length: usize, calls: &[Call]) -> Vec<Call> {
+    match random.below(8) {
+        0 => calls.to_vec(),
+        1 => with(random, length, calls, refused),
+        2..=3 => with(random, length, calls, added_and_delisted),
+        4 => exchanged(random, calls.to_vec()),
+        5..=6 => changed(random, calls.to_vec()),
+        _ => list(random, length),
+    }
+}
+
+/// The lengths of the two runs: mostly one that a book can have.
+fn lengths(random: &mut Random) -> [usize; 2] {
+    match random.below(16) {
+        0 => random.pick(&[[0, 0], [65_536, 65_536], [0, 64], [65_535, 65_536]]),
+        1 => [random.index(60), random.index(60)],
+        2 => [1 + random.index(20); 2],
+        3 if random.one_in(20) => [65_535; 2],
+        _ => [20 + random.index(300); 2],
+    }
+}
+
+/// How many pairs came out equal, unequal and refused; equal by different lists that leave strikes;
+/// and with words written to the pool.
+#[derive(Default)]
+struct Pairs {
+    equal: u64,
+    unequal: u64,
+    refused: u64,
+    by_other_lists: u64,
+    pools: u64,
+}
+
+fn one(seed: u64, pairs: &mut Pairs) -> Result<(), String> {
+    let mut random = Random::new(seed);
+    let [left, right] = lengths(&mut random);
+    let length = left.clamp(1, 65_535);
+    let calls = list(&mut random, length);
+    let others = other(&mut random, length, &calls);
+    let differ = calls != others;
+    let calls = records::written(&mut random, &calls);
+    let others = records::written(&mut random, &others);
+
+    let room = random.pick(&[0, 5, 30, 512]);
+    let [mut left, mut right, mut pool] = [left, right, room].map(|count| random.words(count));
+    let (mut wanted_left, mut wanted_right) = (left.clone(), right.clone());
+    let lent = pool.clone();
+    let mut wanted_pool = pool.clone();
+    let wanted = compare_lists(
+        &mut wanted_left,
+        &mut wanted_right,
+        &mut wanted_pool,
+        &calls,
+        &others,
+    );
+    let reply = library::compare_lists(&mut left, &mut right, &mut pool, &calls, &others);
+    let answer = told(reply);
+    same("the answer", answer, wanted)?;
+    same_words("the left run", &left, &wanted_left)?;
+    same_words("the right run", &right, &wanted_right)?;
+    same_words("the pool", &pool, &wanted_pool)?;
+    pairs.pools += u64::from(pool != lent);
+    match (answer.number, answer.value) {
+        (0, 1) => {
+            pairs.equal += 1;
+            let has_strikes = !places(&left, STRIKE).is_empty();
+            pairs.by_other_lists += u64::from(differ && has_strikes);
+        }
+        (0, _) => pairs.unequal += 1,
+        _ => pairs.refused += 1,
+    }
+    Ok(())
+}
+
+pub fn compare() -> Result<(), String> {
+    let mut pairs = Pairs::default();
+    for seed in 0..PAIRS {
+        one(seed, &mut pairs).map_err(|text| format!("two lists, seed {seed}, {text}"))?;
+    }
+    let Pairs {
+        equal,
+        unequal,
+        refused,
+        by_other_lists,
+        pools,
+    } = pairs;
+    println!("two lists: {equal} pairs equal, {unequal} unequal, {refused} refused");
+    println!("  {by_other_lists} equal by different lists that leave strikes, {pools} with a pool written");
+    let rarest = [equal, unequal, refused, by_other_lists, pools]
+        .into_iter()
+        .min();
+    match rarest {
+        Some(LEAST..) => Ok(()),
+        _ => Err(format!(
+            "two lists: one of these came fewer than {LEAST} times"
+        )),
+    }
+}

@@ -1,0 +1,89 @@
+//! Two lists of calls, each from a fresh book.
+
+use calls::Answer;
+use second::{compare_lists, lines, parse_line};
+
+/// The records of the lines of a sheet, each with a second run of 512.
+fn records(sheet: &str) -> Vec<u32> {
+    let mut words = Vec::new();
+    for line in lines(sheet.as_bytes()) {
+        let call = parse_line(line);
+        let mut record = [0; 8];
+        let numbers = call.numbers();
+        record[0] = call.letter().into();
+        record[1] = numbers.len() as u32;
+        record[2..2 + numbers.len()].copy_from_slice(&numbers);
+        record[7] = 512;
+        words.extend(record);
+    }
+    words
+}
+
+const CALLS: &str = "M 4\nO 7\nC 7 200\nD 7 1 1\nA 7 5\nL 7 5 14";
+
+/// The number and the value for two lists on runs of 64 words.
+fn compared(calls: &[u32], others: &[u32]) -> (u32, u32) {
+    let (mut left, mut right) = ([5; 64], [6; 64]);
+    let answer = compare_lists(&mut left, &mut right, &mut [], calls, others);
+    assert_eq!(left == right, answer.value == 1);
+    (answer.number, answer.value)
+}
+
+#[test]
+fn equal_and_unequal() {
+    let calls = records(CALLS);
+    let same = records("O 7\nC 7 200\nM 4\nL 7 5 15\nX 7 5 15\nD 7 1 1\nL 7 5 14\nL 7 5 16\nM 3");
+    assert_eq!(compared(&calls, &same), (0, 1));
+    assert_eq!(compared(&calls, &calls[..40]), (0, 0));
+    assert_eq!(compared(&[], &[]), (0, 1));
+}
+
+#[test]
+fn words_of_a_list() {
+    let calls = records(CALLS);
+    // Words left over are no call, unknown letters and other counts are malformed.
+    let mut others = calls.clone();
+    others.extend([u32::MAX, 1, 9, 0, 0, 0, 0, 0]);
+    others.extend([u32::from(b'O'), 2, 9, 0, 0, 0, 0, 0]);
+    others.extend([u32::from(b'O'), 1, 9, 0, 0, 0, 0]);
+    assert_eq!(compared(&calls, &others), (0, 1));
+    others.push(0);
+    assert_eq!(compared(&calls, &others), (0, 0));
+    // A count above five means all five.
+    let marked = records(&format!("{CALLS}\nI 7 5 14 1 0"));
+    let mut others = marked.clone();
+    others[49] = u32::MAX;
+    assert_eq!(compared(&marked, &others), (0, 1));
+    assert_eq!(compared(&calls, &others), (0, 0));
+}
+
+#[test]
+fn the_pool() {
+    let calls = records(CALLS);
+    let (mut left, mut right) = ([0; 64], [0; 64]);
+    for (length, written) in [(6, 0), (7, 7), (9, 7)] {
+        let mut pool = vec![99; length];
+        compare_lists(&mut left, &mut right, &mut pool, &calls, &[]);
+        let strikes = [2, 4, 6, 8, 10, 12, 14];
+        assert_eq!(pool[..written], strikes[..written]);
+        assert!(pool[written..].iter().all(|word| *word == 99));
+    }
+}
+
+#[test]
+fn lengths() {
+    let calls = records(CALLS);
+    for [left, right] in [[0, 0], [65_536, 65_536], [64, 63]] {
+        let (mut left, mut right, mut pool) = (vec![5; left], vec![6; right], [7; 10]);
+        let answer = compare_lists(&mut left, &mut right, &mut pool, &calls, &calls);
+        assert_eq!(
+            answer,
+            Answer {
+                number: 1,
+                value: 0
+            }
+        );
+        assert!(left.iter().all(|word| *word == 5) && right.iter().all(|word| *word == 6));
+        assert_eq!(pool, [7; 10]);
+    }
+}
