@@ -26,20 +26,21 @@ impl<'a> Batch<'a> {
         }
     }
 
-    /// The nanoseconds for one book, of the work done once on each.
+    /// The nanoseconds for one book, of a side's work done once on each.
     pub fn time(&mut self, side: Side) -> f64 {
-        for (run, book) in self.runs.iter_mut().zip(self.books) {
-            run.copy_from_slice(&book.run);
-        }
         match side {
-            Side::Proved => self.timed(|what, run, lent| work(Side::Proved, what, run, lent)),
-            Side::Hand => self.timed(|what, run, lent| work(Side::Hand, what, run, lent)),
-            Side::Plain => self.timed(|what, run, lent| work(Side::Plain, what, run, lent)),
+            Side::Proved => self.time_by(|what, run, lent| work(Side::Proved, what, run, lent)),
+            Side::Hand => self.time_by(|what, run, lent| work(Side::Hand, what, run, lent)),
+            Side::Plain => self.time_by(|what, run, lent| work(Side::Plain, what, run, lent)),
         }
     }
 
+    /// The same of work that is given.
     #[inline(always)]
-    fn timed(&mut self, once: impl Fn(&Work, &mut [u32], &mut Lent) -> Answer) -> f64 {
+    pub fn time_by(&mut self, once: impl Fn(&Work, &mut [u32], &mut Lent) -> Answer) -> f64 {
+        for (run, book) in self.runs.iter_mut().zip(self.books) {
+            run.copy_from_slice(&book.run);
+        }
         let start = Instant::now();
         for (run, what) in self.runs.iter_mut().zip(self.works) {
             black_box(once(what, black_box(run), &mut self.lent));

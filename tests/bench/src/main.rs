@@ -1,9 +1,10 @@
 //! Prints how long the proved functions take beside two versions in Rust, as ratios measured in one
 //! run: (b) is `tests/hand`, made for speed, and (a) is `tests/second`, written plainly. `bench
-//! sheet` times the sheet programs instead. The tables go to standard output, the nanoseconds to
-//! standard error.
+//! sheet` times the sheet programs instead, `bench builds FIRST SECOND` two builds of the library. The
+//! tables go to standard output, the nanoseconds to standard error.
 
 mod books;
+mod builds;
 mod clock;
 mod programs;
 #[path = "../../compare/src/proved.rs"]
@@ -90,6 +91,14 @@ fn check(name: &str, book: &Book, what: &Work, lent: &Lent) {
     assert_eq!(proved.1 == book.run, reads_only, "{name}: the book's words");
 }
 
+/// A sheet has fewer rounds.
+fn rounds_of(works: &[Work]) -> usize {
+    match works[0] {
+        Work::Sheet(_) => ROUNDS / 3,
+        _ => ROUNDS,
+    }
+}
+
 fn measure(name: &str, books: &[Book], works: &[Work]) -> [Compared; 2] {
     let books = &books[..works.len()];
     let length = books[0].run.len();
@@ -97,10 +106,10 @@ fn measure(name: &str, books: &[Book], works: &[Work]) -> [Compared; 2] {
     for (book, what) in books.iter().zip(works) {
         check(name, book, what, &lent);
     }
-    let (rounds, plain_count, plain_rounds) = if matches!(works[0], Work::Sheet(_)) {
-        (ROUNDS / 3, 1, 3)
+    let (plain_count, plain_rounds) = if matches!(works[0], Work::Sheet(_)) {
+        (1, 3)
     } else {
-        (ROUNDS, (4_096 / length).max(1), PLAIN_ROUNDS)
+        ((4_096 / length).max(1), PLAIN_ROUNDS)
     };
     let beside = |side, count, rounds| {
         let mut batch = Batch::of(&books[..count], &works[..count], &lent);
@@ -108,7 +117,7 @@ fn measure(name: &str, books: &[Book], works: &[Work]) -> [Compared; 2] {
             batch.time(if first { Side::Proved } else { side })
         })
     };
-    let hand = beside(Side::Hand, books.len(), rounds);
+    let hand = beside(Side::Hand, books.len(), rounds_of(works));
     let plain = beside(Side::Plain, plain_count, plain_rounds);
     eprintln!(
         "{name}, {length} words: {:.0} ns, (b) {:.0} ns, (a) {:.0} ns",
@@ -185,13 +194,16 @@ fn growth() {
 }
 
 fn main() {
-    match std::env::args().nth(1).as_deref() {
-        None => {
+    let words: Vec<String> = std::env::args().skip(1).collect();
+    let words: Vec<&str> = words.iter().map(String::as_str).collect();
+    match words[..] {
+        [] => {
             table("Full books", books::full);
             table("Nearly empty books", books::nearly_empty);
             growth();
         }
-        Some("sheet") => programs::sheet(),
-        Some(other) => panic!("no mode {other}"),
+        ["sheet"] => programs::sheet(),
+        ["builds", first, second] => builds::builds(first, second),
+        _ => panic!("no mode {words:?}"),
     }
 }

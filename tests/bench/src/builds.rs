@@ -1,0 +1,157 @@
+//! Two builds of the library timed in one run. Each is a shared library that is opened by its path, so that
+//! both are called alike: `cc -shared -o NAME.so -Wl,--whole-archive libexport.a` makes one of an archive.
+
+use crate::books::{full, nearly_empty, Book};
+use crate::clock::{compare, Batch};
+use crate::proved::told;
+use crate::side::{Lent, Work};
+use crate::{books_of, lent, rounds_of, rows_of, Kind, LENGTHS};
+use calls::{Answer, StrikeBook};
+use std::ffi::{c_char, c_int, c_void, CString};
+use std::mem::transmute_copy;
+use strikebook::library::Reply;
+
+extern "C" {
+    fn dlopen(path: *const c_char, how: c_int) -> *mut c_void;
+    fn dlsym(library: *mut c_void, name: *const c_char) -> *mut c_void;
+}
+
+/// RTLD_NOW without RTLD_GLOBAL: neither build sees the other's names.
+const APART: c_int = 2;
+
+type Run = *mut u32;
+
+/// The functions of one build, as `strikebook::library` declares them.
+struct Build {
+    is_book: extern "C" fn(Run, usize) -> bool,
+    set_month: extern "C" fn(Run, usize, u32) -> Reply,
+    open_class: extern "C" fn(Run, usize, u32) -> Reply,
+    set_close: extern "C" fn(Run, usize, u32, u32) -> Reply,
+    set_volume: extern "C" fn(Run, usize, u32, u32) -> Reply,
+    designate: extern "C" fn(Run, usize, u32, u32, u32) -> Reply,
+    list_strike: extern "C" fn(Run, usize, u32, u32, u32) -> Reply,
+    judge_strike: extern "C" fn(Run, usize, u32, u32, u32) -> Reply,
+    delist_strike: extern "C" fn(Run, usize, u32, u32, u32) -> Reply,
+    mark_strike: extern "C" fn(Run, usize, u32, u32, u32, u32, u32) -> Reply,
+    review_class: extern "C" fn(Run, usize, u32) -> Reply,
+    list_permitted: extern "C" fn(Run, usize, Run, usize, u32, u32) -> Reply,
+    run_sheet: extern "C" fn(Run, usize, Run, usize, *const u8, usize, Run, usize) -> usize,
+}
+
+impl Build {
+    fn open(path: &str) -> Build {
+        let name = CString::new(path).expect("a path");
+        // SAFETY: the name ends in 0. The library is never closed.
+        let library = unsafe { dlopen(name.as_ptr(), APART) };
+        assert!(!library.is_null(), "{path} can't be opened");
+        macro_rules! build {
+            ($($function:ident)*) => {
+                Build { $($function: {
+                    let name = CString::new(concat!("strike_book_", stringify!($function))).expect("a name");
+                    // SAFETY: the library is open, and the function is of the field's type in every build.
+                    unsafe {
+                        let function = dlsym(library, name.as_ptr());
+                        assert!(!function.is_null(), "{path} lacks {name:?}");
+                        transmute_copy(&function)
+                    }
+                },)* }
+            };
+        }
+        build! {
+            is_book set_month open_class set_close set_volume designate list_strike judge_strike delist_strike
+            mark_strike review_class list_permitted run_sheet
+        }
+    }
+
+    /// Does the work once, as `side::work` does it.
+    fn work(&self, work: &Work, run: &mut [u32], lent: &mut Lent) -> Answer {
+        let (second, answers) = (&mut lent.second, &mut lent.answers);
+        let number = match work {
+            Work::Call(call) => return Called(self, run).make(call, second),
+            Work::IsBook => (self.is_book)(run.as_mut_ptr(), run.len()) as usize,
+            Work::Sheet(sheet) => (self.run_sheet)(
+                run.as_mut_ptr(),
+                run.len(),
+                second.as_mut_ptr(),
+                second.len(),
+                sheet.as_ptr(),
+                sheet.len(),
+                answers.as_mut_ptr(),
+                answers.len(),
+            ),
+        };
+        Answer {
+            number: number as u32,
+            value: 0,
+        }
+    }
+}
+
+/// A run that is lent to a build.
+struct Called<'a>(&'a Build, &'a mut [u32]);
+
+macro_rules! called {
+    ($($function:ident($($number:ident),*))*) => {
+        $(fn $function(&mut self, $($number: u32),*) -> Answer {
+            told((self.0.$function)(self.1.as_mut_ptr(), self.1.len(), $($number),*))
+        })*
+    };
+}
+
+impl StrikeBook for Called<'_> {
+    called! {
+        set_month(m) open_class(c) set_close(c, p) set_volume(c, n) designate(c, p, d) list_strike(c, m, h)
+        judge_strike(c, m, h) delist_strike(c, m, h) mark_strike(c, m, h, a, b) review_class(c)
+    }
+
+    fn list_permitted(&mut self, second: &mut [u32], c: u32, m: u32) -> Answer {
+        let (at, length) = (second.as_mut_ptr(), second.len());
+        told((self.0.list_permitted)(self.1.as_mut_ptr(), self.1.len(), at, length, c, m))
+    }
+
+    fn malformed(&mut self) -> Answer {
+        unreachable!("no malformed line is timed alone")
+    }
+}
+
+/// Both builds do the same.
+fn check(builds: &[Build; 2], name: &str, book: &Book, what: &Work) {
+    let [one, other] = builds.each_ref().map(|build| {
+        let (mut run, mut lent) = (book.run.clone(), lent());
+        let answer = build.work(what, &mut run, &mut lent);
+        (answer, run, lent)
+    });
+    assert!(one == other, "{name}: the builds differ");
+}
+
+/// One row of a table, of one length: the second build's time beside the first's, best and median.
+fn measure(builds: &[Build; 2], name: &str, books: &[Book], works: &[Work]) -> String {
+    for (book, what) in books.iter().zip(works) {
+        check(builds, name, book, what);
+    }
+    let mut batch = Batch::of(&books[..works.len()], works, &lent());
+    let compared = compare(rounds_of(works), |second| {
+        let build = &builds[usize::from(second)];
+        batch.time_by(|what, run, lent| build.work(what, run, lent))
+    });
+    let (best, median) = (compared.best(), compared.median);
+    format!(" {:.0} | {best:.2} | {median:.2} |", compared.second)
+}
+
+/// The tables of the second build beside the first.
+pub fn builds(first: &str, second: &str) {
+    let builds = [first, second].map(Build::open);
+    let kinds: [(&str, Kind); 2] = [("Full books", full), ("Nearly empty books", nearly_empty)];
+    for (title, kind) in kinds {
+        println!("### {title}: nanoseconds of the first build, the second's time beside it\n");
+        println!("| | 64 words | best | median | 4,096 | best | median | 65,535 | best | median |");
+        println!("|---|---|---|---|---|---|---|---|---|---|");
+        let books = LENGTHS.map(|length| books_of(kind, length));
+        let rows = books.each_ref().map(|books| rows_of(books));
+        for (place, (name, _)) in rows[0].iter().enumerate() {
+            let cells = [0, 1, 2].map(|at| measure(&builds, name, &books[at], &rows[at][place].1));
+            println!("| {name} |{}", cells.concat());
+        }
+        println!();
+    }
+}
