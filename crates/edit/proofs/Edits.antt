@@ -8,9 +8,8 @@ use native.Mathlib.Omega.{arith}
 use lib.Dec.{T}
 use lib.ListN.{length, getD, set}
 use Rattle.word.specs.declared.class.ClassRecord.{ClassRecord}
-use Rattle.word.specs.declared.codec.Word.the-variants.{Class, Close, Volume, Strike}
+use Rattle.word.specs.Codec.{Class, Close, Volume, Strike, packed, Fits}
 use Rattle.word.specs.Class.{opened}
-use Rattle.word.specs.Codec.{packed, Fits}
 use Rattle.word.specs.Field.{field}
 use Rattle.word.proofs.Words.{strike-fields}
 use Rattle.book.specs.Facts.{Series, Facts, withFigures, withSeries, insertSeries}

@@ -9,9 +9,7 @@ use lib.Dec.{T}
 use lib.ListN.{length, set, replicate, length-append, length-map}
 use lib.Seq.{drop-at}
 use borrow.Rule.Slice.PartMut.{midOf, putMid}
-use Rattle.word.specs.declared.codec.Word.{Word}
-use Rattle.word.specs.declared.codec.Word.the-variants.{Head}
-use Rattle.word.specs.Codec.{packed}
+use Rattle.word.specs.Codec.{Word, Head, packed}
 use Rattle.book.specs.Facts.{Facts}
 use Rattle.book.specs.Layout.{strikeWord, expirationUnless, used, layout, factsOf}
 use Rattle.book.specs.Books.{isBook, isWellFormed}

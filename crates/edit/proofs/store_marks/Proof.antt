@@ -6,8 +6,7 @@ use native.Mathlib.Omega.{arith}
 use borrow.Author.Needs.{needs}
 use lib.Dec.{leb→le}
 use lib.ListN.{set}
-use Rattle.word.specs.declared.codec.Word.the-variants.{Strike}
-use Rattle.word.specs.Codec.{packed}
+use Rattle.word.specs.Codec.{Strike, packed}
 use Rattle.edit.proofs.Edits.{marks-room, marks-stored}
 use Rattle.edit.proofs.store_marks.Statement.{statement}
 use Rattle.edit.proofs.store_marks.Tie as tie
