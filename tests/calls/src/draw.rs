@@ -67,21 +67,17 @@ pub fn call_of(random: &mut Random, run: &[u32], mix: &Mix, letter: char) -> Cal
             let m = month(random, now(run), class.as_ref());
             Call::A { c, m }
         }
-        'X' | 'I' => {
-            // Mostly a strike that stands.
-            let (m, h) = match class {
-                Some(class) if !class.strikes.is_empty() && !random.one_in(4) => {
-                    random.pick(&class.strikes)
-                }
-                class => series(random, now(run), class.as_ref()),
-            };
-            let (a, b) = (random.below(2), random.below(2));
-            let a = beyond(random, a, &[2]);
-            let b = beyond(random, b, &[2]);
-            match letter {
-                'X' => Call::X { c, m, h },
-                _ => Call::I { c, m, h, a, b },
-            }
+        'X' => {
+            let (m, h) = standing(random, now(run), class.as_ref());
+            Call::X { c, m, h }
+        }
+        'I' => {
+            let (m, h) = standing(random, now(run), class.as_ref());
+            let [a, b] = [0, 1].map(|_| {
+                let mark = random.below(2);
+                beyond(random, mark, &[2])
+            });
+            Call::I { c, m, h, a, b }
         }
         _ => {
             let (m, h) = series(random, now(run), class.as_ref());
@@ -121,7 +117,17 @@ fn new_month(random: &mut Random, now: u32) -> u32 {
     }
 }
 
-/// A month and a strike of a class.
+/// The month and the strike of a series, mostly one that stands.
+fn standing(random: &mut Random, now: u32, class: Option<&Class>) -> (u32, u32) {
+    match class {
+        Some(class) if !class.strikes.is_empty() && !random.one_in(4) => {
+            random.pick(&class.strikes)
+        }
+        class => series(random, now, class),
+    }
+}
+
+/// The month and the strike of a series.
 fn series(random: &mut Random, now: u32, class: Option<&Class>) -> (u32, u32) {
     let m = month(random, now, class);
     (m, half_dollars(random, class, m))

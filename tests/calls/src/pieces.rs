@@ -36,7 +36,7 @@ pub fn sheet(
             let end = sheet.len().next_multiple_of(PIECE) - broken;
             // The last line before it is as long as is left.
             while sheet.len() + 2_000 < end {
-                let line = match random.one_in(40) {
+                let more = match random.one_in(40) {
                     true => long_line(1 + random.index(1_500)),
                     false => {
                         let call = draw::call(random, &run, &MIX);
@@ -44,7 +44,7 @@ pub fn sheet(
                         call.line() + "\n"
                     }
                 };
-                sheet.extend(line.as_bytes());
+                sheet.extend(more.as_bytes());
             }
             sheet.extend(long_line(end - sheet.len()).as_bytes());
             sheet.extend(line.as_bytes());

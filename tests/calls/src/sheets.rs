@@ -82,7 +82,7 @@ fn odd(random: &mut Random, number: u32) -> String {
 }
 
 /// Any bytes, or bytes of which calls are made.
-pub fn noise(random: &mut Random) -> Vec<u8> {
+fn noise(random: &mut Random) -> Vec<u8> {
     let alphabet: &[u8] = random.pick(&[
         &b"MOCVDLJXIRA 0123456789\n"[..],
         &b"MOCVDLJXIRA   0123457\n\n\r/:\x10\x80\xb0"[..],

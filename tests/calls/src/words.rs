@@ -1,5 +1,7 @@
 //! The words of a run by document 01's layout, written and read without asking whether it is a book.
 
+use crate::Random;
+
 /// Bits 28 to 31 of a word are its kind.
 pub const HEAD: u32 = 1 << 28;
 pub const CLASS: u32 = 2 << 28;
@@ -94,7 +96,7 @@ pub fn class_of(run: &[u32], c: u32) -> Option<Class> {
 }
 
 /// Any class that is open.
-pub fn any_class(random: &mut crate::Random, run: &[u32]) -> Option<Class> {
+pub fn any_class(random: &mut Random, run: &[u32]) -> Option<Class> {
     let places = places(run, CLASS);
     match places.is_empty() {
         true => None,
@@ -103,7 +105,7 @@ pub fn any_class(random: &mut crate::Random, run: &[u32]) -> Option<Class> {
 }
 
 /// The class, the month and the half dollars of any strike that stands.
-pub fn any_strike(random: &mut crate::Random, run: &[u32]) -> Option<(u32, u32, u32)> {
+pub fn any_strike(random: &mut Random, run: &[u32]) -> Option<(u32, u32, u32)> {
     let places = places(run, STRIKE);
     if places.is_empty() {
         return None;
@@ -117,7 +119,6 @@ pub fn any_strike(random: &mut crate::Random, run: &[u32]) -> Option<(u32, u32, 
 #[cfg(test)]
 mod tests {
     use super::*;
-    use crate::Random;
 
     #[test]
     fn a_class_is_read_as_written() {
