@@ -7,8 +7,6 @@ ghost use Rattle.book.specs.Books.{isBook};
 ghost use Rattle.book.specs.Calls.{callM, callO, callC, callV, callD, callL, callJ, callX, callI, callR, callA};
 ghost use Rattle.text.specs.Sheets.{SheetRun};
 ghost use Rattle.export.specs.Answered.{Answered, Started};
-ghost use Rattle.export.specs.Comparisons.{comparisonNumber, comparisonValue, Replied};
-use history::Comparison;
 use word::answer::Answer;
 
 // The number and the value of an answer, document 01's.
@@ -24,25 +22,6 @@ fn reply_of(answer: Answer) -> Reply
     Reply {
         number: answer.number(),
         value: answer.value(),
-    }
-}
-
-fn reply_of_comparison(comparison: Comparison) -> Reply
-    ensures { λ r. ⌜ (r .number ≡ comparisonNumber comparison) × (r .value ≡ comparisonValue comparison) ⌝ }
-{
-    match comparison {
-        Comparison::Equal => Reply {
-            number: 0,
-            value: 1,
-        },
-        Comparison::Different => Reply {
-            number: 0,
-            value: 0,
-        },
-        Comparison::BadLength => Reply {
-            number: 1,
-            value: 0,
-        },
     }
 }
 
@@ -174,19 +153,4 @@ pub extern "C" fn strike_book_run_sheet(
         r (now (run .exit)) (now (second .exit)) (now (answers .exit)) ⌝ }
 {
     text::sheet::run_sheet(run, second, sheet, answers)
-}
-
-// Two lists of calls, each run from a fresh book, and whether they leave the same book.
-#[no_mangle]
-pub extern "C" fn strike_book_compare_lists(
-    left: &mut [u32],
-    right: &mut [u32],
-    pool: &mut [u32],
-    calls: &[u32],
-    others: &[u32],
-) -> Reply
-    ensures { λ r. ⌜ Replied (now (left .entry)) (now (right .entry)) (now (pool .entry)) (now (calls .entry))
-        (now (others .entry)) r (now (left .exit)) (now (right .exit)) (now (pool .exit)) ⌝ }
-{
-    reply_of_comparison(history::compare_lists(left, right, pool, calls, others))
 }
