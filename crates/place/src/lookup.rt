@@ -73,9 +73,9 @@ pub fn class_at(run: &[u32], near: usize, c: u32) -> usize
     1 + first_rising(words, 2, 14, c)
 }
 
-// Where the class c stands, or where its words would be put, in a book of more than 256 words; 0 in a shorter one, where
-// a search costs less than to remember. `places` holds where classes were found, by the last ten bits of their numbers:
-// they move little from call to call. Any numbers will do, since they only shorten the search.
+// Where the class c stands, or where its words would be put, in a book of more than 256 words; 0 in a shorter one,
+// where a search costs less than to remember. `places` holds where classes were found, by the last ten bits of their
+// numbers: they move little from call to call. Any numbers will do, since they only shorten the search.
 pub fn remembered_place(run: &[u32], places: &mut [u32], c: u32) -> usize
     requires { ⌜ T (isBook (now run)) × (length (now places) ≡ 1024) ⌝ }
     ensures { λ r. ⌜ r ≡ rememberedPlace c (factsOf (now (run .entry))) ⌝ }

@@ -53,7 +53,7 @@ counted c = c .before .before .before .before
 abbrev called : tie.After-judge-found → tie.Start
 called c = start (within (opened (found c)))
 
--- ---- what is known there
+-- ---- what is known up to the judgement
 
 limits : (c : tie.Else1) → let a = start c .args in not (isWritten (callJ (a .c) (a .m) (a .h))) ≡ false
 limits c = ap not (sym (c .before .is-written .ensures)) ∙ c .if1 .left
@@ -94,56 +94,7 @@ judged c =
     judged-found (a .c) (a .m) (a .h) (factsOf (a .run .now)) (limits (within o)) (begins o .is-open) _
     (c .judge-found .ensures (sought (found c)))
 
-ground :
-    (c : tie.Joined3)
-    → let a = called (ruled c) .args in
-    judgedAnswer (a .c) (a .m) (a .h) (factsOf (a .run .now)) ≡ Ground (permitted c .answer .given .0 .0)
-ground c = sym (judged (ruled c)) ∙ permitted c .answer .given .1
-
-has-strikes :
-    (c : tie.After-judge-found)
-    → let a = called c .args in
-    found c .look-up-strike .result .expiration ≡ hasExpiration (a .c) (a .m) (factsOf (a .run .now))
-has-strikes c = ap (λ (r : StrikeSearch). r .expiration) (sought (found c) .place)
-
--- the words that the strike needs
-needed-words :
-    (c : tie.Joined3) → c .if3 .needed ≡ cond {A = ℕ} (found (ruled c) .look-up-strike .result .expiration) 1 2
-needed-words c = ⊎-elim (λ x. x .1 ∙ rw (x .0 .taken)) (λ x. x .1 ∙ rw (x .0 .left)) (c .if3 .came)
-
-needed :
-    (c : tie.Joined3)
-    → let a = called (ruled c) .args in
-    c .if3 .needed ≡ cond {A = ℕ} (hasExpiration (a .c) (a .m) (factsOf (a .run .now))) 1 2
-needed c = needed-words c ∙ ap (λ (b : Bool). cond {A = ℕ} b 1 2) (has-strikes (ruled c))
-
-abbrev insertable :
-    (c : tie.Else4)
-    → let g = ruled (counted c) in
-    let a = called g .args in
-    let r = found g .look-up-strike .result in
-    Insertable (a .run .now) (r .at) (r .expiration) (a .m) (a .h) (permitted (counted c) .answer .given .0 .0)
-insertable c =
-    let j = counted c in
-    let g = ruled j in
-    let s = called g in
-    let a = s .args in
-    let p = permits (a .c) (a .m) (a .h) (factsOf (a .run .now)) _ (ground j) in
-    let written = p .limits in
-    record {
-      book = s .pre;
-      month = search ands;
-      strike = search ands;
-      on = p .known;
-      class = a .c;
-      is-open = p .opened;
-      absent = p .absent;
-      place = ap (λ (r : StrikeSearch). r .at) (sought (found g) .place);
-      expiration = has-strikes g;
-      room = omega (arith, c .if4 .left, c .before .before .used .ensures, needed-words j);
-    }
-
--- ---- what is to be shown there
+-- ---- what is to be shown up to the judgement
 
 is-written-requires : tie.Need-is-written-requires
 is-written-requires c κs = search needs
@@ -207,6 +158,59 @@ returns-3 c =
     let s = called g in
     let a = s .args in
     list-refused (a .run .now) (s .pre) (a .c) (a .m) (a .h) _ (judged g) (no-ground _ (c .match .keys2))
+
+-- ---- what is known where a ground was answered
+
+ground :
+    (c : tie.Joined3)
+    → let a = called (ruled c) .args in
+    judgedAnswer (a .c) (a .m) (a .h) (factsOf (a .run .now)) ≡ Ground (permitted c .answer .given .0 .0)
+ground c = sym (judged (ruled c)) ∙ permitted c .answer .given .1
+
+has-strikes :
+    (c : tie.After-judge-found)
+    → let a = called c .args in
+    found c .look-up-strike .result .expiration ≡ hasExpiration (a .c) (a .m) (factsOf (a .run .now))
+has-strikes c = ap (λ (r : StrikeSearch). r .expiration) (sought (found c) .place)
+
+-- the words that the strike needs
+needed-words :
+    (c : tie.Joined3) → c .if3 .needed ≡ cond {A = ℕ} (found (ruled c) .look-up-strike .result .expiration) 1 2
+needed-words c = ⊎-elim (λ x. x .1 ∙ rw (x .0 .taken)) (λ x. x .1 ∙ rw (x .0 .left)) (c .if3 .came)
+
+needed :
+    (c : tie.Joined3)
+    → let a = called (ruled c) .args in
+    c .if3 .needed ≡ cond {A = ℕ} (hasExpiration (a .c) (a .m) (factsOf (a .run .now))) 1 2
+needed c = needed-words c ∙ ap (λ (b : Bool). cond {A = ℕ} b 1 2) (has-strikes (ruled c))
+
+abbrev insertable :
+    (c : tie.Else4)
+    → let g = ruled (counted c) in
+    let a = called g .args in
+    let r = found g .look-up-strike .result in
+    Insertable (a .run .now) (r .at) (r .expiration) (a .m) (a .h) (permitted (counted c) .answer .given .0 .0)
+insertable c =
+    let j = counted c in
+    let g = ruled j in
+    let s = called g in
+    let a = s .args in
+    let p = permits (a .c) (a .m) (a .h) (factsOf (a .run .now)) _ (ground j) in
+    let written = p .limits in
+    record {
+      book = s .pre;
+      month = search ands;
+      strike = search ands;
+      on = p .known;
+      class = a .c;
+      is-open = p .opened;
+      absent = p .absent;
+      place = ap (λ (r : StrikeSearch). r .at) (sought (found g) .place);
+      expiration = has-strikes g;
+      room = omega (arith, c .if4 .left, c .before .before .used .ensures, needed-words j);
+    }
+
+-- ---- what is to be shown there
 
 used-requires : tie.Need-used-requires
 used-requires c κs = search needs
