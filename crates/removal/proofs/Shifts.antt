@@ -1,20 +1,49 @@
--- Words moved down over a gap, one or more a turn, for any distance: those before i are the moved ones, the others as they were. Assumes nothing.
+-- Words moved down over a gap, one or more a turn, for any distance: those before i are the moved ones, the others as
+-- they were. Assumes nothing.
 use Prim.Native.Nat.{ℕ, zero, suc, _+_, _-_, _≤_, _<_}
 use mathlib.Core.Path.{_≡_, refl, sym, ap, _∙_}
-use mathlib.Core.List.{List, [], _∷_, _++_}
+use mathlib.Core.List.{List, [], _∷_, _++_, append-assoc, append-nil}
 use native.Mathlib.Omega.{arith}
-use lib.ListN.{length, getD, set, take, drop, replicate, length-append, length-drop}
+use lib.ListN.{length, getD, set, take, drop, replicate, length-append, length-drop, take-append-drop, drop-of-length-le}
 use lib.Seq.{take-all, take-add, take-suc, take-append-le, take-take, take-at, drop-at, drop-drop, drop-cons, getD-drop, length-take-le, sets, sets-eq, length-sets}
-use borrow.Rule.Slice.PartMut.{putMid}
+use borrow.Rule.Slice.PartMut.{midOf, putMid}
 use Rattle.word.proofs.Stores.{sets-append}
-use Rattle.removal.specs.Runs.{movedDown, Shifting, closed}
-use Rattle.removal.proofs.Parts.{tail-zeroed}
+use Rattle.removal.specs.Runs.{movedDown, closed}
+use Rattle.removal.proofs.Parts.{tail-all, tail-zeroed}
 use Rattle.removal.proofs.Stretches.{drop-later}
+
+-- the words xs became s: the first i after a gap moved to its front, the others as they were
+pub record Shifting (gap : ℕ) (xs s : List ℕ) (i : ℕ) : Type 0 where
+  pub room : i + gap ≤ length xs
+  pub long : length s ≡ length xs
+  pub moved : s ≡ take i (drop gap xs) ++ drop i xs
 
 pub shift-start : (gap : ℕ) (xs : List ℕ) → gap ≤ length xs → Shifting gap xs xs 0
 shift-start gap xs h = record { room = omega arith; long = refl; moved = refl }
 
+-- the first i moved, and then the others
+moved-parts :
+    (gap i : ℕ) (xs : List ℕ) → i + gap ≤ length xs
+    → take i (drop gap xs) ++ movedDown gap (drop i xs) ≡ movedDown gap xs
+moved-parts gap i xs h =
+    let ys = drop gap xs in
+    let swap : i + gap ≡ gap + i = omega arith in
+    let near : drop gap (drop i xs) ≡ drop i ys =
+    drop-drop gap i xs ∙ ap (λ (j : ℕ). drop j xs) swap ∙ sym (drop-drop i gap xs) in
+    let last : i + (length (drop i xs) - gap) ≡ length xs - gap = omega (arith, length-drop i xs) in
+    let far : drop (length (drop i xs) - gap) (drop i xs) ≡ drop (length xs - gap) xs =
+    drop-drop (length (drop i xs) - gap) i xs ∙ ap (λ (j : ℕ). drop j xs) last in
+    (λ j. take i ys ++ (near j ++ far j))
+    ∙ sym (append-assoc (take i ys) (drop i ys) (drop (length xs - gap) xs))
+    ∙ ap (λ (l : List ℕ). l ++ drop (length xs - gap) xs) (take-append-drop i ys)
+
 module _ {gap : ℕ} {xs s : List ℕ} {i : ℕ} (S : Shifting gap xs s i) where
+  moved-count : length (take i (drop gap xs)) ≡ i
+  moved-count = length-take-le i (drop gap xs) (simp length-drop (omega (arith, S .room)))
+
+  unread : drop i s ≡ drop i xs
+  unread = ap (drop i) (S .moved) ∙ drop-at (take i (drop gap xs)) (drop i xs) i moved-count
+
   -- a turn that stores the n words from k on as they stood before it: those before i for the second time
   pub shift-on :
       (k n : ℕ) → (k ≤ i) × ((i ≤ k + gap) × ((i ≤ k + n) × (k + n + gap ≤ length xs)))
@@ -22,10 +51,9 @@ module _ {gap : ℕ} {xs s : List ℕ} {i : ℕ} (S : Shifting gap xs s i) where
   shift-on k n h =
       let ys = drop gap xs in
       let l : length ys ≡ length xs - gap = length-drop gap xs in
-      let p : length (take i ys) ≡ i = length-take-le i ys (omega (arith, S .room)) in
+      let p = moved-count in
       let front : take k s ≡ take k ys =
       ap (take k) (S .moved) ∙ take-append-le k (take i ys) (drop i xs) (omega arith) ∙ take-take k i ys (h .0) in
-      let unread : drop i s ≡ drop i xs = ap (drop i) (S .moved) ∙ drop-at (take i ys) (drop i xs) i p in
       let swap : k + gap ≡ gap + k = omega arith in
       let next : drop (k + gap) s ≡ drop k ys =
       drop-later i (k + gap) s xs (h .1 .0) unread ∙ ap (λ (j : ℕ). drop j xs) swap ∙ sym (drop-drop k gap xs) in
@@ -52,6 +80,20 @@ module _ {gap : ℕ} {xs s : List ℕ} {i : ℕ} (S : Shifting gap xs s i) where
       let e : i ≡ length xs - gap = omega arith in
       let n : length (drop gap xs) ≡ length xs - gap = length-drop gap xs in
       S .moved ∙ rw (take-all i (drop gap xs) (omega arith), e)
+
+  -- the words from i on moved by themselves
+  pub shift-rest :
+      (rest : List ℕ) → rest ≡ movedDown gap (midOf i (length s - i) s)
+      → putMid i (length s - i) s rest ≡ movedDown gap xs
+  shift-rest rest e =
+      let front : take i s ≡ take i (drop gap xs) =
+      ap (take i) (S .moved) ∙ take-at (take i (drop gap xs)) (drop i xs) i moved-count in
+      let part = e ∙ ap (movedDown gap) (tail-all i s ∙ unread) in
+      let past : drop (length s - i) (drop i s) ≡ [] =
+      drop-of-length-le (drop i s) {i = length s - i} (simp length-drop (omega arith)) in
+      (λ j. front j ++ (part j ++ past j))
+      ∙ ap (λ (l : List ℕ). take i (drop gap xs) ++ l) (append-nil (movedDown gap (drop i xs)))
+      ∙ moved-parts gap i xs (S .room)
 
 module _ (xs : List ℕ) (to from : ℕ) where
   -- a word and the n after it stored as they stood before the first store, one after another

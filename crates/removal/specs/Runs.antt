@@ -1,8 +1,7 @@
 -- Inner: words rewritten in place, a pass over them and a gap that is closed. Assumes nothing.
-use Prim.Native.Nat.{ℕ, _+_, _-_, _≤_}
-use mathlib.Core.Path.{_≡_}
+use Prim.Native.Nat.{ℕ, _-_}
 use mathlib.Core.List.{List, [], _∷_, _++_}
-use lib.ListN.{length, take, drop, replicate}
+use lib.ListN.{length, drop, replicate}
 
 -- what a pass gives: the words that it writes, and the state that it ends in
 pub record Ran (S : Type 0) : Type 0 where
@@ -26,12 +25,6 @@ padded n ws = ws ++ replicate (n - length ws) 0
 -- the words after a gap of n moved to its front; the last n stand as they were
 abbrev pub movedDown : ℕ → List ℕ → List ℕ
 movedDown n ws = drop n ws ++ drop (length ws - n) ws
-
--- the words xs became s: the first i after a gap moved to its front, the others as they were
-pub record Shifting (gap : ℕ) (xs s : List ℕ) (i : ℕ) : Type 0 where
-  pub room : i + gap ≤ length xs
-  pub long : length s ≡ length xs
-  pub moved : s ≡ take i (drop gap xs) ++ drop i xs
 
 -- all moved, and the last n zeroed
 abbrev pub closed : ℕ → List ℕ → List ℕ

@@ -1,10 +1,9 @@
 // A gap at the front of lent words is closed: the others move down, and what is freed at the end is zeroed.
 ghost use mathlib.Core.Path.{_≡_};
-ghost use mathlib.Core.List.{List};
-ghost use Prim.Native.Nat.{ℕ, _+_, _≤_};
+ghost use Prim.Native.Nat.{_+_, _≤_};
 ghost use lib.ListN.{drop, length, take};
 ghost use lib.Seq.{sets};
-ghost use Rattle.removal.specs.Runs.{movedDown, Shifting, closed};
+ghost use Rattle.removal.specs.Runs.{movedDown, closed};
 use word::zeros::zero_all;
 
 // The loops with a constant distance compile to memmove.
@@ -55,20 +54,21 @@ fn move_eight(words: &mut [u32], to: usize, from: usize)
     words[to + 7] = h;
 }
 
-// Goes on with a move of which the first `done` words have come to their places: word by word.
-fn move_rest(words: &mut [u32], gap: usize, done: usize)
-    requires { ⌜ done + gap ≤ length (now words) ⌝ }
-    ensures { λ _. ⌜ ((xs : List ℕ) → Shifting gap xs (now (words .entry)) done → now (words .exit) ≡ movedDown gap xs) ⌝ }
+// Moves the words after a gap to its front, word by word.
+fn move_each(words: &mut [u32], gap: usize)
+    requires { ⌜ gap ≤ length (now words) ⌝ }
+    ensures { λ _. ⌜ now (words .exit) ≡ movedDown gap (now (words .entry)) ⌝ }
 {
     let count = words.len() - gap;
-    let mut i = done;
+    let mut i = 0;
     while i < count {
         words[i] = words[i + gap];
         i += 1;
     }
 }
 
-// Moves the words after a gap to its front, eight at a time. Over a gap of eight or more the last eight stand unchanged until they are moved, so that what is left goes with them, some of it for the second time.
+// Moves the words after a gap to its front, eight at a time. Over a gap of eight or more the last eight stand unchanged
+// until they are moved, so that what is left goes with them, some of it for the second time.
 pub fn move_down_by(words: &mut [u32], gap: usize)
     requires { ⌜ gap ≤ length (now words) ⌝ }
     ensures { λ _. ⌜ now (words .exit) ≡ movedDown gap (now (words .entry)) ⌝ }
@@ -84,7 +84,7 @@ pub fn move_down_by(words: &mut [u32], gap: usize)
         move_eight(words, last, last + gap);
         return;
     }
-    move_rest(words, gap, i);
+    move_each(&mut words[i..], gap);
 }
 
 fn move_down(words: &mut [u32], gap: usize)

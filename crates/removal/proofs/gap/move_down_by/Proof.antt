@@ -1,12 +1,13 @@
--- `move_down_by` moves the words down by the gap: the loop's law of shifting, eight words a turn; what is left goes by one more turn over the last eight, or by `move_rest`. Assumes nothing.
+-- `move_down_by` moves the words down by the gap: the loop's law of shifting, eight words a turn; what is left goes by
+-- one more turn over the last eight, or by `move_each`. Assumes nothing.
 use Prim.Native.Nat.{_-_, _≤_}
 use mathlib.Core.Path.{_∙_}
 use native.Mathlib.Omega.{arith}
 use lib.ListN.{length}
+use borrow.Author.Needs.{needs}
 use borrow.Author.Tests.{leb-true}
 use Rattle.word.proofs.Tests.{and-both}
-use Rattle.removal.specs.Runs.{Shifting}
-use Rattle.removal.proofs.Shifts.{shift-start, shift-on, shift-done}
+use Rattle.removal.proofs.Shifts.{Shifting, shift-start, shift-on, shift-done, shift-rest}
 use Rattle.removal.proofs.gap.move_down_by.Statement.{statement}
 use Rattle.removal.proofs.gap.move_down_by.Tie as tie
 
@@ -38,12 +39,14 @@ loop-less : tie.Need-loop-less Inv-loop μ-loop
 loop-less c = omega arith
 
 loop-again : tie.Need-loop-again Inv-loop μ-loop
-loop-again c = rw (c .before .before .move-eight .ensures) (shift-on (c .before .before .before .before .before .loop .inv) _ 8 (omega arith))
+loop-again c =
+    let moved = c .before .before in
+    rw (moved .move-eight .ensures) (shift-on (moved .before .before .before .loop .inv) _ 8 (omega arith))
 
 -- the test before the last eight words go: neither the gap nor what moves over it is shorter
 eight-fit : (c : tie.Then1 Inv-loop μ-loop) →
-    (8 ≤ c .before .before .before .before .args .gap)
-    × (8 ≤ length (c .before .before .before .before .args .words .now) - c .before .before .before .before .args .gap)
+    let a = c .before .before .before .before .args in
+    (8 ≤ a .gap) × (8 ≤ length (a .words .now) - a .gap)
 eight-fit c =
     let both = and-both _ _ (c .if1 .taken) in
     (leb-true _ _ (both .0), leb-true _ _ (both .1))
@@ -58,23 +61,43 @@ move-eight-requires-2 : tie.Need-move-eight-requires-2 Inv-loop μ-loop
 move-eight-requires-2 c κs = omega (arith, eight-fit (c .before))
 
 same-length : tie.Need-same-length Inv-loop μ-loop
-same-length c = c .before .before .move-eight2 .kept .0 ∙ c .before .before .before .before .before .before .loop .inv .long
+same-length c =
+    let moved = c .before .before in
+    let left = moved .before .before in
+    moved .move-eight2 .kept .0 ∙ left .before .before .loop .inv .long
 
 returns : tie.Need-returns Inv-loop μ-loop
 returns c =
-    let m = c .before .before in
-    let t = m .before .before in
-    m .move-eight2 .ensures
-    ∙ shift-done (shift-on (t .before .before .loop .inv) _ 8 (omega (arith, eight-fit t, t .before .loop-test .left))) (omega (arith, eight-fit t))
+    let moved = c .before .before in
+    let left = moved .before .before in
+    moved .move-eight2 .ensures
+    ∙ shift-done
+    (shift-on (left .before .before .loop .inv) _ 8 (omega (arith, eight-fit left, left .before .loop-test .left)))
+    (omega (arith, eight-fit left))
 
-move-rest-requires : tie.Need-move-rest-requires Inv-loop μ-loop
-move-rest-requires c κs = omega arith
+mul-move-each : tie.Need-mul-move-each Inv-loop μ-loop
+mul-move-each c = omega arith
+
+sub-move-each : tie.Need-sub-move-each Inv-loop μ-loop
+sub-move-each c = omega arith
+
+part-move-each-start : tie.Need-part-move-each-start Inv-loop μ-loop
+part-move-each-start c = omega arith
+
+part-move-each-end : tie.Need-part-move-each-end Inv-loop μ-loop
+part-move-each-end c = search needs
+
+move-each-requires : tie.Need-move-each-requires Inv-loop μ-loop
+move-each-requires c κs = search needs
 
 same-length-2 : tie.Need-same-length-2 Inv-loop μ-loop
-same-length-2 c = c .before .before .move-rest .kept .0 ∙ c .before .before .before .before .before .before .loop .inv .long
+same-length-2 c = search needs
 
 returns-2 : tie.Need-returns-2 Inv-loop μ-loop
-returns-2 c = c .before .before .move-rest .ensures _ (c .before .before .before .before .before .before .loop .inv)
+returns-2 c =
+    let moved = c .before .before in
+    let left = moved .before .before in
+    shift-rest (left .before .before .loop .inv) _ (moved .move-each .ensures)
 
 pub move-down-by-spec : {M : Type 1} → statement M
 move-down-by-spec =
@@ -95,6 +118,10 @@ move-down-by-spec =
     move-eight-requires-2
     same-length
     returns
-    move-rest-requires
+    mul-move-each
+    sub-move-each
+    part-move-each-start
+    part-move-each-end
+    move-each-requires
     same-length-2
     returns-2)

@@ -2,8 +2,7 @@
 use Prim.Native.Nat.{_-_}
 use native.Mathlib.Omega.{arith}
 use lib.ListN.{length}
-use Rattle.removal.specs.Runs.{Shifting}
-use Rattle.removal.proofs.Shifts.{shift-start, shift-more, shift-done}
+use Rattle.removal.proofs.Shifts.{Shifting, shift-start, shift-more, shift-done}
 use Rattle.removal.proofs.gap.move_down_two.Statement.{statement}
 use Rattle.removal.proofs.gap.move_down_two.Tie as tie
 
