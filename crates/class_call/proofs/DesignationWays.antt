@@ -1,11 +1,12 @@
--- The ways out of `D`, over plain variables: by what a claim draws, which is the number of the conditions in all cases
--- of their tests. Assumes nothing.
+-- The ways out of `claim_of` and of `D`, over plain variables: by what a claim draws, which is the number of the
+-- conditions in all cases of their tests. Assumes nothing.
 use Prim.Native.Nat.{ℕ}
 use mathlib.Core.Path.{_≡_, refl, sym, ap, _∙_}
 use mathlib.Core.Bool.{Bool, true, false, cond, not, _&&_}
 use mathlib.Core.List.{List, [], _∷_}
 use lib.ListN.{length}
 use lib.Dec.{T, eqb}
+use borrow.Author.Tests.{eq-eqb, ne-eqb}
 use Rattle.word.specs.declared.class.ClassRecord.{ClassRecord}
 use Rattle.word.specs.declared.answer.Answer.{Answer}
 use Rattle.word.specs.declared.answer.Answer.the-variants.{Done, Refused}
@@ -14,7 +15,7 @@ use Rattle.word.specs.declared.answer.Refusal.the-variants.{NotOpen, NoClose, N
 use Rattle.word.specs.Limits.{isDesignation}
 use Rattle.word.specs.Class.{withDollar, withHalf}
 use Rattle.word.specs.Answers.{refusalNumber, answerNumber, answerValue}
-use Rattle.book.specs.Facts.{withDesignation}
+use Rattle.book.specs.Facts.{Facts, withDesignation}
 use Rattle.book.specs.Layout.{factsOf}
 use Rattle.book.specs.Books.{areFigures, isBook}
 use Rattle.book.specs.Calls.{callD, isWritten, isNotOpen, isCapReached, Condition, draws, first, conditions, changed, listed, acceptedValue, isQualified, isNew}
@@ -27,6 +28,34 @@ use Rattle.class_call.specs.declared.programs.Claim.the-variants.{Grante
 use Rattle.class_call.specs.Claims.{claimOf}
 use Rattle.class_call.proofs.Ways.{within-limits, decided, not-open, Found, found-figures, found-limits}
 use Rattle.class_call.proofs.FigureWays.{Stored, storable, figures-set}
+
+-- ---- what a claim draws
+
+module _ (f : Facts) (r : ClassRecord) (p d : ℕ) where
+  pub claim-untested : not (isNew p d r) ≡ true → Granted ≡ claimOf f r p d
+  unfolding claimOf
+  claim-untested e = rw e
+
+  module _ (new : not (isNew p d r) ≡ false) where
+    pub claim-no-close : r .close ≡ 0 → NotGranted NoClose ≡ claimOf f r p d
+    unfolding claimOf
+    claim-no-close e = rw (new, eq-eqb (r .close) 0 e)
+
+    module _ (close : r .close ≡ 0 → ⊥) where
+      pub claim-not-qualified : not (isQualified p r) ≡ true → NotGranted NotQualified ≡ claimOf f r p d
+      unfolding claimOf
+      claim-not-qualified e = rw (new, ne-eqb (r .close) 0 close, e)
+
+      module _ (qualified : not (isQualified p r) ≡ false) where
+        pub claim-capped : isCapReached f p ≡ true → NotGranted CapReached ≡ claimOf f r p d
+        unfolding claimOf
+        claim-capped e = rw (new, ne-eqb (r .close) 0 close, qualified, e)
+
+        pub claim-granted : isCapReached f p ≡ false → Granted ≡ claimOf f r p d
+        unfolding claimOf
+        claim-granted e = rw (new, ne-eqb (r .close) 0 close, qualified, e)
+
+-- ---- the conditions of `D`
 
 -- the answer that a claim makes
 abbrev answerOf : Claim → Answer
@@ -59,6 +88,8 @@ claim-draws true false true false = (refl, refl)
 no-value : (b : Bool) → 0 ≡ cond {A = ℕ} b 0 0
 no-value true = refl
 no-value false = refl
+
+-- ---- the ways out of `D`
 
 -- the figures with the designation d in the program that `dollar` tells
 module _ (d : ℕ) (r : ClassRecord) where
