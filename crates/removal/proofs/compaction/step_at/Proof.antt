@@ -39,7 +39,7 @@ unfolding stepAt said
 returns-2 c = rw (
   ← c .before .before .before .kind .ensures,
   c .before .if2 .taken,
-  ← c .bounds-after .ensures,
+  c .bounds-after .ensures,
 )
 
 settle-requires : tie.Need-settle-requires
