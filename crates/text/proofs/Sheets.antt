@@ -1,5 +1,5 @@
 -- A sheet read line by line: what the lines that are left make of the present words is what the whole sheet makes of the first ones; by what one call makes of any words. Assumes nothing.
-use Prim.Native.Nat.{ℕ, suc, _+_, _≤_, _<_, zero-le}
+use Prim.Native.Nat.{ℕ, suc, _+_, _≤_, _<_, min, zero-le}
 use mathlib.Core.Path.{_≡_, refl, sym, ap, _∙_}
 use mathlib.Core.Bool.{Bool, true, false}
 use mathlib.Core.Logic.{_⊎_, ⊎-elim}
@@ -19,9 +19,10 @@ use Rattle.book.specs.Made.{Made}
 use Rattle.book.proofs.Tests.{T-true, true-T}
 use Rattle.book.proofs.Layouts.{book-facts}
 use Rattle.book.proofs.Followed.{made-book}
+use Rattle.text.specs.declared.sheet.Answered.{Answered}
 use Rattle.text.specs.Grammar.{callIn}
-use Rattle.text.specs.Sheets.{withByte, linesOf, lineEnd, callsIn, refusedAll, answersOver, wordsAfter, secondOver, SheetRun}
-use Rattle.text.proofs.Cases.{bool-cases}
+use Rattle.text.specs.Sheets.{withByte, linesOf, lineEnd, lineAt, nextLine, callsIn, refusedAll, answersOver, wordsAfter, secondOver, LineMade, SheetRun}
+use Rattle.text.proofs.Cases.{bool-cases, lt-or-le}
 
 -- ---- one call of a list, over any words
 
@@ -76,16 +77,26 @@ line-first b (d ∷ s) =
     (λ (e : eqb b 10 ≡ false). rw e (ap (withByte b) (line-first d s)))
     (bool-cases (eqb b 10))
 
--- the lines from a place on: the bytes up to the line end, and the lines after it
+-- past the end nothing is left
+drop-min : (l : List ℕ) (k : ℕ) → drop (min k (length l)) l ≡ drop k l
+drop-min l k =
+    ⊎-elim
+    (λ (h : k < length l). let same : min k (length l) ≡ k = omega arith in rw same)
+    (λ (h : length l ≤ k).
+    let all : min k (length l) ≡ length l = omega arith in
+    rw (all, drop-length, drop-of-length-le l h))
+    (lt-or-le k (length l))
+
+-- the lines from a place on: the one that begins there, and those after it
 line-next :
-    (sheet : List ℕ) (from end : ℕ) → from < length sheet → end ≡ from + lineEnd (drop from sheet)
-    → linesOf (drop from sheet) ≡ take (lineEnd (drop from sheet)) (drop from sheet) ∷ linesOf (drop (suc end) sheet)
-line-next sheet from end l e =
+    (sheet : List ℕ) (from : ℕ) → from < length sheet
+    → linesOf (drop from sheet) ≡ lineAt sheet from ∷ linesOf (drop (nextLine sheet from) sheet)
+line-next sheet from l =
     let s = drop from sheet in
-    let first : linesOf s ≡ take (lineEnd s) s ∷ linesOf (drop (suc (lineEnd s)) s) =
+    let first : linesOf s ≡ lineAt sheet from ∷ linesOf (drop (suc (lineEnd s)) s) =
     rw (drop-cons sheet from 0 l) (line-first (getD sheet from 0) (drop (suc from) sheet)) in
-    let after : from + suc (lineEnd s) ≡ suc end = omega arith in
-    first ∙ rw (drop-drop (suc (lineEnd s)) from sheet, after)
+    let after : from + suc (lineEnd s) ≡ suc (from + lineEnd s) = omega arith in
+    first ∙ rw (drop-min sheet (suc (from + lineEnd s)), drop-drop (suc (lineEnd s)) from sheet, after)
 
 -- the line end from a place on, by the byte there
 module _ (s : List ℕ) (i : ℕ) where
@@ -139,17 +150,6 @@ read-start w v sheet answers is =
       second = refl;
     }
 
--- the place after a line that ends at `end`: the end of the sheet, or after the line end
-abbrev pub After : List ℕ → ℕ → ℕ → Type 0
-After sheet end after = ((length sheet ≤ end) × (after ≡ length sheet)) ⊎ ((end < length sheet) × (after ≡ end + 1))
-
-same-rest : (sheet : List ℕ) (end after : ℕ) → After sheet end after → drop after sheet ≡ drop (suc end) sheet
-same-rest sheet end after place =
-    ⊎-elim
-    (λ w. ap (λ (k : ℕ). drop k sheet) (w .1) ∙ drop-length sheet ∙ sym (drop-of-length-le sheet {i = suc end} (omega (arith, w .0))))
-    (λ w. rw (w .1, add-one))
-    place
-
 module _
     {w₀ v₀ sheet answers₀ : List ℕ}
     {tested : Bool}
@@ -157,25 +157,22 @@ module _
     {lines at from : ℕ}
     (i : Reading w₀ v₀ sheet answers₀ tested w v answers lines at from)
   where
-    -- one line more, which ends at `end`
+    -- one line more
     pub read-more :
-        {end after number value at′ at″ : ℕ} {r : Answer} {w′ v′ answers′ answers″ : List ℕ} → from < length sheet
-        → end ≡ from + lineEnd (drop from sheet) → Made (callIn (length v) (take (lineEnd (drop from sheet)) (drop from sheet))) w v r w′ v′
-        → length w′ ≡ length w → length v′ ≡ length v → length answers″ ≡ length answers → number ≡ answerNumber r
-        → ((rest : List ℕ) → sets answers′ at′ rest ≡ sets answers at (number ∷ rest)) → value ≡ answerValue r
-        → ((rest : List ℕ) → sets answers″ at″ rest ≡ sets answers′ at′ (value ∷ rest)) → After sheet end after
-        → Reading w₀ v₀ sheet answers₀ tested w′ v′ answers″ (lines + 1) at″ after
-    read-more {end} {after} {value = value} {w′ = w′} l e m size room places n first k then place =
-        let line = take (lineEnd (drop from sheet)) (drop from sheet) in
-        let split : linesOf (drop from sheet) ≡ line ∷ linesOf (drop after sheet) =
-        line-next sheet from end l e ∙ ap (λ (u : List ℕ). line ∷ linesOf u) (sym (same-rest sheet end after place)) in
+        {number value at′ at″ : ℕ} {r : Answered} {w′ v′ answers′ answers″ : List ℕ}
+        → from < length sheet → LineMade w v sheet from r w′ v′
+        → length w′ ≡ length w → length v′ ≡ length v → length answers″ ≡ length answers
+        → number ≡ answerNumber (r .answer) → ((rest : List ℕ) → sets answers′ at′ rest ≡ sets answers at (number ∷ rest))
+        → value ≡ answerValue (r .answer) → ((rest : List ℕ) → sets answers″ at″ rest ≡ sets answers′ at′ (value ∷ rest))
+        → Reading w₀ v₀ sheet answers₀ tested w′ v′ answers″ (lines + 1) at″ (r .next)
+    read-more {value = value} {w′ = w′} l m size room places n first k then =
+        let split = line-next sheet from l in
         let calls = ap (map (callIn (length v₀))) split in
-        let rest = callsIn (length v₀) (drop after sheet) in
-        let made = next (rw (i .room) at m) in
-        let on : (from < after) × (after ≤ length sheet) =
-        ⊎-elim (λ w. (omega (arith, w .1), omega (arith, w .1))) (λ w. (omega (arith, w .1), omega (arith, w .0, w .1))) place in
-        record {
-          within = on .1;
+        let rest = callsIn (length v₀) (drop (nextLine sheet from) sheet) in
+        let made = next (rw (i .room) at (m .made)) in
+        rw (m .next-is)
+        (record {
+          within = omega arith;
           few = omega (arith, i .few);
           book = i .book ∙ sym (made .book);
           size = size ∙ i .size;
@@ -189,7 +186,7 @@ module _
               ∙ i .answered;
           words = sym (ap (wordsAfter w) calls ∙ made .words rest) ∙ i .words;
           second = sym (ap (λ (xs : List Call). secondOver w xs v) calls ∙ made .second rest) ∙ i .second;
-        }
+        })
 
     pub read-done : length sheet ≤ from → SheetRun w₀ v₀ sheet answers₀ lines w v answers
     unfolding linesOf

@@ -1,15 +1,17 @@
 -- Document 01, demand 1: "A call sheet with any numbers on any lines, over any words lent as the book, is read to its end": its lines, their calls, and what they leave. Assumes nothing.
-use Prim.Native.Nat.{ℕ, suc}
+use Prim.Native.Nat.{ℕ, suc, _+_, _<_, min}
 use mathlib.Core.Path.{_≡_}
-use mathlib.Core.Bool.{cond}
+use mathlib.Core.Bool.{Bool, cond}
 use mathlib.Core.List.{List, [], _∷_, map}
 use lib.Dec.{eqb}
-use lib.ListN.{length}
+use lib.ListN.{length, take, drop}
 use lib.Seq.{sets}
 use Rattle.book.specs.Layout.{layout, factsOf}
 use Rattle.book.specs.Books.{isBook}
 use Rattle.book.specs.Calls.{Call, steps}
 use Rattle.book.specs.CallLists.{answersTo, secondAfter}
+use Rattle.book.specs.Made.{Made}
+use Rattle.text.specs.declared.sheet.Answered.{Answered}
 use Rattle.text.specs.Grammar.{callIn}
 
 -- a byte more at the front of the first line
@@ -26,6 +28,14 @@ linesOf (b ∷ s) = cond (eqb b 10) ([] ∷ linesOf s) (withByte b (linesOf s))
 unfoldable pub lineEnd : List ℕ → ℕ
 lineEnd [] = 0
 lineEnd (b ∷ s) = cond (eqb b 10) 0 (suc (lineEnd s))
+
+-- the bytes of the line that begins at `from`
+abbrev pub lineAt : List ℕ → ℕ → List ℕ
+lineAt sheet from = take (lineEnd (drop from sheet)) (drop from sheet)
+
+-- where the line after it begins, or the end of the sheet
+abbrev pub nextLine : List ℕ → ℕ → ℕ
+nextLine sheet from = min (suc (from + lineEnd (drop from sheet))) (length sheet)
 
 -- the calls of a sheet, `A` with a second run of `room` words
 abbrev pub callsIn : ℕ → List ℕ → List Call
@@ -47,6 +57,17 @@ wordsAfter w xs = cond (isBook w) (layout (length w) (steps (length w) xs (facts
 -- the words of the second run v that calls leave, over any words
 abbrev pub secondOver : List ℕ → List Call → List ℕ → List ℕ
 secondOver w xs v = cond (isBook w) (secondAfter (length w) xs (factsOf w) v) v
+
+-- a line begins at `from`, `tested` says whether the words w are a book, and 1,024 places are remembered
+pub record LineBegins (w places : List ℕ) (tested : Bool) (sheet : List ℕ) (from : ℕ) : Type 0 where
+  pub book : tested ≡ isBook w
+  pub thousand : length places ≡ 1024
+  pub inside : from < length sheet
+
+-- the call of the line that begins at `from`, made on any words w, with a second run v, and where the next line begins
+pub record LineMade (w v sheet : List ℕ) (from : ℕ) (r : Answered) (w′ v′ : List ℕ) : Type 0 where
+  pub made : Made (callIn (length v) (lineAt sheet from)) w v (r .answer) w′ v′
+  pub next-is : r .next ≡ nextLine sheet from
 
 -- a sheet read over any words w, with a second run v: how many lines it has, and the words that are left. The answers are written as far as `answers` has places for them
 pub record SheetRun (w v sheet answers : List ℕ) (r : ℕ) (w′ v′ answers′ : List ℕ) : Type 0 where

@@ -7,9 +7,8 @@ ghost use lib.ListN.{length};
 ghost use lib.Seq.{sets};
 ghost use Rattle.book.specs.Books.{isBook};
 ghost use Rattle.book.specs.Made.{Made};
-ghost use Rattle.text.specs.Reading.{lineOf};
-ghost use Rattle.text.specs.Grammar.{callHeld, callIn};
-ghost use Rattle.text.specs.Sheets.{SheetRun};
+ghost use Rattle.text.specs.Grammar.{callHeld};
+ghost use Rattle.text.specs.Sheets.{LineBegins, LineMade, SheetRun};
 use crate::line::Line;
 use crate::line::read_line;
 use dispatch::make_call;
@@ -39,16 +38,43 @@ pub fn make_line(run: &mut [u32], second: &mut [u32], near: usize, line: Line) -
     )
 }
 
-// Makes the call of a line that has ended, where `tested` says whether the run is a book.
-fn answer_line(run: &mut [u32], second: &mut [u32], near: usize, tested: bool, line: Line) -> Answer
-    requires { ⌜ tested ≡ isBook (now run) ⌝ }
-    ensures { λ r. ⌜ ((bytes : List ℕ) → line ≡ lineOf bytes
-        → Made (callIn (length (now (second .entry))) bytes) (now (run .entry)) (now (second .entry)) r (now (run .exit)) (now (second .exit))) ⌝ }
+// The answer to a line, and where the next line begins.
+struct Answered {
+    answer: Answer,
+    next: usize,
+}
+
+// Makes the call of the line that begins at `from`, where `tested` says whether the run is a book.
+// Where its class is found is remembered in `places`.
+fn answer_line(
+    run: &mut [u32],
+    second: &mut [u32],
+    places: &mut [u32],
+    tested: bool,
+    sheet: &[u8],
+    from: usize,
+) -> Answered
+    requires { ⌜ LineBegins (now run) (now places) tested (now sheet) from ⌝ }
+    ensures { λ r. ⌜ LineMade (now (run .entry)) (now (second .entry)) (now (sheet .entry)) from
+        r (now (run .exit)) (now (second .exit)) ⌝ }
 {
+    let whole = read_line(sheet, from);
+    let end = whole.end;
+    let next = if sheet.len() <= end {
+        sheet.len()
+    } else {
+        end + 1
+    };
     if !tested {
-        return Answer::Refused(Refusal::NotABook);
+        return Answered {
+            answer: Answer::Refused(Refusal::NotABook),
+            next: next,
+        };
     }
-    make_line(run, second, near, line)
+    let line = whole.line;
+    let near = remembered_place(run, places, line.numbers[0]);
+    let answer = make_line(run, second, near, line);
+    Answered { answer, next }
 }
 
 // Writes a number where there is a place for it, and answers the place after it.
@@ -62,7 +88,7 @@ fn put(answers: &mut [u32], at: usize, number: u32) -> usize
     at
 }
 
-// Reads a sheet to its end, makes the call of each line in turn, and answers how many lines there are. Where the class of a line was found is remembered for the lines after it.
+// Reads a sheet to its end, makes the call of each line in turn, and answers how many lines there are.
 // The number and the value of each answer are written to `answers`, two words a line, as far as it has places.
 pub fn run_sheet(run: &mut [u32], second: &mut [u32], sheet: &[u8], answers: &mut [u32]) -> usize
     ensures { λ r. ⌜ SheetRun (now (run .entry)) (now (second .entry)) (now (sheet .entry)) (now (answers .entry))
@@ -74,23 +100,11 @@ pub fn run_sheet(run: &mut [u32], second: &mut [u32], sheet: &[u8], answers: &mu
     let mut at = 0;
     let mut from = 0;
     while from < sheet.len() {
-        let whole = read_line(sheet, from);
-        let end = whole.end;
-        let line = whole.line;
-        let near = if tested {
-            remembered_place(run, &mut places, line.numbers[0])
-        } else {
-            0
-        };
-        let answer = answer_line(run, second, near, tested, line);
-        let number = answer.number();
-        at = put(answers, at, number);
+        let answered = answer_line(run, second, &mut places, tested, sheet, from);
+        let answer = answered.answer;
+        at = put(answers, at, answer.number());
         at = put(answers, at, answer.value());
-        if sheet.len() <= end {
-            from = sheet.len();
-        } else {
-            from = end + 1;
-        }
+        from = answered.next;
         lines += 1;
     }
     lines

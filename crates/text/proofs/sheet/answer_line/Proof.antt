@@ -1,22 +1,58 @@
--- `answer_line` makes the call of the bytes that are read as the line: no book is refused with 1, and on a book the call that is read is made. Assumes nothing.
+-- `answer_line` makes the call of the line that is read: no book is refused with 1, and on a book the call that is read
+-- is made. Assumes nothing.
 use mathlib.Core.Path.{sym, _∙_}
+use mathlib.Core.Logic.{⊎-elim}
+use native.Mathlib.Omega.{arith}
+use lib.Dec.{T}
 use borrow.Author.Needs.{needs}
 use borrow.Author.Tests.{not-true, not-false}
+use Rattle.book.specs.Books.{isBook}
 use Rattle.book.proofs.Tests.{true-T}
 use Rattle.book.proofs.Answered.{made-no-book}
+use Rattle.text.specs.Sheets.{lineAt}
 use Rattle.text.proofs.Made.{made-read}
 use Rattle.text.proofs.sheet.answer_line.Statement.{statement}
 use Rattle.text.proofs.sheet.answer_line.Tie as tie
 
+-- where the function is entered
+abbrev entry : tie.After-read-line → tie.Start
+entry read =
+    let lent = read .before .before in
+    lent .before .before .before
+
+read-line-requires : tie.Need-read-line-requires
+read-line-requires c κs = search needs
+
+add-next : tie.Need-add-next
+add-next c = search needs
+
 returns : tie.Need-returns
 returns c =
-    let s = c .before .before .before in
-    λ bytes is. made-no-book _ _ _ (sym (s .pre) ∙ not-true (s .args .tested) (c .if1 .taken))
+    let read = c .before .before in
+    let start = entry read in
+    let whole = read .read-line .ensures in
+    record {
+      made = made-no-book _ _ _ (sym (start .pre .book) ∙ not-true (start .args .tested) (c .if2 .taken));
+      next-is = ⊎-elim (λ w. omega (arith, w .1)) (λ w. omega (arith, w .1)) (c .before .if1 .came);
+    }
+
+-- what was tested is a book
+is-a-book : (c : tie.Else2) → T (isBook (entry (c .before .before) .args .run .now))
+is-a-book c =
+    let start = entry (c .before .before) in
+    true-T _ (sym (start .pre .book) ∙ not-false (start .args .tested) (c .if2 .left))
+
+element-copy-out-remembered-place : tie.Need-element-copy-out-remembered-place
+element-copy-out-remembered-place c = search needs
+
+remembered-place-requires : tie.Need-remembered-place-requires
+remembered-place-requires c κs = (is-a-book (c .before .before .before .before), search needs)
 
 make-line-requires : tie.Need-make-line-requires
 make-line-requires c κs =
-    let s = c .before .before .before .before .before in
-    true-T _ (sym (s .pre) ∙ not-false (s .args .tested) (c .before .before .if1 .left))
+    let remembered = c .before .before .before .before in
+    let tested = remembered .before .before .before .before in
+    is-a-book (tested .before)
 
 same-length : tie.Need-same-length
 same-length c = search needs
@@ -24,8 +60,36 @@ same-length c = search needs
 same-length-2 : tie.Need-same-length-2
 same-length-2 c = search needs
 
+same-length-3 : tie.Need-same-length-3
+same-length-3 c = search needs
+
 returns-2 : tie.Need-returns-2
-returns-2 c = λ bytes is. made-read _ bytes is (c .before .before .before .before .make-line .ensures)
+returns-2 c =
+    let made = c .before .before .before .before in
+    let arguments = made .before .before in
+    let remembered = arguments .before .before .before in
+    let finding = remembered .before .before .before in
+    let tested = finding .before .before in
+    let read = tested .before .before in
+    let start = entry read in
+    let whole = read .read-line .ensures in
+    let line = lineAt (start .args .sheet .now) (start .args .from) in
+    record {
+      made = made-read _ line (whole .line-is) (made .make-line .ensures);
+      next-is = ⊎-elim (λ w. omega (arith, w .1)) (λ w. omega (arith, w .1)) (tested .before .if1 .came);
+    }
 
 pub answer-line-spec : {M : Type 1} → statement M
-answer-line-spec = tie.close (tie.spec returns make-line-requires same-length same-length-2 returns-2)
+answer-line-spec =
+    tie.close
+    (tie.spec
+    read-line-requires
+    add-next
+    returns
+    element-copy-out-remembered-place
+    remembered-place-requires
+    make-line-requires
+    same-length
+    same-length-2
+    same-length-3
+    returns-2)
