@@ -65,10 +65,9 @@ fn put_value(out: &mut [u8], at: usize, value: u32) -> usize
     ensures { λ _. ⌜ now (out .exit) ≡ sets (now (out .entry)) at (spacedNumbers (valueOrNone value)) ⌝ }
 {
     if value == 0 {
-        at
-    } else {
-        put_number(out, at, value)
+        return at;
     }
+    put_number(out, at, value)
 }
 
 // What a line has after its number: any value, then the strikes. `shown` says whether an accepted call's value is printed.

@@ -17,11 +17,11 @@ value-of : (v : ℕ) → (v ≡ 0 → ⊥) → spacedNumbers (valueOrNone v) ≡
 unfolding valueOrNone
 value-of v h = simp (ne-eqb v 0 h) (one-number v)
 
-put-number-requires : tie.Need-put-number-requires
-put-number-requires c κs = rw (value-of _ (c .before .if1 .left)) at (c .before .before .before .pre)
-
 returns : tie.Need-returns
 returns c = rw (none-of _ (c .if1 .taken)) (search needs)
+
+put-number-requires : tie.Need-put-number-requires
+put-number-requires c κs = rw (value-of _ (c .before .if1 .left)) at (c .before .before .before .pre)
 
 same-length : tie.Need-same-length
 same-length c = search needs
@@ -30,4 +30,4 @@ returns-2 : tie.Need-returns-2
 returns-2 c = rw (value-of _ (c .before .before .before .before .if1 .left)) (c .before .before .put-number .ensures)
 
 pub put-value-spec : {M : Type 1} → statement M
-put-value-spec = tie.close (tie.spec put-number-requires returns same-length returns-2)
+put-value-spec = tie.close (tie.spec returns put-number-requires same-length returns-2)
