@@ -2,14 +2,14 @@
 use Prim.Native.Nat.{ℕ, suc, _+_, _-_, _≤_, _<_, zero-le}
 use mathlib.Core.Path.{_≡_, refl, sym, ap, subst, _∙_}
 use mathlib.Core.Logic.{⊎-elim}
-use mathlib.Core.Bool.{false, _||_}
+use mathlib.Core.Bool.{true, false, _||_, _&&_}
 use mathlib.Core.List.{List, [], _∷_, _++_}
 use native.Mathlib.Numerals.{add-one}
 use native.Mathlib.Omega.{arith}
 use lib.Dec.{T, eqb, ltb}
-use lib.ListN.{length, take, drop, getD, length-append, length-drop}
-use lib.Seq.{take-suc, take-add, drop-drop, length-sets}
-use borrow.Author.Tests.{ltb-false, eqb-false, eq-eqb, ne-eqb}
+use lib.ListN.{length, take, drop, getD, length-append, length-drop, drop-of-length-le}
+use lib.Seq.{take-suc, take-add, drop-cons, drop-drop, length-sets}
+use borrow.Author.Tests.{ltb-false, eqb-false, eq-eqb, ne-eqb, lt-ltb, le-ltb}
 use Rattle.book.specs.Layout.{factsOf}
 use Rattle.book.specs.Books.{isBook, isWellFormed}
 use Rattle.book.specs.Calls.{Call, step}
@@ -23,8 +23,8 @@ use Rattle.text.specs.Grammar.{callHeld}
 use Rattle.text.specs.Printing.{replyTo}
 use Rattle.text.specs.Sheets.{lineEnd}
 use Rattle.text.specs.WholeLines.{lineAfter, WholeAt}
-use Rattle.text.specs.Pieces.{Reader, callEnded, callMade, byteRead, bytesRead, lineRoom, Ended, Holds, begun, LinesRead, Pieced}
-use Rattle.text.proofs.Cases.{eq-or-not, neither-of}
+use Rattle.text.specs.Pieces.{Reader, callEnded, callMade, byteRead, bytesRead, lineRoom, bytesTaken, FirstTaken, Ended, Holds, begun, LinesRead, Pieced}
+use Rattle.text.proofs.Cases.{bool-cases, eq-or-not, neither-of}
 use Rattle.text.proofs.AnswerTexts.{stores-after}
 
 -- ---- the bytes in turn
@@ -39,6 +39,64 @@ byte-more : (n room : ℕ) (r : Reader) (piece : List ℕ) (i : ℕ) → i < len
     → bytesRead n room r (take (i + 1) piece) ≡ byteRead n room (bytesRead n room r (take i piece)) (getD piece i 0)
 unfolding bytesRead
 byte-more n room r piece i h = rw (add-one, take-suc piece i 0, bytes-append)
+
+-- ---- the bytes that are taken, where `size` bytes can be printed
+
+-- a byte that ends no line leaves what is printed
+fed-text : (n room : ℕ) (r : Reader) (b : ℕ) → (b ≡ 10 → ⊥) → byteRead n room r b .text ≡ r .text
+unfolding byteRead
+fed-text n room r b differs = rw (ne-eqb b 10 differs)
+
+module _ (n room size : ℕ) where
+  pub taken-within : (r : Reader) (s : List ℕ) → bytesTaken n room size r s ≤ length s
+  unfolding bytesTaken
+  taken-within r [] = zero-le
+  taken-within r (b ∷ s) =
+      ⊎-elim
+      (λ (e : (eqb b 10 && ltb size (length (r .text) + lineRoom room)) ≡ true). rw e zero-le)
+      (λ (e : (eqb b 10 && ltb size (length (r .text) + lineRoom room)) ≡ false).
+      rw e (omega (arith, taken-within (byteRead n room r b) s)))
+      (bool-cases (eqb b 10 && ltb size (length (r .text) + lineRoom room)))
+
+  first-none : (r : Reader) (s : List ℕ) → FirstTaken n room size r s 0
+  unfolding bytesRead
+  first-none r s = omega arith
+
+  -- a byte that ends no line, or one whose answer finds room
+  first-byte : (r : Reader) (b : ℕ) (s : List ℕ) → (b ≡ 10 → length (r .text) + lineRoom room ≤ size)
+      → FirstTaken n room size r (b ∷ s) 1
+  unfolding bytesTaken bytesRead
+  first-byte r b s fits =
+      ⊎-elim
+      (λ (is : b ≡ 10). rw (eq-eqb b 10 is, le-ltb size (length (r .text) + lineRoom room) (fits is)) (omega arith))
+      (λ differs. rw (ne-eqb b 10 differs) (omega arith))
+      (eq-or-not b 10)
+
+  -- a line that ends in s, and whose answer finds room
+  first-line : (r : Reader) (s : List ℕ) → lineEnd s < length s → length (r .text) + lineRoom room ≤ size
+      → FirstTaken n room size r s (suc (lineEnd s))
+  unfolding bytesTaken bytesRead lineEnd
+  first-line r [] ends fits = absurd (omega arith)
+  first-line r (b ∷ s) ends fits =
+      ⊎-elim
+      (λ (is : b ≡ 10). rw (eq-eqb b 10 is) (rw (eq-eqb b 10 is) at (first-byte r b s (λ _. fits))))
+      (λ differs.
+      let later = rw (ne-eqb b 10 differs) at ends in
+      let same = ap length (fed-text n room r b differs) in
+      rw (ne-eqb b 10 differs) (omega (arith, first-line (byteRead n room r b) s (omega arith) (omega arith))))
+      (eq-or-not b 10)
+
+  -- k bytes, and then j more
+  first-more : (r : Reader) (s : List ℕ) (k j : ℕ) → FirstTaken n room size r s k
+      → FirstTaken n room size (bytesRead n room r (take k s)) (drop k s) j → FirstTaken n room size r s (k + j)
+  first-more r s k j first then =
+      rw (take-add k j s, bytes-append n room r (take k s) (take j (drop k s)), ← drop-drop j k s)
+      (omega (arith, first, then))
+
+  pub taken-some : (r : Reader) (s : List ℕ) → 0 < length s → length (r .text) + lineRoom room ≤ size
+      → 0 < bytesTaken n room size r s
+  taken-some r [] some fits = absurd (omega arith)
+  taken-some r (b ∷ s) some fits = omega (arith, first-byte r b s (λ _. fits))
 
 -- ---- one byte more
 
@@ -124,6 +182,7 @@ onward-start w v piece from out at book within fits =
         onward = omega arith;
         within = within;
         holds = λ front before h. rw none h;
+        taken = λ front before h. rw none (first-none (length w) (length v) (length out) before (drop from piece));
       };
       size = refl;
       room = refl;
@@ -144,8 +203,9 @@ module _
   where
     pub onward-room : put + lineRoom (length second) ≤ length out
     onward-room =
+        let full = ltb (length out - put) (lineRoom (length second)) in
         let some : lineRoom (length second) ≤ length out - put =
-        ltb-false (length out - put) (lineRoom (length second)) (neither-of (eqb end (length piece)) (ltb (length out - put) (lineRoom (length second))) test .1) in
+        ltb-false (length out - put) (lineRoom (length second)) (neither-of (eqb end (length piece)) full test .1) in
         omega (arith, some)
 
     pub onward-more :
@@ -154,13 +214,19 @@ module _
         → length run′ ≡ length run → length second′ ≡ length second → length out′ ≡ length out
         → Onward w v piece from out₀ at run′ second′ out′ put′ (end + 1)
     onward-more is ended size room long =
+        let n = length w in
+        let m = length v in
         let s = drop read piece in
+        let whole = drop from piece in
+        let full = ltb (length out - put) (lineRoom (length second)) in
         let inside : end < length piece =
-        omega (arith, eqb-false end (length piece) (neither-of (eqb end (length piece)) (ltb (length out - put) (lineRoom (length second))) test .0), is .within) in
+        omega (arith, eqb-false end (length piece) (neither-of (eqb end (length piece)) full test .0), is .within) in
+        let ends : lineEnd s < length s = omega (arith, is .end-is, length-drop read piece) in
         let upto : end + 1 - from ≡ (read - from) + suc (lineEnd s) = omega (arith, is .end-is, g .lines .onward) in
         let here : from + (read - from) ≡ read = omega (arith, g .lines .onward) in
-        let bytes : take (end + 1 - from) (drop from piece) ≡ take (read - from) (drop from piece) ++ take (suc (lineEnd s)) s =
-        rw (upto, take-add (read - from) (suc (lineEnd s)) (drop from piece), drop-drop (read - from) from piece, here) in
+        let rest : drop (read - from) whole ≡ s = rw (drop-drop (read - from) from piece, here) in
+        let bytes : take (end + 1 - from) whole ≡ take (read - from) whole ++ take (suc (lineEnd s)) s =
+        rw (upto, take-add (read - from) (suc (lineEnd s)) whole, rest) in
         record {
           lines = record {
             book = ended .book;
@@ -168,8 +234,15 @@ module _
             onward = omega (arith, is .end-is, g .lines .onward);
             within = omega arith;
             holds = λ front before h.
-                rw (bytes, bytes-append (length w) (length v) before (take (read - from) (drop from piece)) (take (suc (lineEnd s)) s))
-                (holds-line (length v) s (g .lines .holds front before h) (g .room) (omega (arith, is .end-is, length-drop read piece)) (rw (is .line-is) at ended));
+                rw (bytes, bytes-append n m before (take (read - from) whole) (take (suc (lineEnd s)) s))
+                (holds-line m s (g .lines .holds front before h) (g .room) ends (rw (is .line-is) at ended));
+            taken = λ front before h.
+                let now : Reader = bytesRead n m before (take (read - from) whole) in
+                let put-is = g .lines .holds front before h .put-is in
+                rw upto
+                (first-more n m (length out₀) before whole (read - from) (suc (lineEnd s))
+                (g .lines .taken front before h)
+                (rw rest (first-line n m (length out₀) now s ends (omega (arith, onward-room, g .room, g .long)))));
           };
           size = size ∙ g .size;
           room = room ∙ g .room;
@@ -178,11 +251,16 @@ module _
 
 -- ---- the loop: `read` bytes of the piece have been read
 
-pub record Feeding (w v piece out₀ : List ℕ) (line₀ : Line) (run second out : List ℕ) (line : Line) (put read : ℕ) : Type 0 where
-  pub holds : Holds (length w) out₀ (bytesRead (length w) (length v) (begun w v line₀) (take read piece)) run second out line put
-  pub within : read ≤ length piece
-  pub room : length second ≡ length v
-  pub long : length out ≡ length out₀
+pub record Feeding
+    (w v piece out₀ : List ℕ) (line₀ : Line) (run second out : List ℕ) (line : Line) (put read : ℕ) : Type 0
+  where
+    pub holds :
+        Holds (length w) out₀ (bytesRead (length w) (length v) (begun w v line₀) (take read piece))
+        run second out line put
+    pub taken : FirstTaken (length w) (length v) (length out₀) (begun w v line₀) piece read
+    pub within : read ≤ length piece
+    pub room : length second ≡ length v
+    pub long : length out ≡ length out₀
 
 pub feeding-start : (w v piece out : List ℕ) (line : Line) → T (isBook w) → Feeding w v piece out line w v out line 0 0
 unfolding bytesRead
@@ -199,61 +277,111 @@ feeding-start w v piece out line book =
         put-is = refl;
         fits = zero-le;
       };
+      taken = first-none (length w) (length v) (length out) (begun w v line) piece;
       within = zero-le;
       room = refl;
       long = refl;
     }
 
-module _ {w v piece out₀ : List ℕ} {line₀ : Line} {run second out : List ℕ} {line : Line} {put read : ℕ} (g : Feeding w v piece out₀ line₀ run second out line put read) where
-  pub feeding-fed : {line′ : Line} → read < length piece → (getD piece read 0 ≡ 10 → ⊥) → line′ ≡ feedOf line (getD piece read 0)
-      → Feeding w v piece out₀ line₀ run second out line′ put (read + 1)
-  feeding-fed h differs fed =
-      record {
-        holds = rw (byte-more (length w) (length v) (begun w v line₀) piece read h) (holds-fed (length v) (g .holds) (getD piece read 0) differs fed);
-        within = omega arith;
-        room = g .room;
-        long = g .long;
-      }
+module _
+    {w v piece out₀ : List ℕ}
+    {line₀ : Line}
+    {run second out : List ℕ}
+    {line : Line}
+    {put read : ℕ}
+    (g : Feeding w v piece out₀ line₀ run second out line put read)
+  where
+    -- what the reader holds here
+    abbrev here : Reader
+    here = bytesRead (length w) (length v) (begun w v line₀) (take read piece)
 
-  pub feeding-ended : {run′ second′ out′ : List ℕ} {line′ : Line} {put′ : ℕ} → read < length piece → getD piece read 0 ≡ 10
-      → Ended (callHeld (length second) (endOf line)) run second out put put′ run′ second′ out′ → line′ ≡ emptyLine
-      → length second′ ≡ length second → length out′ ≡ length out → Feeding w v piece out₀ line₀ run′ second′ out′ line′ put′ (read + 1)
-  feeding-ended h is ended empty room long =
-      record {
-        holds = rw (byte-more (length w) (length v) (begun w v line₀) piece read h) (holds-ended (length v) (g .holds) (getD piece read 0) (g .room) is ended empty);
-        within = omega arith;
-        room = room ∙ g .room;
-        long = long ∙ g .long;
-      }
+    -- one byte more
+    byte-taken :
+        read < length piece → (getD piece read 0 ≡ 10 → lineRoom (length second) ≤ length out - put)
+        → FirstTaken (length w) (length v) (length out₀) (begun w v line₀) piece (read + 1)
+    byte-taken h fits =
+        let b = getD piece read 0 in
+        first-more (length w) (length v) (length out₀) (begun w v line₀) piece read 1 (g .taken)
+        (rw (drop-cons piece read 0 h)
+        (first-byte (length w) (length v) (length out₀) here b (drop (suc read) piece)
+        (λ is. omega (arith, fits is, g .holds .put-is, g .holds .fits, g .room, g .long))))
 
-  -- whole lines more
-  pub feeding-lines : {run′ second′ out′ : List ℕ} {r : Lines} → line ≡ emptyLine → LinesRead run second piece read out put r run′ second′ out′
-      → length second′ ≡ length second → length out′ ≡ length out → Feeding w v piece out₀ line₀ run′ second′ out′ line (r .put) (r .read)
-  feeding-lines {r = r} empty lines room long =
-      let more : read + (r .read - read) ≡ r .read = omega (arith, lines .onward) in
-      let bytes : take (r .read) piece ≡ take read piece ++ take (r .read - read) (drop read piece) =
-      ap (λ (k : ℕ). take k piece) (sym more) ∙ take-add read (r .read - read) piece in
-      record {
-        holds =
-            rw (bytes, bytes-append (length w) (length v) (begun w v line₀) (take read piece) (take (r .read - read) (drop read piece)), empty)
-            ((rw (g .holds .size, g .room) at (lines .holds)) out₀ (bytesRead (length w) (length v) (begun w v line₀) (take read piece)) (rw empty at (g .holds)));
-        within = lines .within;
-        room = room ∙ g .room;
-        long = long ∙ g .long;
-      }
+    pub feeding-fed :
+        {line′ : Line} → read < length piece → (getD piece read 0 ≡ 10 → ⊥) → line′ ≡ feedOf line (getD piece read 0)
+        → Feeding w v piece out₀ line₀ run second out line′ put (read + 1)
+    feeding-fed h differs fed =
+        record {
+          holds =
+              rw (byte-more (length w) (length v) (begun w v line₀) piece read h)
+              (holds-fed (length v) (g .holds) (getD piece read 0) differs fed);
+          taken = byte-taken h (λ is. absurd (differs is));
+          within = omega arith;
+          room = g .room;
+          long = g .long;
+        }
 
-  -- an empty buffer has room for one line
-  some-read : lineRoom (length v) ≤ length out₀ → length out - put < lineRoom (length second) → 0 < read
-  unfolding bytesRead
-  some-read enough full =
-      ⊎-elim
-      (λ (e : read ≡ 0). let none : put ≡ 0 = rw e at (g .holds .put-is) in absurd (omega (arith, g .room, g .long)))
-      (λ some. omega (arith, some))
-      (eq-or-not read 0)
+    pub feeding-ended :
+        {run′ second′ out′ : List ℕ} {line′ : Line} {put′ : ℕ} → read < length piece → getD piece read 0 ≡ 10
+        → lineRoom (length second) ≤ length out - put
+        → Ended (callHeld (length second) (endOf line)) run second out put put′ run′ second′ out′ → line′ ≡ emptyLine
+        → length second′ ≡ length second → length out′ ≡ length out
+        → Feeding w v piece out₀ line₀ run′ second′ out′ line′ put′ (read + 1)
+    feeding-ended h is fits ended empty room long =
+        record {
+          holds =
+              rw (byte-more (length w) (length v) (begun w v line₀) piece read h)
+              (holds-ended (length v) (g .holds) (getD piece read 0) (g .room) is ended empty);
+          taken = byte-taken h (λ _. fits);
+          within = omega arith;
+          room = room ∙ g .room;
+          long = long ∙ g .long;
+        }
 
-  pub feeding-full : lineRoom (length v) ≤ length out₀ → length out - put < lineRoom (length second)
-      → Pieced w v piece out₀ line₀ (record { line = line; read = read; put = put }) run second out
-  feeding-full enough full = record { holds = g .holds; within = g .within; onward = λ _. some-read enough full }
+    -- whole lines more
+    pub feeding-lines :
+        {run′ second′ out′ : List ℕ} {r : Lines} → line ≡ emptyLine
+        → LinesRead run second piece read out put r run′ second′ out′
+        → length second′ ≡ length second → length out′ ≡ length out
+        → Feeding w v piece out₀ line₀ run′ second′ out′ line (r .put) (r .read)
+    feeding-lines {r = r} empty lines room long =
+        let more : read + (r .read - read) ≡ r .read = omega (arith, lines .onward) in
+        let lines-read = take (r .read - read) (drop read piece) in
+        let bytes : take (r .read) piece ≡ take read piece ++ lines-read =
+        ap (λ (k : ℕ). take k piece) (sym more) ∙ take-add read (r .read - read) piece in
+        let held = rw empty at (g .holds) in
+        record {
+          holds =
+              rw (bytes, bytes-append (length w) (length v) (begun w v line₀) (take read piece) lines-read, empty)
+              ((rw (g .holds .size, g .room) at (lines .holds)) out₀ here held);
+          taken =
+              rw more at
+              (first-more (length w) (length v) (length out₀) (begun w v line₀) piece read (r .read - read) (g .taken)
+              ((rw (g .holds .size, g .room, g .long) at (lines .taken)) out₀ here held));
+          within = lines .within;
+          room = room ∙ g .room;
+          long = long ∙ g .long;
+        }
 
-  pub feeding-done : length piece ≤ read → Pieced w v piece out₀ line₀ (record { line = line; read = read; put = put }) run second out
-  feeding-done all = record { holds = g .holds; within = g .within; onward = λ some. omega arith }
+    -- a line end that finds no room
+    pub feeding-full :
+        read < length piece → getD piece read 0 ≡ 10 → length out - put < lineRoom (length second)
+        → Pieced w v piece out₀ line₀ (record { line = line; read = read; put = put }) run second out
+    unfolding bytesTaken
+    feeding-full h is full =
+        let much = lt-ltb (length out₀) (length (here .text) + lineRoom (length v)) in
+        let none : bytesTaken (length w) (length v) (length out₀) here (drop read piece) ≡ 0 =
+        rw (
+          drop-cons piece read 0 h,
+          eq-eqb (getD piece read 0) 10 is,
+          much (omega (arith, g .holds .put-is, g .room, g .long)),
+        ) in
+        record { taken = omega (arith, g .taken); holds = g .holds }
+
+    pub feeding-done :
+        length piece ≤ read
+        → Pieced w v piece out₀ line₀ (record { line = line; read = read; put = put }) run second out
+    unfolding bytesTaken
+    feeding-done all =
+        let none : bytesTaken (length w) (length v) (length out₀) here (drop read piece) ≡ 0 =
+        rw (drop-of-length-le piece all) in
+        record { taken = omega (arith, g .taken); holds = g .holds }

@@ -162,8 +162,10 @@ module _
         {number value at′ at″ : ℕ} {r : Answered} {w′ v′ answers′ answers″ : List ℕ}
         → from < length sheet → LineMade w v sheet from r w′ v′
         → length w′ ≡ length w → length v′ ≡ length v → length answers″ ≡ length answers
-        → number ≡ answerNumber (r .answer) → ((rest : List ℕ) → sets answers′ at′ rest ≡ sets answers at (number ∷ rest))
-        → value ≡ answerValue (r .answer) → ((rest : List ℕ) → sets answers″ at″ rest ≡ sets answers′ at′ (value ∷ rest))
+        → number ≡ answerNumber (r .answer)
+        → ((rest : List ℕ) → sets answers′ at′ rest ≡ sets answers at (number ∷ rest))
+        → value ≡ answerValue (r .answer)
+        → ((rest : List ℕ) → sets answers″ at″ rest ≡ sets answers′ at′ (value ∷ rest))
         → Reading w₀ v₀ sheet answers₀ tested w′ v′ answers″ (lines + 1) at″ (r .next)
     read-more {value = value} {w′ = w′} l m size room places n first k then =
         let split = line-next sheet from l in

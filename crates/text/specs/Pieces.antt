@@ -1,9 +1,10 @@
--- A sheet read byte by byte, as it comes in pieces: what a reader holds between two bytes, and what it has printed. proofs/Pieces.antt shows that it is what the sheet's lines ask for. Assumes nothing.
-use Prim.Native.Nat.{ℕ, _+_, _*_, _-_, _≤_, _<_}
+-- A sheet read byte by byte, as it comes in pieces: what a reader holds between two bytes, and what it has printed.
+-- proofs/Pieces.antt shows that it is what the sheet's lines ask for. Assumes nothing.
+use Prim.Native.Nat.{ℕ, suc, _+_, _*_, _-_, _≤_}
 use mathlib.Core.Path.{_≡_}
-use mathlib.Core.Bool.{Bool, true, false, cond}
+use mathlib.Core.Bool.{Bool, true, false, cond, _&&_}
 use mathlib.Core.List.{List, [], _∷_, _++_}
-use lib.Dec.{T, eqb}
+use lib.Dec.{T, eqb, ltb}
 use lib.ListN.{length, take, drop}
 use lib.Seq.{sets}
 use Rattle.book.specs.Facts.{Facts}
@@ -91,7 +92,21 @@ callsMade n xs r =
 abbrev pub lineRoom : ℕ → ℕ
 lineRoom room = 11 * room + 32
 
--- the line of the call x ends over the words w of a book, with the second run v: its call is made, and its answer printed from `at` on
+-- how many of the bytes are read where `size` bytes can be printed:
+-- up to the first line end whose answer might find no room
+unfoldable pub bytesTaken : ℕ → ℕ → ℕ → Reader → List ℕ → ℕ
+bytesTaken n room size r [] = 0
+bytesTaken n room size r (b ∷ bs) =
+    cond {A = ℕ} (eqb b 10 && ltb size (length (r .text) + lineRoom room)) 0
+    (suc (bytesTaken n room size (byteRead n room r b) bs))
+
+-- of the bytes s, the first k are taken, and then those that are taken from there on
+abbrev pub FirstTaken : ℕ → ℕ → ℕ → Reader → List ℕ → ℕ → Type 0
+FirstTaken n room size r s k =
+    bytesTaken n room size r s ≡ k + bytesTaken n room size (bytesRead n room r (take k s)) (drop k s)
+
+-- the line of the call x ends over the words w of a book, with the second run v:
+-- its call is made, and its answer printed from `at` on
 pub record Ended (x : Call) (w v out : List ℕ) (at r : ℕ) (w′ v′ out′ : List ℕ) : Type 0 where
   pub book : T (isBook w′)
   pub words : w′ ≡ layout (length w) (step (length w) x (factsOf w))
@@ -116,7 +131,15 @@ pub record Holds (n : ℕ) (out : List ℕ) (r : Reader) (w′ v′ out′ : Lis
 abbrev pub begun : List ℕ → List ℕ → Line → Reader
 begun w v line = record { line = line; facts = factsOf w; second = v; text = [] }
 
--- whole lines read from `from` on in a piece, over the words w of a book, with the second run v, where `at` bytes of `out` are printed: what held a reader before them holds it after them
+-- the words w are a book, `from` is in the piece, `at` bytes of `out` are printed, and `out` could hold one answer
+pub record LinesBegin (w v piece : List ℕ) (from : ℕ) (out : List ℕ) (at : ℕ) : Type 0 where
+  pub book : T (isBook w)
+  pub inside : from ≤ length piece
+  pub fits : at ≤ length out
+  pub room : lineRoom (length v) ≤ length out
+
+-- whole lines read from `from` on in a piece, over the words w of a book, with the second run v, where `at` bytes of
+-- `out` are printed: what held a reader before them holds it after them, and their bytes are those that are taken first
 pub record LinesRead (w v piece : List ℕ) (from : ℕ) (out : List ℕ) (at : ℕ) (r : Lines) (w′ v′ out′ : List ℕ) : Type 0 where
   pub book : T (isBook w′)
   pub fits : r .put ≤ length out
@@ -124,10 +147,16 @@ pub record LinesRead (w v piece : List ℕ) (from : ℕ) (out : List ℕ) (at : 
   pub within : r .read ≤ length piece
   pub holds :
       (front : List ℕ) (before : Reader) → Holds (length w) front before w v out emptyLine at
-      → Holds (length w) front (bytesRead (length w) (length v) before (take (r .read - from) (drop from piece))) w′ v′ out′ emptyLine (r .put)
+      → Holds (length w) front (bytesRead (length w) (length v) before (take (r .read - from) (drop from piece)))
+      w′ v′ out′ emptyLine (r .put)
+  pub taken :
+      (front : List ℕ) (before : Reader) → Holds (length w) front before w v out emptyLine at
+      → FirstTaken (length w) (length v) (length out) before (drop from piece) (r .read - from)
 
--- a piece read over the words w of a book, with the second run v and a line that has begun: as much of it as `out` has room for the answers to, and some of it
+-- a piece read over the words w of a book, with the second run v and a line that has begun: how much of it is read,
+-- and what is then held
 pub record Pieced (w v piece out : List ℕ) (line : Line) (r : Progress) (w′ v′ out′ : List ℕ) : Type 0 where
-  pub holds : Holds (length w) out (bytesRead (length w) (length v) (begun w v line) (take (r .read) piece)) w′ v′ out′ (r .line) (r .put)
-  pub within : r .read ≤ length piece
-  pub onward : 0 < length piece → 0 < r .read
+  pub taken : r .read ≡ bytesTaken (length w) (length v) (length out) (begun w v line) piece
+  pub holds :
+      Holds (length w) out (bytesRead (length w) (length v) (begun w v line) (take (r .read) piece))
+      w′ v′ out′ (r .line) (r .put)

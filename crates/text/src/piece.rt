@@ -8,7 +8,7 @@ ghost use Rattle.book.specs.Books.{isBook};
 ghost use Rattle.text.specs.Reading.{endOf};
 ghost use Rattle.text.specs.Grammar.{callHeld};
 ghost use Rattle.text.specs.Printing.{isShownLetter};
-ghost use Rattle.text.specs.Pieces.{lineRoom, Ended, LinesRead, Pieced};
+ghost use Rattle.text.specs.Pieces.{lineRoom, Ended, LinesBegin, LinesRead, Pieced};
 use crate::line::Line;
 use crate::line::empty;
 use crate::line::end;
@@ -78,7 +78,8 @@ pub fn end_line(run: &mut [u32], second: &mut [u32], line: Line, out: &mut [u8],
     print_line(run, second, 0, end(line), out, at)
 }
 
-// Reads the lines that begin at `from` or later and end in the piece, as far as `out` has room for their answers. Where the class of a line was found is remembered for the lines after it.
+// Reads the lines that begin at `from` or later and end in the piece, as far as `out` has room for their answers.
+// Where the class of a line was found is remembered for the lines after it.
 fn read_lines(
     run: &mut [u32],
     second: &mut [u32],
@@ -87,7 +88,7 @@ fn read_lines(
     out: &mut [u8],
     at: usize,
 ) -> Lines
-    requires { ⌜ T (isBook (now run)) × ((lineRoom (length (now second)) ≤ length (now out)) × ((from ≤ length (now piece)) × (at ≤ length (now out)))) ⌝ }
+    requires { ⌜ LinesBegin (now run) (now second) (now piece) from (now out) at ⌝ }
     ensures { λ r. ⌜ LinesRead (now (run .entry)) (now (second .entry)) (now (piece .entry)) from (now (out .entry)) at
         r (now (run .exit)) (now (second .exit)) (now (out .exit)) ⌝ }
 {

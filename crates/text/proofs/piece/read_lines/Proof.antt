@@ -17,7 +17,7 @@ abbrev μ-loop : tie.MeasureT-loop
 loop-holds : tie.Need-loop-holds Inv-loop μ-loop
 loop-holds c =
     let start = c .before .before .before .before in
-    (onward-start _ _ _ _ _ _ (start .pre .0) (start .pre .1 .1 .0) (start .pre .1 .1 .1), search needs)
+    (onward-start _ _ _ _ _ _ (start .pre .book) (start .pre .inside) (start .pre .fits), search needs)
 
 read-line-requires : tie.Need-read-line-requires Inv-loop μ-loop
 read-line-requires c κs = omega arith

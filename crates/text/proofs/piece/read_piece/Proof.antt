@@ -1,4 +1,5 @@
--- `read_piece` reads as far as there is room: `Feeding` holds at each byte and after the lines that are read at once, and where the loop is left it is what the contract says. Assumes nothing.
+-- `read_piece` reads as far as there is room: `Feeding` holds at each byte and after the lines that are read at once,
+-- and where the loop is left it is what the contract says. Assumes nothing.
 use Prim.Native.Nat.{_-_}
 use native.Mathlib.Omega.{arith}
 use borrow.Author.Needs.{needs}
@@ -8,7 +9,8 @@ use Rattle.text.proofs.piece.read_piece.Statement.{statement}
 use Rattle.text.proofs.piece.read_piece.Tie as tie
 
 abbrev Inv-loop : tie.InvT-loop
-Inv-loop run₀ second₀ piece out₀ line₀ put₀ read₀ run second out line put read = Feeding run₀ second₀ piece out₀ line₀ run second out line put read
+Inv-loop run₀ second₀ piece out₀ line₀ put₀ read₀ run second out line put read =
+    Feeding run₀ second₀ piece out₀ line₀ run second out line put read
 
 abbrev μ-loop : tie.MeasureT-loop
 μ-loop run₀ second₀ piece out₀ line₀ put₀ read₀ run second out line put read = length piece - read
@@ -39,13 +41,14 @@ same-length-3 c = omega arith
 
 returns : tie.Need-returns Inv-loop μ-loop
 returns c =
-    let at-loop = c .before .before .before .before in
-    feeding-full (at-loop .loop .inv) (at-loop .before .before .before .before .before .pre .1) (c .if2 .taken)
+    let inside = c .before .before .before in
+    feeding-full (inside .before .loop .inv) (inside .loop-test .taken) (c .before .if1 .taken) (c .if2 .taken)
 
 end-line-requires : tie.Need-end-line-requires Inv-loop μ-loop
 end-line-requires c κs =
-    let at-loop = c .before .before .before .before .before .before .before in
-    (at-loop .loop .inv .holds .book, omega arith)
+    let roomy = c .before .before .before in
+    let inside = roomy .before .before .before in
+    (inside .before .loop .inv .holds .book, omega arith)
 
 empty-requires : tie.Need-empty-requires Inv-loop μ-loop
 empty-requires c κs = search needs
@@ -53,29 +56,46 @@ empty-requires c κs = search needs
 add-read-lines : tie.Need-add-read-lines Inv-loop μ-loop
 add-read-lines c = omega arith
 
+-- where the line has ended, from where its place is empty
+abbrev ending : tie.After-empty Inv-loop μ-loop → tie.After-end-line Inv-loop μ-loop
+ending emptied =
+    let second = emptied .before .before .before .before in
+    second .before .before .before
+
+-- where lines have been read, from the end of the turn
+abbrev reading : tie.After-slice-known9 Inv-loop μ-loop → tie.After-read-lines Inv-loop μ-loop
+reading c =
+    let second = c .before .before .before in
+    second .before .before .before
+
 read-lines-requires : tie.Need-read-lines-requires Inv-loop μ-loop
 read-lines-requires c κs =
-    let ended = c .before .before .before .before .before .before .before .before .before .before in
-    (ended .end-line .ensures .book, (omega arith, (omega arith, omega (arith, ended .end-line .ensures .fits))))
+    let ended = ending (c .before .before .before) .end-line .ensures in
+    record {
+      book = ended .book;
+      inside = omega arith;
+      fits = omega (arith, ended .fits);
+      room = omega arith;
+    }
 
 loop-less : tie.Need-loop-less Inv-loop μ-loop
-loop-less c =
-    let lines = c .before .before .before .before .before .before .read-lines .ensures in
-    omega (arith, lines .onward)
+loop-less c = omega (arith, reading c .read-lines .ensures .onward)
 
 loop-again : tie.Need-loop-again Inv-loop μ-loop
 loop-again c =
-    let read = c .before .before .before .before .before .before in
-    let emptied = read .before .before .before .before in
-    let ended = emptied .before .before .before .before .before .before .before in
-    let inside = ended .before .before .before .before .before .before .before in
+    let lines = reading c .read-lines in
+    let emptied = reading c .before .before .before .before in
+    let ended = ending emptied .end-line in
+    let roomy = ending emptied .before .before .before .before in
+    let at-end = roomy .before in
+    let inside = at-end .before .before in
     feeding-lines
-    (feeding-ended (inside .before .loop .inv) (inside .loop-test .taken) (ended .before .before .before .before .before .if1 .taken) (ended .end-line .ensures) (emptied .empty .ensures)
-    (ended .end-line .kept .1 .0) (ended .end-line .kept .1 .1 .1 .0))
+    (feeding-ended (inside .before .loop .inv) (inside .loop-test .taken) (at-end .if1 .taken) (roomy .if2 .left)
+    (ended .ensures) (emptied .empty .ensures) (ended .kept .1 .0) (ended .kept .1 .1 .1 .0))
     (emptied .empty .ensures)
-    (read .read-lines .ensures)
-    (read .read-lines .kept .1 .0)
-    (read .read-lines .kept .1 .1 .1 .1 .0)
+    (lines .ensures)
+    (lines .kept .1 .0)
+    (lines .kept .1 .1 .1 .1 .0)
 
 feed-requires : tie.Need-feed-requires Inv-loop μ-loop
 feed-requires c κs = search needs

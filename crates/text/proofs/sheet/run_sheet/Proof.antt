@@ -1,5 +1,5 @@
--- `run_sheet` reads the sheet to its end: what the lines that are left make of the present words is what the whole sheet makes
--- of the first ones. Assumes nothing.
+-- `run_sheet` reads the sheet to its end: what the lines that are left make of the present words is what the whole
+-- sheet makes of the first ones. Assumes nothing.
 use Prim.Native.Nat.{_-_}
 use mathlib.Core.Path.{_≡_, _∙_}
 use native.Mathlib.Omega.{arith}
