@@ -23,14 +23,14 @@ use Rattle.text.specs.Grammar.{callHeld}
 use Rattle.text.specs.Printing.{replyTo}
 use Rattle.text.specs.Sheets.{lineEnd}
 use Rattle.text.specs.WholeLines.{lineAfter, WholeAt}
-use Rattle.text.specs.Pieces.{Reader, callEnded, callMade, byteRead, bytesRead, lineRoom, bytesTaken, FirstTaken, Ended, Holds, begun, LinesRead, Pieced}
+use Rattle.text.specs.Pieces.{Reader, callEnded, callMade, byteRead, bytesRead, hasBegun, lastEnded, lineRoom, bytesTaken, FirstTaken, Ended, Holds, begun, LinesRead, Pieced}
 use Rattle.text.proofs.Cases.{bool-cases, eq-or-not, neither-of}
 use Rattle.text.proofs.AnswerTexts.{stores-after}
 
 -- ---- the bytes in turn
 
 -- in two parts
-bytes-append : (n room : ℕ) (r : Reader) (a b : List ℕ) → bytesRead n room r (a ++ b) ≡ bytesRead n room (bytesRead n room r a) b
+pub bytes-append : (n room : ℕ) (r : Reader) (a b : List ℕ) → bytesRead n room r (a ++ b) ≡ bytesRead n room (bytesRead n room r a) b
 unfolding bytesRead
 bytes-append n room r [] b = refl
 bytes-append n room r (x ∷ a) b = bytes-append n room (byteRead n room r x) a b
@@ -39,6 +39,39 @@ byte-more : (n room : ℕ) (r : Reader) (piece : List ℕ) (i : ℕ) → i < len
     → bytesRead n room r (take (i + 1) piece) ≡ byteRead n room (bytesRead n room r (take i piece)) (getD piece i 0)
 unfolding bytesRead
 byte-more n room r piece i h = rw (add-one, take-suc piece i 0, bytes-append)
+
+-- ---- what a reader holds, but for what it has printed
+
+abbrev pub unprinted : Reader → Reader
+unprinted r = record { line = r .line; facts = r .facts; second = r .second; text = [] }
+
+-- it does not depend on what was printed before
+module _ (n room : ℕ) where
+  byte-unprinted : (r : Reader) (b : ℕ) → unprinted (byteRead n room r b) ≡ unprinted (byteRead n room (unprinted r) b)
+  unfolding byteRead callMade
+  byte-unprinted r b =
+      ⊎-elim (λ (e : eqb b 10 ≡ true). rw e) (λ (e : eqb b 10 ≡ false). rw e) (bool-cases (eqb b 10))
+
+  pub bytes-unprinted :
+      (r q : Reader) (s : List ℕ) → unprinted r ≡ unprinted q
+      → unprinted (bytesRead n room r s) ≡ unprinted (bytesRead n room q s)
+  unfolding bytesRead
+  bytes-unprinted r q [] e = e
+  bytes-unprinted r q (b ∷ s) e =
+      let same = ap (λ (x : Reader). unprinted (byteRead n room x b)) e in
+      bytes-unprinted (byteRead n room r b) (byteRead n room q b) s (byte-unprinted r b ∙ same ∙ sym (byte-unprinted q b))
+
+  ended-unprinted : (r : Reader) → unprinted (lastEnded n room r) ≡ unprinted (lastEnded n room (unprinted r))
+  unfolding lastEnded callMade
+  ended-unprinted r =
+      let begins = hasBegun (r .line .phase) in
+      ⊎-elim (λ (e : begins ≡ true). rw e) (λ (e : begins ≡ false). rw e) (bool-cases begins)
+
+  pub last-unprinted :
+      (r q : Reader) → unprinted r ≡ unprinted q → unprinted (lastEnded n room r) ≡ unprinted (lastEnded n room q)
+  last-unprinted r q e =
+      let same = ap (λ (x : Reader). unprinted (lastEnded n room x)) e in
+      ended-unprinted r ∙ same ∙ sym (ended-unprinted q)
 
 -- ---- the bytes that are taken, where `size` bytes can be printed
 
