@@ -4,8 +4,11 @@ ghost use mathlib.Core.Path.{_≡_};
 ghost use Prim.Native.Nat.{_≤_};
 ghost use lib.Dec.{T};
 ghost use lib.ListN.{length};
+ghost use Rattle.book.specs.Facts.{fresh};
+ghost use Rattle.book.specs.Layout.{layout};
 ghost use Rattle.book.specs.Books.{isBook};
-ghost use Rattle.text.specs.Pieces.{lineRoom};
+ghost use Rattle.text.specs.Pieces.{lineRoom, begun, lastEnded};
+ghost use Rattle.sheet.specs.Runs.{Left, AfterBytes, TurnTaken, AllRead, SheetRead};
 use libc::STDIN_FILENO;
 use libc::STDOUT_FILENO;
 use scan::fresh;
@@ -15,16 +18,16 @@ use text::line::empty;
 use text::piece::end_line;
 use text::piece::read_piece;
 
-// Whether the input went on, and the line that has not ended.
+// How many bytes were read, none at the end of the input, and the line that has not ended.
 struct Turn {
-    more: bool,
+    count: usize,
     line: Line,
 }
 
 // Makes a fresh book of the run.
 fn begin(run: &mut [u32])
     requires { ⌜ 4096 ≡ length (now run) ⌝ }
-    ensures { λ _. ⌜ T (isBook (now (run .exit))) ⌝ }
+    ensures { λ _. ⌜ now (run .exit) ≡ layout (length (now (run .entry))) fresh ⌝ }
 {
     fresh(run);
 }
@@ -32,7 +35,8 @@ fn begin(run: &mut [u32])
 // Reads a piece to its end and prints the replies to the lines that end in it. Answers the line that has not ended.
 fn read_whole(run: &mut [u32], second: &mut [u32], line: Line, piece: &[u8], out: &mut [u8]) -> Line
     requires { ⌜ T (isBook (now run)) × (lineRoom (length (now second)) ≤ length (now out)) ⌝ }
-    ensures { λ _. ⌜ T (isBook (now (run .exit))) ⌝ }
+    ensures { λ r. ⌜ AfterBytes (now (run .entry)) (now (second .entry)) line (now (piece .entry))
+        (now (run .exit)) (now (second .exit)) r ⌝ }
 {
     let mut line = line;
     let mut from = 0;
@@ -55,34 +59,30 @@ fn take_turn(
     out: &mut [u8],
 ) -> Turn
     requires { ⌜ T (isBook (now run)) × (lineRoom (length (now second)) ≤ length (now out)) ⌝ }
-    ensures { λ _. ⌜ T (isBook (now (run .exit))) ⌝ }
+    ensures { λ r. ⌜ TurnTaken (now (run .entry)) (now (second .entry)) line
+        r (now (run .exit)) (now (second .exit)) (now (input .exit)) ⌝ }
 {
     let got = libc::read(STDIN_FILENO, input);
-    if got <= 0 {
-        return Turn {
-            more: false,
-            line: line,
-        };
-    }
     let count = io::count(got, input);
     let next = read_whole(run, second, line, &input[..count], out);
     Turn {
-        more: true,
+        count: count,
         line: next,
     }
 }
 
-// Reads standard input to its end. Answers the last line, where it lacks its line end. Nothing says that the input ends, so the turns are counted down.
+// Reads standard input to its end. Answers the last line, where it lacks its line end.
+// Nothing says that the input ends, so the turns are counted down.
 fn read_all(run: &mut [u32], second: &mut [u32], input: &mut [u8], out: &mut [u8]) -> Line
     requires { ⌜ T (isBook (now run)) × (lineRoom (length (now second)) ≤ length (now out)) ⌝ }
-    ensures { λ _. ⌜ T (isBook (now (run .exit))) ⌝ }
+    ensures { λ r. ⌜ AllRead (now (run .entry)) (now (second .entry)) r (now (run .exit)) (now (second .exit)) ⌝ }
 {
     let mut line = empty();
     let mut turns = u64::MAX;
     while turns > 0 {
         let turn = take_turn(run, second, line, input, out);
         line = turn.line;
-        if !turn.more {
+        if turn.count == 0 {
             return line;
         }
         turns -= 1;
@@ -93,7 +93,10 @@ fn read_all(run: &mut [u32], second: &mut [u32], input: &mut [u8], out: &mut [u8
 // Ends a last line that has begun, and prints the reply to it.
 fn end_last(run: &mut [u32], second: &mut [u32], line: Line, out: &mut [u8])
     requires { ⌜ T (isBook (now run)) × (lineRoom (length (now second)) ≤ length (now out)) ⌝ }
-    ensures { λ _. ⌜ T (isBook (now (run .exit))) ⌝ }
+    ensures { λ _. ⌜ Left (length (now (run .entry)))
+        (lastEnded (length (now (run .entry))) (length (now (second .entry)))
+        (begun (now (run .entry)) (now (second .entry)) line))
+        (now (run .exit)) (now (second .exit)) ⌝ }
 {
     let phase = line.phase;
     if let Phase::Start = phase {
@@ -106,6 +109,7 @@ fn end_last(run: &mut [u32], second: &mut [u32], line: Line, out: &mut [u8])
 // The whole sheet, over a fresh book.
 fn run_sheet(run: &mut [u32], second: &mut [u32], input: &mut [u8], out: &mut [u8])
     requires { ⌜ (4096 ≡ length (now run)) × (lineRoom (length (now second)) ≤ length (now out)) ⌝ }
+    ensures { λ _. ⌜ SheetRead (now (run .entry)) (now (second .entry)) (now (run .exit)) (now (second .exit)) ⌝ }
 {
     begin(run);
     let line = read_all(run, second, input, out);

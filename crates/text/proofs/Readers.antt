@@ -30,7 +30,8 @@ use Rattle.text.proofs.AnswerTexts.{stores-after}
 -- ---- the bytes in turn
 
 -- in two parts
-pub bytes-append : (n room : ℕ) (r : Reader) (a b : List ℕ) → bytesRead n room r (a ++ b) ≡ bytesRead n room (bytesRead n room r a) b
+pub bytes-append :
+    (n room : ℕ) (r : Reader) (a b : List ℕ) → bytesRead n room r (a ++ b) ≡ bytesRead n room (bytesRead n room r a) b
 unfolding bytesRead
 bytes-append n room r [] b = refl
 bytes-append n room r (x ∷ a) b = bytes-append n room (byteRead n room r x) a b
@@ -59,7 +60,8 @@ module _ (n room : ℕ) where
   bytes-unprinted r q [] e = e
   bytes-unprinted r q (b ∷ s) e =
       let same = ap (λ (x : Reader). unprinted (byteRead n room x b)) e in
-      bytes-unprinted (byteRead n room r b) (byteRead n room q b) s (byte-unprinted r b ∙ same ∙ sym (byte-unprinted q b))
+      bytes-unprinted (byteRead n room r b) (byteRead n room q b) s
+      (byte-unprinted r b ∙ same ∙ sym (byte-unprinted q b))
 
   ended-unprinted : (r : Reader) → unprinted (lastEnded n room r) ≡ unprinted (lastEnded n room (unprinted r))
   unfolding lastEnded callMade

@@ -1,24 +1,36 @@
--- `read_all` leaves a book: each turn does, and keeps the lengths. Assumes nothing.
-use mathlib.Core.Path.{_≡_}
-use lib.Dec.{T}
-use lib.ListN.{length}
+-- `read_all` carries on what each turn leaves, and keeps the lengths. Assumes nothing.
 use borrow.Author.Needs.{needs}
-use Rattle.book.specs.Books.{isBook}
+use Rattle.sheet.proofs.Carrying.{Turning, turning-start, all-more, turning-more}
 use Rattle.sheet.proofs.read_all.Statement.{statement}
 use Rattle.sheet.proofs.read_all.Tie as tie
 
 abbrev Inv-loop : tie.InvT-loop
 Inv-loop run₀ second₀ input₀ out₀ line₀ turns₀ run second input out line turns =
-    T (isBook run) × (length run ≡ length run₀) × (length second ≡ length second₀) × (length input ≡ length input₀) × (length out ≡ length out₀)
+    Turning run₀ second₀ input₀ out₀ line run second input out
 
 abbrev μ-loop : tie.MeasureT-loop
 μ-loop run₀ second₀ input₀ out₀ line₀ turns₀ run second input out line turns = turns
+
+-- where a turn has been taken
+abbrev turning : tie.After-struct-known Inv-loop μ-loop → tie.After-take-turn Inv-loop μ-loop
+turning c =
+    let out = c .before .before .before in
+    let second = out .before .before .before .before in
+    second .before .before .before
+
+-- where it begins
+abbrev before-turn : tie.After-struct-known Inv-loop μ-loop → tie.At-loop Inv-loop μ-loop
+before-turn c =
+    let lent = turning c .before .before .before in
+    lent .before .before .before
 
 empty-requires : tie.Need-empty-requires Inv-loop μ-loop
 empty-requires c κs = search needs
 
 loop-holds : tie.Need-loop-holds Inv-loop μ-loop
-loop-holds c = search needs
+loop-holds c =
+    let lent = c .before .before in
+    turning-start _ _ _ _ _ (lent .before .before .before .pre .0) (c .empty .ensures)
 
 take-turn-requires : tie.Need-take-turn-requires Inv-loop μ-loop
 take-turn-requires c κs = search needs
@@ -36,7 +48,7 @@ same-length-4 : tie.Need-same-length-4 Inv-loop μ-loop
 same-length-4 c = search needs
 
 returns : tie.Need-returns Inv-loop μ-loop
-returns c = search needs
+returns c = all-more (before-turn (c .before) .loop .inv) (turning (c .before) .take-turn .ensures)
 
 sub-turns : tie.Need-sub-turns Inv-loop μ-loop
 sub-turns c = search needs
@@ -45,7 +57,10 @@ loop-less : tie.Need-loop-less Inv-loop μ-loop
 loop-less c = search needs
 
 loop-again : tie.Need-loop-again Inv-loop μ-loop
-loop-again c = (search needs, search needs, search needs, search needs, search needs)
+loop-again c =
+    let turned = turning (c .before) .take-turn in
+    turning-more (before-turn (c .before) .loop .inv) (turned .ensures)
+    (turned .kept .0) (turned .kept .1 .0) (turned .kept .1 .1 .1 .0) (turned .kept .1 .1 .1 .1 .0)
 
 same-length-5 : tie.Need-same-length-5 Inv-loop μ-loop
 same-length-5 c = search needs
@@ -60,7 +75,7 @@ same-length-8 : tie.Need-same-length-8 Inv-loop μ-loop
 same-length-8 c = search needs
 
 returns-2 : tie.Need-returns-2 Inv-loop μ-loop
-returns-2 c = search needs
+returns-2 c = c .before .loop .inv .all
 
 pub read-all-spec : {M : Type 1} → statement M
 read-all-spec =

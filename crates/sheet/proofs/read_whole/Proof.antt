@@ -1,29 +1,40 @@
--- `read_whole` reads the piece to its end: each turn reads some of what is left, and leaves a book. Assumes nothing.
-use Prim.Native.Nat.{ℕ, _≤_, _-_}
+-- `read_whole` reads the piece to its end: each turn reads some of what is left, and carries on what the bytes before
+-- it left. Assumes nothing.
+use Prim.Native.Nat.{_-_}
 use mathlib.Core.Path.{_≡_, sym}
-use mathlib.Core.List.{List}
 use native.Mathlib.Omega.{arith}
-use lib.Dec.{T}
-use lib.ListN.{length, take, drop, length-take, length-drop}
+use lib.ListN.{length}
 use lib.Seq.{length-take-le}
 use borrow.Author.Needs.{needs}
-use Rattle.book.specs.Books.{isBook}
+use Rattle.sheet.proofs.Carrying.{Reading, reading-start, some-read, reading-more, reading-done}
 use Rattle.sheet.proofs.read_whole.Statement.{statement}
 use Rattle.sheet.proofs.read_whole.Tie as tie
 
--- what is left of the piece
-length-left : (piece : List ℕ) (from : ℕ) → length (take (length piece - from) (drop from piece)) ≡ length piece - from
-length-left piece from = simp (length-take, length-drop) (omega arith)
-
 abbrev Inv-loop : tie.InvT-loop
 Inv-loop run₀ second₀ piece out₀ line₀ from₀ run second out line from =
-    (from ≤ length piece) × T (isBook run) × (length run ≡ length run₀) × (length second ≡ length second₀) × (length out ≡ length out₀)
+    Reading run₀ second₀ piece line₀ run second line from × (length out ≡ length out₀)
 
 abbrev μ-loop : tie.MeasureT-loop
 μ-loop run₀ second₀ piece out₀ line₀ from₀ run second out line from = length piece - from
 
+-- where some of the piece has been read, from the end of the turn
+abbrev reading : tie.After-struct-known Inv-loop μ-loop → tie.After-read-piece Inv-loop μ-loop
+reading c =
+    let written = c .before .before in
+    let out = written .before .before .before in
+    let second = out .before .before in
+    second .before .before .before
+
+-- where that turn begins
+abbrev turning : tie.After-read-piece Inv-loop μ-loop → tie.In-loop Inv-loop μ-loop
+turning read =
+    let lent = read .before .before .before in
+    lent .before .before
+
 loop-holds : tie.Need-loop-holds Inv-loop μ-loop
-loop-holds c = search needs
+loop-holds c =
+    let start = c .before .before .before .before in
+    (reading-start _ _ _ _ (start .pre .0), search needs)
 
 sub-read-piece : tie.Need-sub-read-piece Inv-loop μ-loop
 sub-read-piece c = search needs
@@ -42,43 +53,35 @@ slice-reshare-prefix-write-all c = search needs
 
 slice-aggregate-write-all : tie.Need-slice-aggregate-write-all Inv-loop μ-loop
 slice-aggregate-write-all c =
-    let reading = c .before .before .before .before .before .before .before .read-piece in
-    sym (length-take-le _ _ (omega (arith, reading .ensures .holds .fits, reading .kept .1 .1 .1 .1 .0)))
+    let second = c .before .before .before .before in
+    let read = second .before .before .before .read-piece in
+    sym (length-take-le _ _ (omega (arith, read .ensures .holds .fits, read .kept .1 .1 .1 .1 .0)))
 
 write-all-requires : tie.Need-write-all-requires Inv-loop μ-loop
 write-all-requires c κs = search needs
 
 add-from : tie.Need-add-from Inv-loop μ-loop
 add-from c =
-    let call = c .before .before .before .before .before .before .before .before .before .before in
-    let at-loop = call .before .before .before .before .before .before in
-    let piece = at-loop .before .before .before .before .before .args .piece .now in
-    let from = at-loop .loop .from in
-    let reading = call .read-piece in
-    omega (arith, reading .ensures .within, length-left piece from, at-loop .before .before .before .before .before .good .1 .1 .1 .0)
+    let line = turning (reading c) in
+    let lent = line .before .before .before in
+    let pieced = reading c .read-piece .ensures in
+    let read = some-read (line .before .loop .inv .0) (line .loop-test .taken) (omega arith) pieced in
+    omega (arith, read .1, lent .before .before .before .good .1 .1 .1 .0)
 
 loop-less : tie.Need-loop-less Inv-loop μ-loop
 loop-less c =
-    let call = c .before .before .before .before .before .before .before .before .before .before in
-    let at-loop = call .before .before .before .before .before .before in
-    let piece = at-loop .before .before .before .before .before .args .piece .now in
-    let from = at-loop .loop .from in
-    let reading = call .read-piece in
-    let left = length-left piece from in
-    omega (arith, reading .ensures .within, reading .ensures .onward (omega arith))
+    let line = turning (reading c) in
+    let pieced = reading c .read-piece .ensures in
+    let read = some-read (line .before .loop .inv .0) (line .loop-test .taken) (omega arith) pieced in
+    omega (arith, read .0, read .1)
 
 loop-again : tie.Need-loop-again Inv-loop μ-loop
 loop-again c =
-    let call = c .before .before .before .before .before .before .before .before .before .before in
-    let at-loop = call .before .before .before .before .before .before in
-    let piece = at-loop .before .before .before .before .before .args .piece .now in
-    let from = at-loop .loop .from in
-    let reading = call .read-piece in (
-      omega (arith, reading .ensures .within, length-left piece from),
-      reading .ensures .holds .book,
-      omega (arith, reading .kept .0),
-      omega (arith, reading .kept .1 .0),
-      omega (arith, reading .kept .1 .1 .1 .1 .0),
+    let line = turning (reading c) in
+    let read = reading c .read-piece in (
+      reading-more (line .before .loop .inv .0) (line .loop-test .taken) (omega arith) (read .ensures)
+          (read .kept .0) (read .kept .1 .0),
+      omega (arith, read .kept .1 .1 .1 .1 .0),
     )
 
 same-length : tie.Need-same-length Inv-loop μ-loop
@@ -91,7 +94,7 @@ same-length-3 : tie.Need-same-length-3 Inv-loop μ-loop
 same-length-3 c = search needs
 
 returns : tie.Need-returns Inv-loop μ-loop
-returns c = search needs
+returns c = reading-done (c .before .loop .inv .0) (c .loop-test .left)
 
 pub read-whole-spec : {M : Type 1} → statement M
 read-whole-spec =

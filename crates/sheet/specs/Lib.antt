@@ -1,0 +1,2 @@
+-- What the sheet program leaves.
+pub mod Runs
