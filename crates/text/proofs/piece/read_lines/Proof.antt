@@ -1,4 +1,5 @@
--- `read_lines` reads whole lines as far as there is room: `Onward` holds at each, and where the loop is left it is what the contract says. Assumes nothing.
+-- `read_lines` reads whole lines as far as there is room: `Onward` holds at each, and where the loop is left it is what
+-- the contract says. Assumes nothing.
 use Prim.Native.Nat.{_-_}
 use mathlib.Core.Path.{_≡_, _∙_}
 use native.Mathlib.Omega.{arith}
@@ -9,10 +10,12 @@ use Rattle.text.proofs.piece.read_lines.Statement.{statement}
 use Rattle.text.proofs.piece.read_lines.Tie as tie
 
 abbrev Inv-loop : tie.InvT-loop
-Inv-loop run₀ second₀ piece from out₀ at places₀ put₀ read₀ run second out places put read = Onward run₀ second₀ piece from out₀ at run second out put read × (length places ≡ 1024)
+Inv-loop run₀ second₀ piece from out₀ at places₀ put₀ read₀ run second out places put read =
+    Onward run₀ second₀ piece from out₀ at run second out put read × (length places ≡ 1024)
 
 abbrev μ-loop : tie.MeasureT-loop
-μ-loop run₀ second₀ piece from out₀ at places₀ put₀ read₀ run second out places put read = length piece - read
+μ-loop run₀ second₀ piece from out₀ at places₀ put₀ read₀ run second out places put read =
+    length piece - read
 
 loop-holds : tie.Need-loop-holds Inv-loop μ-loop
 loop-holds c =
@@ -49,31 +52,55 @@ slice-aggregate-remembered-place c = search needs
 element-copy-out-remembered-place : tie.Need-element-copy-out-remembered-place Inv-loop μ-loop
 element-copy-out-remembered-place c = search needs
 
+-- where a line was read whole and its answer has room, from where its class was looked for
+abbrev testing : tie.After-remembered-place Inv-loop μ-loop → tie.Else1 Inv-loop μ-loop
+testing remembered =
+    let line = remembered .before .before .before .before in
+    line .before
+
+-- where its class was looked for, from where its answer is printed
+abbrev remembering : tie.After-print-line Inv-loop μ-loop → tie.After-remembered-place Inv-loop μ-loop
+remembering printed =
+    let lent = printed .before .before .before in
+    lent .before .before
+
+-- where its answer is printed, from the end of the turn
+abbrev printing : tie.After-slice-known6 Inv-loop μ-loop → tie.After-print-line Inv-loop μ-loop
+printing c =
+    let second = c .before .before .before in
+    second .before .before .before
+
 remembered-place-requires : tie.Need-remembered-place-requires Inv-loop μ-loop
-remembered-place-requires c κs = (c .before .before .before .before .before .before .before .loop .inv .0 .lines .book, search needs)
+remembered-place-requires c κs =
+    let whole = c .before .before .before .before in
+    let line = whole .before .before in
+    (line .before .loop .inv .0 .lines .book, search needs)
 
 print-line-requires : tie.Need-print-line-requires Inv-loop μ-loop
 print-line-requires c κs =
-    let tested = c .before .before .before .before .before .before .before .before .before in
+    let tested = testing (c .before .before .before .before) in
     let going = tested .before .before .before .loop .inv .0 in
     (going .lines .book, onward-room going (tested .before .read-line .result .end) (tested .if1 .left))
 
 add-read : tie.Need-add-read Inv-loop μ-loop
 add-read c =
-    let read = c .before .before .before .before .before .before .before .before .before .before .before .before .before .before .before .before .before in
-    omega (arith, read .read-line .ensures .within, read .before .before .before .before .before .before .before .good .1 .1 .0)
+    let whole = testing (remembering (printing c)) .before in
+    let lent = whole .before .before .before .before in
+    omega (arith, whole .read-line .ensures .within, lent .before .before .before .good .1 .1 .0)
 
 loop-less : tie.Need-loop-less Inv-loop μ-loop
 loop-less c = omega arith
 
 loop-again : tie.Need-loop-again Inv-loop μ-loop
 loop-again c =
-    let printed = c .before .before .before .before .before .before in
-    let tested = printed .before .before .before .before .before .before .before .before .before .before in
-    let whole = tested .before in (
-      onward-more (whole .before .before .loop .inv .0) (whole .read-line .result .end) (tested .if1 .left) (whole .read-line .ensures) (printed .print-line .ensures)
-          (printed .print-line .kept .0) (printed .print-line .kept .1 .0) (printed .print-line .kept .1 .1 .1 .1 .0),
-      printed .before .before .before .before .before .remembered-place .kept .1 .0 ∙ whole .before .before .loop .inv .1,
+    let printed = printing c .print-line in
+    let remembered = remembering (printing c) in
+    let tested = testing remembered in
+    let whole = tested .before in
+    let going = whole .before .before .loop .inv in (
+      onward-more (going .0) (whole .read-line .result .end) (tested .if1 .left) (whole .read-line .ensures)
+          (printed .ensures) (printed .kept .0) (printed .kept .1 .0) (printed .kept .1 .1 .1 .1 .0),
+      remembered .remembered-place .kept .1 .0 ∙ going .1,
     )
 
 same-length-4 : tie.Need-same-length-4 Inv-loop μ-loop
