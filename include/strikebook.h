@@ -1,6 +1,7 @@
 /* The strike book for programs in C and C++: which strike prices may be listed on individual
- * stocks. The functions are proved for every input. They stand in libexport.a (x86-64 Linux),
- * which needs memset and memmove of the C library and nothing else.
+ * stocks. The functions are proved for every input. They stand in libexport.a (x86-64 Linux), and
+ * strike_book_compare_lists in liblists.a; both need memset and memmove of the C library and
+ * nothing else.
  *
  * UNITS
  *   class         a stock with options: its class number, 1 to 16,383

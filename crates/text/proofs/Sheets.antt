@@ -19,7 +19,7 @@ use Rattle.book.specs.Made.{Made}
 use Rattle.book.proofs.Tests.{T-true, true-T}
 use Rattle.book.proofs.Layouts.{book-facts}
 use Rattle.book.proofs.Followed.{made-book}
-use Rattle.text.specs.declared.sheet.Answered.{Answered}
+use Rattle.text.specs.declared.sheet.LineAnswer.{LineAnswer}
 use Rattle.text.specs.Grammar.{callIn}
 use Rattle.text.specs.Sheets.{withByte, linesOf, lineEnd, lineAt, nextLine, callsIn, refusedAll, answersOver, wordsAfter, secondOver, LineMade, SheetRun}
 use Rattle.text.proofs.Cases.{bool-cases, lt-or-le}
@@ -159,7 +159,7 @@ module _
   where
     -- one line more
     pub read-more :
-        {number value at′ at″ : ℕ} {r : Answered} {w′ v′ answers′ answers″ : List ℕ}
+        {number value at′ at″ : ℕ} {r : LineAnswer} {w′ v′ answers′ answers″ : List ℕ}
         → from < length sheet → LineMade w v sheet from r w′ v′
         → length w′ ≡ length w → length v′ ≡ length v → length answers″ ≡ length answers
         → number ≡ answerNumber (r .answer)

@@ -11,7 +11,7 @@ use Rattle.book.specs.Books.{isBook}
 use Rattle.book.specs.Calls.{Call, steps}
 use Rattle.book.specs.CallLists.{answersTo, secondAfter}
 use Rattle.book.specs.Made.{Made}
-use Rattle.text.specs.declared.sheet.Answered.{Answered}
+use Rattle.text.specs.declared.sheet.LineAnswer.{LineAnswer}
 use Rattle.text.specs.Grammar.{callIn}
 
 -- a byte more at the front of the first line
@@ -65,7 +65,7 @@ pub record LineBegins (w places : List ℕ) (tested : Bool) (sheet : List ℕ) (
   pub inside : from < length sheet
 
 -- the call of the line that begins at `from`, made on any words w, with a second run v, and where the next line begins
-pub record LineMade (w v sheet : List ℕ) (from : ℕ) (r : Answered) (w′ v′ : List ℕ) : Type 0 where
+pub record LineMade (w v sheet : List ℕ) (from : ℕ) (r : LineAnswer) (w′ v′ : List ℕ) : Type 0 where
   pub made : Made (callIn (length v) (lineAt sheet from)) w v (r .answer) w′ v′
   pub next-is : r .next ≡ nextLine sheet from
 

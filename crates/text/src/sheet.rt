@@ -39,7 +39,7 @@ pub fn make_line(run: &mut [u32], second: &mut [u32], near: usize, line: Line) -
 }
 
 // The answer to a line, and where the next line begins.
-struct Answered {
+struct LineAnswer {
     answer: Answer,
     next: usize,
 }
@@ -53,7 +53,7 @@ fn answer_line(
     tested: bool,
     sheet: &[u8],
     from: usize,
-) -> Answered
+) -> LineAnswer
     requires { ⌜ LineBegins (now run) (now places) tested (now sheet) from ⌝ }
     ensures { λ r. ⌜ LineMade (now (run .entry)) (now (second .entry)) (now (sheet .entry)) from
         r (now (run .exit)) (now (second .exit)) ⌝ }
@@ -66,7 +66,7 @@ fn answer_line(
         end + 1
     };
     if !tested {
-        return Answered {
+        return LineAnswer {
             answer: Answer::Refused(Refusal::NotABook),
             next: next,
         };
@@ -74,7 +74,7 @@ fn answer_line(
     let line = whole.line;
     let near = remembered_place(run, places, line.numbers[0]);
     let answer = make_line(run, second, near, line);
-    Answered { answer, next }
+    LineAnswer { answer, next }
 }
 
 // Writes a number where there is a place for it, and answers the place after it.
