@@ -21,7 +21,7 @@ pub record Left (n : ℕ) (r : Reader) (w′ v′ : List ℕ) : Type 0 where
   pub words : w′ ≡ layout n (r .facts)
   pub second : v′ ≡ r .second
 
--- they are, and a line that has not ended is the reader's, whatever it has printed
+-- the same of words that are a book and of a line that has not ended, whatever the reader has printed
 pub record Carried (n : ℕ) (r : Reader) (w′ v′ : List ℕ) (line : Line) : Type 0 where
   pub book : T (isBook w′)
   pub facts-are : factsOf w′ ≡ r .facts
