@@ -25,6 +25,7 @@ module _ (near : ℕ) (ws : List ℕ) where
     abbrev holds : ℕ → Bool
     holds at = isHolding kind width key (getD ws at 0)
 
+    -- what the definition gives, by what its tests say
     abbrev found : Bool → Bool → Bool → ℕ
     found amid there about =
         cond {A = ℕ} (not amid) (length ws)
