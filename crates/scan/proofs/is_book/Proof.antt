@@ -37,14 +37,17 @@ top : (c : tie.After-field-of2) → let w = getD (words (measured c .before)) 0 
 top c = omega (arith, c .before .before .shared-slice-known2 .given 0)
 
 -- the head passed its test
-headed : (c : tie.Else2) → let ws = words (measured (c .before) .before) in not (isHeadWord (length ws) (getD ws 0 0)) ≡ false
+headed :
+    (c : tie.Else2) → let ws = words (measured (c .before) .before) in
+    not (isHeadWord (length ws) (getD ws 0 0)) ≡ false
 headed c =
     let reads = c .before in
     simp (reads .before .field-of .ensures, reads .field-of2 .ensures, top reads) at (c .if2 .left)
 
 -- so its count of words is within the run
 within :
-    (c : tie.Else2) → let u = c .before .before .field-of .result in (1 ≤ u) × (u ≤ length (words (measured (c .before) .before)))
+    (c : tie.Else2) → let u = c .before .before .field-of .result in
+    (1 ≤ u) × (u ≤ length (words (measured (c .before) .before)))
 within c =
     omega (arith, c .before .before .field-of .ensures, head-within (words (measured (c .before) .before)) (headed c))
 
@@ -59,7 +62,8 @@ classes :
 classes c =
     let used = passed c .before .before .field-of in
     let ws = words (measured (passed c .before) .before) in
-    rw (← c .before .before .field-of3 .ensures, ← used .ensures, ← used-front (used .result) ws) (c .are-classes .ensures)
+    let month = c .before .before .field-of3 .ensures in
+    rw (← month, ← used .ensures, ← used-front (used .result) ws) (c .are-classes .ensures)
 
 is-length-requires : tie.Need-is-length-requires
 is-length-requires c κs = search needs
