@@ -1,5 +1,5 @@
 //! Two builds of the library timed in one run. Each is a shared library that is opened by its path, so that
-//! both are called alike: `cc -shared -o NAME.so -Wl,--whole-archive libexport.a` makes one of an archive.
+//! both are called alike; docs/PERFORMANCE.md says how one is made of an archive.
 
 use crate::books::{full, nearly_empty, Book};
 use crate::clock::{compare, Batch};
@@ -106,7 +106,14 @@ impl StrikeBook for Called<'_> {
 
     fn list_permitted(&mut self, second: &mut [u32], c: u32, m: u32) -> Answer {
         let (at, length) = (second.as_mut_ptr(), second.len());
-        told((self.0.list_permitted)(self.1.as_mut_ptr(), self.1.len(), at, length, c, m))
+        told((self.0.list_permitted)(
+            self.1.as_mut_ptr(),
+            self.1.len(),
+            at,
+            length,
+            c,
+            m,
+        ))
     }
 
     fn malformed(&mut self) -> Answer {
