@@ -74,7 +74,12 @@ all-hold (x ∷ xs) e = (holds x (λ c. let e₁ = e c in cc), all-hold xs (λ c
 
 -- class 7 seen from month 4, by its close, volume and designations, in the month m
 abbrev setting : ℕ → ℕ → ℕ → ℕ → ℕ → Setting
-setting p v d e m = record { class = record { number = 7; close = p; volume = v; dollar = d; half = e }; current = 4; month = m }
+setting p v d e m =
+    record {
+      class = record { number = 7; close = p; volume = v; designations = d ∷ e ∷ [] };
+      current = 4;
+      month = m;
+    }
 
 -- a $1 class near and long, a class in no program, a half class
 abbrev dollarNear : ℕ → Setting

@@ -13,7 +13,8 @@ use Rattle.rule.specs.declared.terms.Setting.{Setting}
 use Rattle.rule.specs.Lists.{only, upFrom}
 use Rattle.rule.specs.Ends.{halfEnd, highEnd, fineStep}
 use Rattle.rule.specs.Spacing.{Standing}
-use Rattle.rule.specs.Judgement.{judgement, isAccepted, isPermittedBeside, permitted}
+use Rattle.word.specs.Answers.{isAccepted}
+use Rattle.rule.specs.Judgement.{judgement, isPermittedBeside, permitted}
 use Rattle.rule.proofs.Steps.{step-bounds, stepped-fine}
 use Rattle.rule.proofs.Bound.{high-strike, half-within}
 use Rattle.rule.proofs.Open.{Between, accepted-open, permitted-open, open-between, closed-above}

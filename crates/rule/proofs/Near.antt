@@ -17,7 +17,8 @@ use Rattle.rule.specs.Ends.{reachOf}
 use Rattle.rule.specs.Grids.{grounds, gridOf}
 use Rattle.rule.specs.Ranges.{rangeOf}
 use Rattle.rule.specs.Spacing.{Standing, standingIn, apart, crowds, clears, spacingOf}
-use Rattle.rule.specs.Judgement.{decided, judgement, isAccepted, isPermittedBeside}
+use Rattle.word.specs.Answers.{isAccepted}
+use Rattle.rule.specs.Judgement.{decided, judgement, isPermittedBeside}
 use Rattle.rule.proofs.Tests.{and-left, and-right, or-cases}
 use Rattle.rule.proofs.Walks.{every-map}
 

@@ -16,7 +16,8 @@ use Rattle.rule.specs.Grids.{multiple, standardGrid, dollarGrid, wingBas
 use Rattle.rule.specs.Ranges.{standardRange, rangeOf}
 use Rattle.rule.specs.Ends.{isProgramClass, halfEnd, lowEnd, highEnd, fineStep, fineEnd, isOpen, Multiples}
 use Rattle.rule.specs.Spacing.{Standing, spacingOf}
-use Rattle.rule.specs.Judgement.{rowOf, rowsOf, passes, judgement, isAccepted, isPermittedBeside}
+use Rattle.word.specs.Answers.{isAccepted}
+use Rattle.rule.specs.Judgement.{rowOf, rowsOf, passes, judgement, isPermittedBeside}
 use Rattle.rule.proofs.Tests.{and-left, and-right, or-left, or-right, or-cases}
 use Rattle.rule.proofs.Rows.{accepted-passes}
 use Rattle.rule.proofs.Steps.{times, InSteps, end-most, Wing, standard-each, standard-stepped, dollar-stepped, wing-stepped}

@@ -16,9 +16,10 @@ use Rattle.rule.specs.declared.terms.Setting.{Setting}
 use Rattle.rule.specs.Lists.{some, upFrom}
 use Rattle.rule.specs.Grids.{gridOf}
 use Rattle.rule.specs.Ranges.{rangeOf}
+use Rattle.word.specs.Answers.{isAccepted}
 use Rattle.rule.specs.Spacing.{Standing, spacingOf}
 use Rattle.rule.specs.Judgement.{rowOf, rowsOf, passes, passesGrid, passesRange, refusalOf, groundFrom, decided}
-use Rattle.rule.specs.Judgement.{foundRow, foundRows, firstFrom, firstGround, judgement, isAccepted}
+use Rattle.rule.specs.Judgement.{foundRow, foundRows, firstFrom, firstGround, judgement}
 use Rattle.rule.proofs.Tests.{and-left}
 use Rattle.rule.proofs.Walks.{first-found}
 

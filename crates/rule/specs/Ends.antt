@@ -7,7 +7,8 @@ use lib.Dec.{leb, ltb}
 use Rattle.word.specs.declared.class.ClassRecord.{ClassRecord}
 use Rattle.rule.specs.declared.terms.Setting.{Setting}
 use Rattle.rule.specs.Terms.{isDollarClass, isHalfClass, isLong, isNear}
-use Rattle.rule.specs.Judgement.{judgement, isAccepted}
+use Rattle.word.specs.Answers.{isAccepted}
+use Rattle.rule.specs.Judgement.{judgement}
 
 -- The last of the five lowest strikes above a price of at most $20 on the range grid of Standard and Dollar:
 -- `whole` in a near $1 class, `dollar` in any $1 class; q is the highest strike at or below the price

@@ -4,7 +4,7 @@ use mathlib.Core.Bool.{Bool, false, cond, not, _&&_}
 use mathlib.Core.List.{List, [], _∷_, map}
 use lib.Dec.{eqb}
 use lib.ListN.{getD}
-use Rattle.word.specs.Answers.{answerNumber}
+use Rattle.word.specs.Answers.{isAccepted}
 use Rattle.word.specs.declared.answer.Refusal.{Refusal}
 use Rattle.word.specs.declared.answer.Refusal.the-variants.{OffGrid, OutOfRange, TooClose}
 use Rattle.word.specs.declared.answer.Answer.{Answer}
@@ -63,10 +63,6 @@ firstGround s standing h = firstFrom (λ g. passes (rowOf s standing h g)) 4 0
 
 abbrev pub judgement : Setting → List Standing → ℕ → Answer
 judgement s standing h = decided (rowsOf s standing h)
-
--- "An accepted call answers 0"
-abbrev pub isAccepted : Answer → Bool
-isAccepted a = eqb (answerNumber a) 0
 
 -- document 01's term, beside the strikes that stand: the rules accept it, and it is none of them
 abbrev pub isPermittedBeside : Setting → List Standing → ℕ → Bool

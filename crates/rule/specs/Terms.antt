@@ -2,6 +2,7 @@
 use Prim.Native.Nat.{ℕ, _+_, _*_}
 use mathlib.Core.Bool.{Bool, not, _||_}
 use lib.Dec.{leb, ltb, eqb}
+use Rattle.word.specs.Class.{designation}
 use Rattle.word.specs.declared.class.ClassRecord.{ClassRecord}
 use Rattle.rule.specs.declared.terms.Setting.{Setting}
 
@@ -14,11 +15,11 @@ isDesignated d = eqb d 1 || eqb d 2
 
 -- document 01's term: "A *$1 class* has $1 designation 1 or 2"
 abbrev pub isDollarClass : ClassRecord → Bool
-isDollarClass c = isDesignated (c .dollar)
+isDollarClass c = isDesignated (designation 1 c)
 
 -- document 01's term: "a *half class* has $0.50 designation 1 or 2"
 abbrev pub isHalfClass : ClassRecord → Bool
-isHalfClass c = isDesignated (c .half)
+isHalfClass c = isDesignated (designation 2 c)
 
 -- document 01's terms: "An expiration m is *long* when m − `now` is 9 or more, else *near*."
 abbrev pub isLong : Setting → Bool

@@ -2,7 +2,8 @@
 ghost use mathlib.Core.Path.{_≡_};
 ghost use mathlib.Core.List.{map};
 ghost use Rattle.rule.specs.Spacing.{standingIn};
-ghost use Rattle.rule.specs.Judgement.{Judged, decided, judgement, firstGround, foundRows, isAccepted};
+ghost use Rattle.word.specs.Answers.{isAccepted};
+ghost use Rattle.rule.specs.Judgement.{Judged, decided, judgement, firstGround, foundRows};
 use crate::bounds::half_end;
 use crate::bounds::high_end;
 use crate::bounds::low_end;
@@ -127,5 +128,5 @@ pub fn is_accepted(s: Setting, strike: Strike, standing: &[u32]) -> bool
     requires { ⌜ Judged s (strike .0) ⌝ }
     ensures { λ r. ⌜ r ≡ isAccepted (judgement s (map standingIn (now (standing .entry))) (strike .0)) ⌝ }
 {
-    judge(s, strike, standing).number() == 0
+    judge(s, strike, standing).is_accepted()
 }

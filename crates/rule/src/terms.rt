@@ -20,13 +20,15 @@ fn is_designated(designation: u32) -> bool
 pub fn is_dollar_class(class: ClassRecord) -> bool
     ensures { λ r. ⌜ r ≡ isDollarClass class ⌝ }
 {
-    is_designated(class.dollar)
+    let designations = class.designations;
+    is_designated(designations[0])
 }
 
 pub fn is_half_class(class: ClassRecord) -> bool
     ensures { λ r. ⌜ r ≡ isHalfClass class ⌝ }
 {
-    is_designated(class.half)
+    let designations = class.designations;
+    is_designated(designations[1])
 }
 
 pub fn is_long(s: Setting) -> bool

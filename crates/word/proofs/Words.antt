@@ -1,25 +1,35 @@
 -- A word and what it says are each other's inverse: each kind by its fields, the rest from these by cases on the tests. Assumes nothing.
 use mathlib.Core.Path.{_≡_, refl, sym, ap, _∙_}
-use mathlib.Core.Bool.{Bool, true, false, cond, _&&_}
-use Prim.Native.Nat.{ℕ, _+_, _*_, _^_}
+use mathlib.Core.Bool.{Bool, true, false, cond, _&&_, true≢false}
+use mathlib.Core.List.{List, [], _∷_, map}
+use Prim.Native.Nat.{ℕ, zero, suc, _+_, _-_, _*_, _^_, _<_, _≤_}
 use native.Mathlib.Omega.{arith}
+use lib.ListN.{getD}
 use lib.Dec.{eqb}
 use borrow.Author.Tests.{leb-true, eqb-true, eq-eqb}
 use Rattle.word.specs.Limits.{isStrike, isMonth, isClassNumber, isLength, isDesignation, isGround, isMark}
+use Rattle.word.specs.Programs.{Program, programs, programCount, program, areDesignations}
 use Rattle.word.specs.Field.{field}
-use Rattle.word.specs.Codec.{isLegal, packed, Fits, fieldsAs, kindOf, reading, Word, Head, Class, Close, Volume, Expiration, Strike, Invalid}
+use Rattle.word.specs.Codec.{isLegal, packed, FitEach, Fits, fieldsAs, kindOf, reading, Word, Head, Class, Close, Volume, Expiration, Strike, Invalid}
 use Rattle.word.proofs.Tests.{and-both, between-high}
 use Rattle.word.proofs.Fields.{field-packed}
+
+designations-fit : (gs : List Program) (ds : List ℕ) → areDesignations gs ds ≡ true → FitEach gs ds
+designations-fit [] [] legal = omega arith
+designations-fit [] (d ∷ ds) legal = absurd (true≢false (sym legal))
+designations-fit (g ∷ gs) [] legal = absurd (true≢false (sym legal))
+designations-fit (g ∷ gs) (d ∷ ds) legal =
+    let p = and-both (isDesignation d) (areDesignations gs ds) legal in
+    (omega (arith, leb-true), designations-fit gs ds (p .1))
 
 -- limits are within the fields' bits
 pub legal-fits : (x : Word) → isLegal x ≡ true → Fits x
 legal-fits (Head now used) legal =
     let p = and-both (isMonth now) (isLength used) legal in
     omega (arith, leb-true, between-high)
-legal-fits (Class number dollar half) legal =
-    let p = and-both (isClassNumber number) (isDesignation dollar && isDesignation half) legal in
-    let q = and-both (isDesignation dollar) (isDesignation half) (p .1) in
-    omega (arith, leb-true, between-high)
+legal-fits (Class number ds) legal =
+    let p = and-both (isClassNumber number) (areDesignations programs ds) legal in
+    (omega (arith, between-high), designations-fit programs ds (p .1))
 legal-fits (Close price) legal = omega (arith, leb-true)
 legal-fits (Volume contracts) legal = omega (arith, leb-true)
 legal-fits (Expiration month) legal = omega (arith, leb-true)
@@ -34,7 +44,7 @@ legal-fits Invalid legal = omega arith
 
 abbrev pub kindIn : Word → ℕ
 kindIn (Head now used) = 1
-kindIn (Class number dollar half) = 2
+kindIn (Class number ds) = 2
 kindIn (Close price) = 3
 kindIn (Volume contracts) = 4
 kindIn (Expiration month) = 5
@@ -43,7 +53,10 @@ kindIn Invalid = 0
 
 pub kind-packed : (x : Word) (w : ℕ) → Fits x → packed x ≡ w → kindOf w ≡ kindIn x
 kind-packed (Head now used) w fits e = omega arith
-kind-packed (Class number dollar half) w fits e = omega arith
+kind-packed (Class number []) w fits e = absurd (fits .1)
+kind-packed (Class number (d ∷ [])) w fits e = absurd (fits .1 .1)
+kind-packed (Class number (d ∷ h ∷ [])) w fits e = omega arith
+kind-packed (Class number (d ∷ h ∷ x ∷ ds)) w fits e = absurd (fits .1 .1 .1)
 kind-packed (Close price) w fits e = omega arith
 kind-packed (Volume contracts) w fits e = omega arith
 kind-packed (Expiration month) w fits e = omega arith
@@ -54,14 +67,42 @@ pub head-fields :
     (w now used : ℕ) → Fits (Head now used) → packed (Head now used) ≡ w → (field w 0 10 ≡ now) × (field w 10 16 ≡ used)
 head-fields w now used fits e = (omega arith, field-packed w now used (1 * 2 ^ 2) 10 16 (omega arith) (omega arith) (omega arith))
 
+-- a class word's number, and its designation in each program
 pub class-fields :
-    (w number dollar half : ℕ) → Fits (Class number dollar half) → packed (Class number dollar half) ≡ w
-    → (field w 0 14 ≡ number) × (field w 14 2 ≡ dollar) × (field w 16 2 ≡ half)
-class-fields w number dollar half fits e = (
-  omega arith,
-  field-packed w number dollar (half + 2 * 2 ^ 12) 14 2 (omega arith) (omega arith) (omega arith),
-  field-packed w (number + dollar * 2 ^ 14) half (2 * 2 ^ 10) 16 2 (omega arith) (omega arith) (omega arith),
-)
+    (w number : ℕ) (ds : List ℕ) → Fits (Class number ds) → packed (Class number ds) ≡ w
+    → (field w 0 14 ≡ number) × (map (λ g. field w (g .low) 2) programs ≡ ds)
+class-fields w number [] fits e = absurd (fits .1)
+class-fields w number (d ∷ []) fits e = absurd (fits .1 .1)
+class-fields w number (d ∷ h ∷ []) fits e =
+    let first : field w 14 2 ≡ d =
+    field-packed w number d (h + 2 * 2 ^ 12) 14 2 (omega arith) (omega arith) (omega arith) in
+    let second : field w 16 2 ≡ h =
+    field-packed w (number + d * 2 ^ 14) h (2 * 2 ^ 10) 16 2 (omega arith) (omega arith) (omega arith) in
+    (omega arith, λ i. first i ∷ second i ∷ [])
+class-fields w number (d ∷ h ∷ x ∷ ds) fits e = absurd (fits .1 .1 .1)
+
+pub class-designation :
+    (w number : ℕ) (ds : List ℕ) → Fits (Class number ds) → packed (Class number ds) ≡ w
+    → (p : ℕ) → 1 ≤ p → p ≤ programCount → field w (program p .low) 2 ≡ getD ds (p - 1) 0
+class-designation w number ds fits e p low high =
+    go p low high ∙ ap (λ (l : List ℕ). getD l (p - 1) 0) (class-fields w number ds fits e .1)
+  where
+    go : (p : ℕ) → 1 ≤ p → p ≤ programCount
+        → field w (program p .low) 2 ≡ getD (map (λ g. field w (g .low) 2) programs) (p - 1) 0
+    go zero low high = absurd (omega (arith, low))
+    go (suc zero) low high = refl
+    go (suc (suc zero)) low high = refl
+    go (suc (suc (suc p))) low high = absurd (omega (arith, high))
+
+-- the number of a class word, by its designations one by one
+pub class-packed :
+    (number : ℕ) (ds : List ℕ) → Fits (Class number ds)
+    → (getD ds 0 0 < 2 ^ 2) × (getD ds 1 0 < 2 ^ 2)
+    × (packed (Class number ds) ≡ number + getD ds 0 0 * 2 ^ 14 + getD ds 1 0 * 2 ^ 16 + 2 * 2 ^ 28)
+class-packed number [] fits = absurd (fits .1)
+class-packed number (d ∷ []) fits = absurd (fits .1 .1)
+class-packed number (d ∷ h ∷ []) fits = (fits .1 .0, fits .1 .1 .0, omega arith)
+class-packed number (d ∷ h ∷ x ∷ ds) fits = absurd (fits .1 .1 .1)
 
 pub strike-fields :
     (w h ground put call : ℕ) → Fits (Strike h ground put call) → packed (Strike h ground put call) ≡ w
@@ -78,9 +119,9 @@ fields-packed x fits = ap (λ (k : ℕ). fieldsAs k (packed x)) (kind-packed x (
   where
     go : (y : Word) → Fits y → fieldsAs (kindIn y) (packed y) ≡ y
     go (Head now used) f = let e = head-fields (packed (Head now used)) now used f refl in λ i. Head (e .0 i) (e .1 i)
-    go (Class number dollar half) f =
-        let e = class-fields (packed (Class number dollar half)) number dollar half f refl in
-        λ i. Class (e .0 i) (e .1 i) (e .2 i)
+    go (Class number ds) f =
+        let e = class-fields (packed (Class number ds)) number ds f refl in
+        λ i. Class (e .0 i) (e .1 i)
     go (Close price) f = let e : field (packed (Close price)) 0 20 ≡ price = omega arith in ap Close e
     go (Volume contracts) f = let e : field (packed (Volume contracts)) 0 24 ≡ contracts = omega arith in ap Volume e
     go (Expiration month) f = let e : field (packed (Expiration month)) 0 10 ≡ month = omega arith in ap Expiration e

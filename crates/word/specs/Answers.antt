@@ -1,5 +1,6 @@
 -- Document 01, "Who draws which number": the number and the value of each answer. Assumes nothing.
 use Prim.Native.Nat.{ℕ}
+use mathlib.Core.Bool.{Bool, true, false}
 use Rattle.word.specs.declared.answer.Refusal.{Refusal}
 use Rattle.word.specs.declared.answer.Refusal.the-variants.{NotABook, BeyondLimits, AlreadyOpen, NotOpen, MonthOutside, AlreadyStanding, NotStanding, NoClose, NotQualified, CapReached, OffGrid, OutOfRange, TooClose, OpenInterest, OutOfWords}
 use Rattle.word.specs.declared.answer.Answer.{Answer}
@@ -21,6 +22,10 @@ refusalNumber OutOfRange = 12
 refusalNumber TooClose = 13
 refusalNumber OpenInterest = 14
 refusalNumber (OutOfWords count) = 15
+
+-- "The lowest number that applies is given.": the place of a refusal in the order of what a call asks, today its number
+abbrev pub rank : Refusal → ℕ
+rank why = refusalNumber why
 
 -- "A refusal .. carries value 0 except 15 on `A`", where the count of its strikes is the value
 abbrev pub refusalValue : Refusal → ℕ
@@ -55,3 +60,19 @@ answerValue (Ground g) = g
 answerValue (Removed count) = count
 answerValue (Listed count) = count
 answerValue (Refused why) = refusalValue why
+
+-- whether the call is accepted
+abbrev pub isAccepted : Answer → Bool
+isAccepted Done = true
+isAccepted (Ground g) = true
+isAccepted (Removed count) = true
+isAccepted (Listed count) = true
+isAccepted (Refused why) = false
+
+-- "the count for `A`": how many words a call has written to the front of the second run
+abbrev pub strikesListed : Answer → ℕ
+strikesListed Done = 0
+strikesListed (Ground g) = 0
+strikesListed (Removed count) = 0
+strikesListed (Listed count) = count
+strikesListed (Refused why) = 0

@@ -1,4 +1,5 @@
 pub mod Limits
+pub mod Programs
 pub mod Field
 pub mod Digits
 pub mod Codec

@@ -1,6 +1,6 @@
 // What a call answers.
 ghost use mathlib.Core.Path.{_≡_};
-ghost use Rattle.word.specs.Answers.{refusalNumber, refusalValue, answerNumber, answerValue};
+ghost use Rattle.word.specs.Answers.{refusalNumber, refusalValue, answerNumber, answerValue, isAccepted};
 
 // Why a call is refused, by number from 1 to 15.
 pub enum Refusal {
@@ -98,6 +98,18 @@ impl Answer {
             Answer::Removed(count) => count,
             Answer::Listed(count) => count,
             Answer::Refused(why) => why.value(),
+        }
+    }
+
+    pub fn is_accepted(self) -> bool
+        ensures { λ r. ⌜ r ≡ isAccepted self ⌝ }
+    {
+        match self {
+            Answer::Done => true,
+            Answer::Ground(_) => true,
+            Answer::Removed(_) => true,
+            Answer::Listed(_) => true,
+            Answer::Refused(_) => false,
         }
     }
 }

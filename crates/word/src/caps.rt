@@ -2,7 +2,8 @@
 ghost use mathlib.Core.Path.{_≡_};
 ghost use Prim.Native.Nat.{_+_, _<_};
 ghost use lib.Dec.{leb, ltb};
-ghost use Rattle.word.specs.Caps.{dollarCap, halfCap, own};
+ghost use Rattle.word.specs.Caps.{own};
+ghost use Rattle.word.specs.Programs.{dollarProgram, halfProgram};
 
 // How many classes have $1 designation 1.
 pub struct DollarCount(pub u32);
@@ -30,14 +31,14 @@ impl DollarCount {
 
     // Whether no place is left.
     pub fn is_full(self) -> bool
-        ensures { λ r. ⌜ r ≡ leb dollarCap (self .0) ⌝ }
+        ensures { λ r. ⌜ r ≡ leb (dollarProgram .cap) (self .0) ⌝ }
     {
         DollarCount::CAP <= self.0
     }
 
     // Whether more classes are counted than the cap allows.
     pub fn is_exceeded(self) -> bool
-        ensures { λ r. ⌜ r ≡ ltb dollarCap (self .0) ⌝ }
+        ensures { λ r. ⌜ r ≡ ltb (dollarProgram .cap) (self .0) ⌝ }
     {
         DollarCount::CAP < self.0
     }
@@ -56,14 +57,14 @@ impl HalfCount {
 
     // Whether no place is left.
     pub fn is_full(self) -> bool
-        ensures { λ r. ⌜ r ≡ leb halfCap (self .0) ⌝ }
+        ensures { λ r. ⌜ r ≡ leb (halfProgram .cap) (self .0) ⌝ }
     {
         HalfCount::CAP <= self.0
     }
 
     // Whether more classes are counted than the cap allows.
     pub fn is_exceeded(self) -> bool
-        ensures { λ r. ⌜ r ≡ ltb halfCap (self .0) ⌝ }
+        ensures { λ r. ⌜ r ≡ ltb (halfProgram .cap) (self .0) ⌝ }
     {
         HalfCount::CAP < self.0
     }

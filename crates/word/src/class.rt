@@ -1,6 +1,8 @@
 // The class record: what the book holds of a class beside its series.
 ghost use mathlib.Core.Path.{_≡_};
-ghost use Rattle.word.specs.Class.{opened, withClose, withVolume, withDollar, withHalf};
+ghost use Prim.Native.Nat.{_≤_};
+ghost use Rattle.word.specs.Class.{opened, withClose, withVolume, designation, withDesignation};
+ghost use Rattle.word.specs.Programs.{programCount};
 
 pub struct ClassRecord {
     pub number: u32,
@@ -8,9 +10,8 @@ pub struct ClassRecord {
     pub close: u32,
     // The national average of contracts a day.
     pub volume: u32,
-    // The designations in the $1 and the $0.50 program: 0 none, 1 ours, 2 another exchange's.
-    pub dollar: u32,
-    pub half: u32,
+    // The designation in each program, the $1 program's first: 0 none, 1 ours, 2 another exchange's.
+    pub designations: [u32; 2],
 }
 
 impl ClassRecord {
@@ -21,44 +22,54 @@ impl ClassRecord {
             number,
             close: 0,
             volume: 0,
-            dollar: 0,
-            half: 0,
+            designations: [0; 2],
         }
     }
 
     pub fn with_close(self, price: u32) -> ClassRecord
         ensures { λ r. ⌜ r ≡ withClose price self ⌝ }
     {
+        let designations = self.designations;
         ClassRecord {
+            number: self.number,
             close: price,
-            ..self
+            volume: self.volume,
+            designations,
         }
     }
 
     pub fn with_volume(self, contracts: u32) -> ClassRecord
         ensures { λ r. ⌜ r ≡ withVolume contracts self ⌝ }
     {
+        let designations = self.designations;
         ClassRecord {
+            number: self.number,
+            close: self.close,
             volume: contracts,
-            ..self
+            designations,
         }
     }
 
-    pub fn with_dollar(self, designation: u32) -> ClassRecord
-        ensures { λ r. ⌜ r ≡ withDollar designation self ⌝ }
+    // The designation in the program p.
+    pub fn designation(self, p: u32) -> u32
+        requires { ⌜ (1 ≤ p) × (p ≤ programCount) ⌝ }
+        ensures { λ r. ⌜ r ≡ designation p self ⌝ }
     {
-        ClassRecord {
-            dollar: designation,
-            ..self
-        }
+        let designations = self.designations;
+        designations[(p - 1) as usize]
     }
 
-    pub fn with_half(self, designation: u32) -> ClassRecord
-        ensures { λ r. ⌜ r ≡ withHalf designation self ⌝ }
+    pub fn with_designation(self, p: u32, d: u32) -> ClassRecord
+        requires { ⌜ (1 ≤ p) × (p ≤ programCount) ⌝ }
+        ensures { λ r. ⌜ r ≡ withDesignation p d self ⌝ }
     {
+        let mut designations = self.designations;
+        designations[(p - 1) as usize] = d;
         ClassRecord {
-            half: designation,
-            ..self
+            number: self.number,
+            close: self.close,
+            volume: self.volume,
+            designations,
         }
     }
 }

@@ -1,7 +1,10 @@
 // The six kinds of word, packed, and the kind of a word.
 ghost use mathlib.Core.Path.{_≡_};
 ghost use Rattle.word.specs.Codec.{Class, Close, Expiration, Fits, Head, Strike, Volume, kindOf, packed};
+use crate::class::ClassRecord;
 use crate::field::put_at;
+use crate::programs::DOLLAR_LOW;
+use crate::programs::HALF_LOW;
 
 pub fn head_word(now: u32, used: u32) -> u32
     requires { ⌜ Fits (Head now used) ⌝ }
@@ -10,11 +13,13 @@ pub fn head_word(now: u32, used: u32) -> u32
     put_at(put_at(now, used, 10), 1, 28)
 }
 
-pub fn class_word(number: u32, dollar: u32, half: u32) -> u32
-    requires { ⌜ Fits (Class number dollar half) ⌝ }
-    ensures { λ r. ⌜ r ≡ packed (Class number dollar half) ⌝ }
+pub fn class_word(figures: ClassRecord) -> u32
+    requires { ⌜ Fits (Class (figures .number) (figures .designations)) ⌝ }
+    ensures { λ r. ⌜ r ≡ packed (Class (figures .number) (figures .designations)) ⌝ }
 {
-    put_at(put_at(put_at(number, dollar, 14), half, 16), 2, 28)
+    let designations = figures.designations;
+    let below = put_at(figures.number, designations[0], DOLLAR_LOW);
+    put_at(put_at(below, designations[1], HALF_LOW), 2, 28)
 }
 
 pub fn close_word(price: u32) -> u32

@@ -5,5 +5,6 @@ pub mod class;
 pub mod codec;
 pub mod field;
 pub mod limits;
+pub mod programs;
 pub mod strike;
 pub mod zeros;

@@ -1,4 +1,4 @@
--- `is_accepted` meets its contract: the number of the judgement says whether it accepts. Assumes nothing.
+-- `is_accepted` meets its contract: the judgement says whether it accepts. Assumes nothing.
 use borrow.Author.Needs.{needs}
 use Rattle.rule.proofs.judgement.is_accepted.Statement.{statement}
 use Rattle.rule.proofs.judgement.is_accepted.Tie as tie
@@ -6,11 +6,11 @@ use Rattle.rule.proofs.judgement.is_accepted.Tie as tie
 judge-requires : tie.Need-judge-requires
 judge-requires c κs = search needs
 
-number-requires : tie.Need-number-requires
-number-requires c κs = search needs
+is-accepted-requires : tie.Need-is-accepted-requires
+is-accepted-requires c κs = search needs
 
 returns : tie.Need-returns
-returns c = rw (c .number .ensures, c .before .judge .ensures)
+returns c = rw (c .is-accepted .ensures, c .before .judge .ensures)
 
 pub is-accepted-spec : {M : Type 1} → statement M
-is-accepted-spec = tie.close (tie.spec judge-requires number-requires returns)
+is-accepted-spec = tie.close (tie.spec judge-requires is-accepted-requires returns)

@@ -1,0 +1,57 @@
+-- Document 01, "program p (1 for $1, 2 for $0.50)": one row for each program. Assumes nothing.
+use Prim.Native.Nat.{ℕ, _-_}
+use mathlib.Core.Bool.{Bool, true, false, _&&_}
+use mathlib.Core.List.{List, [], _∷_}
+use lib.ListN.{length, getD}
+use lib.Dec.{leb, ltb}
+use Rattle.word.specs.declared.class.ClassRecord.{ClassRecord}
+use Rattle.word.specs.Limits.{between, isDesignation}
+
+pub record Program : Type 0 where
+  pub number : ℕ
+  -- the lowest bit of its designation in a class word
+  pub low : ℕ
+  -- how many classes may have designation 1
+  pub cap : ℕ
+  -- "8 no close yet (.. and `D` to a new 1)": whether a new 1 needs a close
+  pub needsClose : Bool
+  -- "9 close or volume doesn't qualify": here they do
+  pub qualifies : ClassRecord → Bool
+
+-- "1 for $1"; "$1 designation in 14–15"; "at most 150 classes with $1 designation 1"; "A new d of 1 needs a close below
+-- 5,000 for $1"
+abbrev pub dollarProgram : Program
+dollarProgram = record { number = 1; low = 14; cap = 150; needsClose = true; qualifies = λ r. ltb (r .close) 5000 }
+
+-- "2 for $0.50"; "$0.50 designation in 16–17"; "at most 20 with $0.50 designation 1"; "or a close of at most 500 and a
+-- volume of at least 1,000 for $0.50"
+abbrev pub halfProgram : Program
+halfProgram =
+    record {
+      number = 2;
+      low = 16;
+      cap = 20;
+      needsClose = true;
+      qualifies = λ r. leb (r .close) 500 && leb 1000 (r .volume);
+    }
+
+-- by number, from 1 on
+abbrev pub programs : List Program
+programs = dollarProgram ∷ halfProgram ∷ []
+
+abbrev pub programCount : ℕ
+programCount = length programs
+
+abbrev pub isProgram : ℕ → Bool
+isProgram p = between 1 programCount p
+
+-- the program of the number p; of no program's number, one that no call looks at
+abbrev pub program : ℕ → Program
+program p = getD programs (p - 1) dollarProgram
+
+-- one designation for each program, in its limits
+abbrev pub areDesignations : List Program → List ℕ → Bool
+areDesignations [] [] = true
+areDesignations [] (d ∷ ds) = false
+areDesignations (g ∷ gs) [] = false
+areDesignations (g ∷ gs) (d ∷ ds) = isDesignation d && areDesignations gs ds

@@ -1,0 +1,30 @@
+// The programs, $1 first: their numbers, where their designations stand in a class word, and what qualifies for them.
+ghost use mathlib.Core.Path.{_≡_};
+ghost use Prim.Native.Nat.{_≤_};
+ghost use Rattle.word.specs.Programs.{isProgram, program, programCount};
+use crate::class::ClassRecord;
+
+// How many there are.
+pub const COUNT: u32 = 2;
+
+// The lowest bits of their designations in a class word.
+pub const DOLLAR_LOW: u32 = 14;
+
+pub const HALF_LOW: u32 = 16;
+
+pub fn is_program(p: u32) -> bool
+    ensures { λ r. ⌜ r ≡ isProgram p ⌝ }
+{
+    (1 <= p) & (p <= COUNT)
+}
+
+// Whether the close and the volume qualify for the program.
+pub fn is_qualified(figures: ClassRecord, p: u32) -> bool
+    requires { ⌜ (1 ≤ p) × (p ≤ programCount) ⌝ }
+    ensures { λ r. ⌜ r ≡ program p .qualifies figures ⌝ }
+{
+    if p == 1 {
+        return figures.close < 5000;
+    }
+    (figures.close <= 500) & (1000 <= figures.volume)
+}
