@@ -6,7 +6,7 @@ use mathlib.Core.List.{List, [], _∷_, map}
 use mathlib.Core.Logic.{_⊎_, inl, inr}
 use native.Mathlib.Omega.{arith}
 use lib.Dec.{T, eqb, ltb, not-T, eqb→eq, ltb→lt, lt→ltb, eqb-refl}
-use borrow.Author.Tests.{eqb-true, eqb-false, ne-eqb, not-true}
+use borrow.Author.Tests.{eqb-true, not-true}
 use Rattle.rule.specs.Lists.{every}
 use Rattle.book.specs.Facts.{OpenClass, number, newClass, isOpen, classOf, putClass, insertClass, sum, isBelow}
 use Rattle.book.specs.Books.{rises, isClass}
@@ -78,7 +78,7 @@ every-put p y (x ∷ xs) a t = go (eqb (number x) (number y)) (every-put p y xs 
     go true r = let c : T (every p xs) = search ands in search and-intro
     go false r = let c : T (p x) = search ands in search and-intro
 
-numbers-put : (y : OpenClass) (xs : List OpenClass) → map number (putClass y xs) ≡ map number xs
+pub numbers-put : (y : OpenClass) (xs : List OpenClass) → map number (putClass y xs) ≡ map number xs
 numbers-put y [] = refl
 numbers-put y (x ∷ xs) = go (eqb (number x) (number y)) refl (numbers-put y xs)
   where
@@ -103,23 +103,6 @@ sum-put size y (x ∷ xs) o = go (eqb (number x) (number y)) o (sum-put size y x
         ≡ size x + sum size xs + size y
     go true u r = omega arith
     go false u r = omega (arith, r u)
-
--- the class of a number, with another class in its place
-pub class-of-put :
-    (y : OpenClass) (c : ℕ) (xs : List OpenClass) → T (isOpen (number y) xs)
-    → classOf c (putClass y xs) ≡ cond (eqb (number y) c) y (classOf c xs)
-class-of-put y c [] o = absurd o
-class-of-put y c (x ∷ xs) o = go (eqb (number x) (number y)) refl o (eqb (number y) c) refl (class-of-put y c xs)
-  where
-    go :
-        (b : Bool) → eqb (number x) (number y) ≡ b → T (b || isOpen (number y) xs) → (d : Bool) → eqb (number y) c ≡ d
-        → (T (isOpen (number y) xs) → classOf c (putClass y xs) ≡ cond d y (classOf c xs))
-        → classOf c (cond b (y ∷ xs) (x ∷ putClass y xs)) ≡ cond d y (cond (eqb (number x) c) x (classOf c xs))
-    go true e u true q r = rw q
-    go true e u false q r = rw (eqb-true (number x) (number y) e, q)
-    go false e u true q r =
-        rw (ne-eqb (number x) c (λ k. eqb-false (number x) (number y) e (k ∙ sym (eqb-true (number y) c q)))) (r u)
-    go false e u false q r = ap (cond (eqb (number x) c) x) (r u)
 
 -- ---- each class changed, and a new class
 

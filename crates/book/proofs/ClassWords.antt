@@ -11,7 +11,7 @@ use Rattle.rule.specs.Lists.{every, only}
 use Rattle.book.specs.Facts.{OpenClass, Facts, number, isOpen, classOf, putClass, isBelow, inMonth}
 use Rattle.book.specs.Layout.{strikeWord, expirationUnless, seriesWords, figuresWords, classesWords, used}
 use Rattle.book.specs.Books.{isClass, isWellFormed}
-use Rattle.book.specs.Calls.{class}
+use Rattle.book.specs.Views.{class}
 use Rattle.book.specs.Places.{hasExpiration}
 use Rattle.book.proofs.Tests.{ands}
 use Rattle.book.proofs.Lists.{every-only, ordered, rises-ordered}

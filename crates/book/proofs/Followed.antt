@@ -30,12 +30,17 @@ module _ (n : ℕ) (f : Facts) (good : T (isWellFormed n f)) where
   pub layout-size : length (layout n f) ≡ n
   layout-size = layout-length n f (omega (arith, used-taken f, well n f good .room))
 
-pub made-book :
-    {x : Call} {w v w′ v′ : List ℕ} {r : Answer} → T (isBook w) → Made x w v r w′ v′
+-- the words of the next facts are a book
+pub next-book :
+    (x : Call) (w : List ℕ) {w′ : List ℕ} → T (isBook w) → w′ ≡ layout (length w) (step (length w) x (factsOf w))
     → T (isBook w′) × (length w′ ≡ length w) × (factsOf w′ ≡ step (length w) x (factsOf w))
-made-book {x} {w} book m =
+next-book x w book words =
     let n = length w in
     let g = step n x (factsOf w) in
     let good : T (isWellFormed n g) = step-keeps n x (factsOf w) (book-facts w book .0) in
-    rw (made-words (T-true (isBook w) book) m)
-    (book-layout n g good, layout-size n g good, factsOf-layout n g good)
+    rw words (book-layout n g good, layout-size n g good, factsOf-layout n g good)
+
+pub made-book :
+    {x : Call} {w v w′ v′ : List ℕ} {r : Answer} → T (isBook w) → Made x w v r w′ v′
+    → T (isBook w′) × (length w′ ≡ length w) × (factsOf w′ ≡ step (length w) x (factsOf w))
+made-book {x} {w} book m = next-book x w book (made-words (T-true (isBook w) book) m)

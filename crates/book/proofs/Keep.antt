@@ -1,18 +1,21 @@
--- Every accepted call keeps the facts well formed, and so does a list of calls: one class put in its place, its series or its figures changed, by the conditions that the call has passed. The current month again changes nothing. Assumes nothing.
-use Prim.Native.Nat.{ℕ, _+_, _≤_, zero-le}
+-- Every accepted call keeps the facts well formed, and so does a list of calls: one class put in its place, its series
+-- or its figures changed, by the conditions that the call has passed. The current month again changes nothing. Assumes
+-- nothing.
+use Prim.Native.Nat.{ℕ, _+_, _-_, _≤_, _<_, zero-le}
 use mathlib.Core.Path.{_≡_, refl, sym, ap, _∙_, subst}
 use mathlib.Core.Bool.{Bool, true, false, cond, not, _&&_}
 use mathlib.Core.List.{List, [], _∷_, map, map-map}
 use mathlib.Core.Logic.{_⊎_, inl, inr}
 use native.Mathlib.Omega.{arith}
-use lib.ListN.{length, length-map}
-use lib.Dec.{T, eqb, leb, ltb, leb→le, le→leb, nleb→lt, nltb→le}
-use borrow.Author.Tests.{eqb-true}
+use lib.ListN.{length, getD, set, length-map, getD-replicate}
+use lib.Seq.{getD-set-same, getD-set-other}
+use lib.Dec.{T, eqb, leb, ltb, eqb→eq, leb→le, le→leb, nleb→lt, nltb→le}
+use borrow.Author.Tests.{eqb-true, eqb-false}
 use Rattle.word.specs.declared.class.ClassRecord.{ClassRecord}
 use Rattle.word.specs.declared.answer.Answer.{Answer}
 use Rattle.word.specs.Limits.{isClassNumber, isStrike, isMonth, isLength, isDesignation, isGround, isMark, isClose, isVolume}
 use Rattle.word.specs.Caps.{own}
-use Rattle.word.specs.Class.{withClose, withVolume, withDollar, withHalf}
+use Rattle.word.specs.Class.{withClose, withVolume, designation, withDesignation}
 use Rattle.word.specs.declared.answer.Answer.the-variants.{Ground, Refused}
 use Rattle.word.specs.declared.answer.Refusal.the-variants.{OffGrid, OutOfRange, TooClose}
 use Rattle.word.specs.Answers.{answerValue, refusalValue}
@@ -22,43 +25,52 @@ use Rattle.rule.specs.Lists.{every, some, only}
 use Rattle.rule.specs.Terms.{isOutside}
 use Rattle.rule.specs.Spacing.{Standing}
 use Rattle.rule.specs.Judgement.{rowsOf, passesGrid, passesRange, passes, refusalOf, groundFrom, judgement}
-use Rattle.book.specs.Facts.{Series, OpenClass, Facts, fresh, isBelow, number, newClass, isOpen, classOf, putClass, insertClass, withFigures, withSeries, isAt, insertSeries, designation, withDesignation, capOf, sum, owned, expirations, wordsOf, wordsTaken}
+use Rattle.word.specs.Programs.{programs, programCount, isProgram, program, areDesignations}
+use Rattle.book.specs.Facts.{Series, OpenClass, Facts, fresh, isBelow, number, newClass, isOpen, classOf, putClass, insertClass, withFigures, withSeries, isAt, insertSeries, sum, owned, expirations, wordsOf, wordsTaken}
 use Rattle.book.specs.Books.{isListed, isSeries, areFigures, isClass, isWellFormed}
-use Rattle.book.specs.Calls.{Call, callM, callO, callC, callV, callD, callL, callJ, callX, callI, callR, callA, malformed, isWritten, isReviewed, class, isNotOpen, isStanding, isNewlyOurs, isCapReached, setting, standingIn, groundOf, update, changed, conditions, numberOf, step, steps, after}
-use Rattle.book.proofs.Tests.{and-intro, ands}
+use Rattle.book.specs.Views.{viewOf, class, isNotOpen, isStanding, setting, standingIn, rows, groundOf, isNew, isReviewed}
+use Rattle.book.specs.Changes.{update, monthSet, classOpened, classGrown}
+use Rattle.book.specs.Calls.{Call, callM, on, callO, callC, callV, callD, callL, callJ, callX, callI, callR, callA, malformed, effectOn, isCapReached, isGranted, step, steps, after, acceptedFacts}
+use Rattle.book.specs.Permission.{withStrike}
+use Rattle.book.proofs.Tests.{and-intro, ands, true-T}
 use Rattle.book.proofs.Alternatives.{nor-left, nor-right, not-not}
 use Rattle.book.proofs.Lists.{every-imply, every-map, length-only, sum-map, same-keys, every-inserted, rises-inserted, sum-inserted}
 use Rattle.book.proofs.Parts.{only-all, map-same}
+use Rattle.book.proofs.Programs.{designations-length, designations-set}
 use Rattle.book.proofs.Forms.{areSeries, Well, well, well-formed}
 use Rattle.book.proofs.Layouts.{fresh-well-formed}
 use Rattle.book.proofs.SeriesLaws.{expirations-only, series-only, markedAt, series-marked, expirations-marked, series-inserted}
 use Rattle.book.proofs.ClassLaws.{isNumbered, class-order, number-of, every-of, every-put, rises-put, sum-put}
-use Rattle.book.proofs.Order.{noneApplies, accepted}
 
 -- ---- designations
 
 -- the designations of a class after one of them is set
 set-designation :
-    (p q d : ℕ) (r : ClassRecord)
+    (p q d : ℕ) (r : ClassRecord) → T (isProgram p) → T (isProgram q) → T (areDesignations programs (r .designations))
     → (designation q (withDesignation p d r) ≡ designation q r)
-    ⊎ ((designation q (withDesignation p d r) ≡ d) × (eqb q 1 ≡ eqb p 1))
-set-designation p q d r = go (eqb p 1) (eqb q 1)
+    ⊎ ((designation q (withDesignation p d r) ≡ d) × (p ≡ q))
+set-designation p q d r program-p program-q good = go (eqb p q) refl
   where
-    afterSet : Bool → Bool → ℕ
-    afterSet a b = cond b (cond a (withDollar d r) (withHalf d r) .dollar) (cond a (withDollar d r) (withHalf d r) .half)
+    ds : List ℕ
+    ds = r .designations
 
-    go : (a b : Bool) → (afterSet a b ≡ cond b (r .dollar) (r .half)) ⊎ ((afterSet a b ≡ d) × (b ≡ a))
-    go true true = inr (refl, refl)
-    go true false = inl refl
-    go false true = inl refl
-    go false false = inr (refl, refl)
+    low-p : 1 ≤ p
+    low-p = leb→le 1 p (search ands)
 
-pub number-designated : (p d : ℕ) (r : ClassRecord) → withDesignation p d r .number ≡ r .number
-number-designated p d r = go (eqb p 1)
-  where
-    go : (b : Bool) → cond b (withDollar d r) (withHalf d r) .number ≡ r .number
-    go true = refl
-    go false = refl
+    low-q : 1 ≤ q
+    low-q = leb→le 1 q (search ands)
+
+    within : p - 1 < length ds
+    within =
+        omega (arith, low-p, leb→le p programCount (search ands), designations-length programs ds good)
+
+    go : (b : Bool) → eqb p q ≡ b
+        → (getD (set ds (p - 1) d) (q - 1) 0 ≡ getD ds (q - 1) 0) ⊎ ((getD (set ds (p - 1) d) (q - 1) 0 ≡ d) × (p ≡ q))
+    go true e =
+        let same : p ≡ q = eqb-true p q e in
+        inr (ap (λ (k : ℕ). getD (set ds (p - 1) d) (k - 1) 0) (sym same) ∙ getD-set-same ds (p - 1) d 0 within, same)
+    go false e =
+        inl (getD-set-other ds (p - 1) (q - 1) d 0 (λ k. eqb-false p q e (omega (arith, low-p, low-q, k))))
 
 -- a designation that is no new 1, or a cap with room
 newly-cases :
@@ -73,7 +85,8 @@ newly-cases d old reached t = go (eqb d 1) (eqb old 1) reached t
 
 -- ---- one class put in its place
 
-module _ (n : ℕ) (f : Facts) (c : ℕ) (w : Well n f) (k : T (isClassNumber c)) (o : T (not (isNotOpen f c))) where
+module _
+    (n : ℕ) (f : Facts) (c : ℕ) (w : Well n f) (k : T (isClassNumber c)) (o : T (not (isNotOpen (viewOf c f)))) where
   is-open : T (isOpen c (f .classes))
   is-open = not-not (isOpen c (f .classes)) o
 
@@ -94,14 +107,14 @@ module _ (n : ℕ) (f : Facts) (c : ℕ) (w : Well n f) (k : T (isClassNumber c)
       ∙ sum-put count y (f .classes) (subst (λ (i : ℕ). T (isOpen i (f .classes))) (sym e) is-open)
 
   cap-kept :
-      (y : OpenClass) → number y ≡ c → (p : ℕ)
+      (y : OpenClass) → number y ≡ c → (p : ℕ) → T (isProgram p)
       → own (designation p (y .figures)) ≤ own (designation p (class f c .figures))
-      → owned p (putClass y (f .classes)) ≤ capOf p
-  cap-kept y e p l = omega (arith, sum-after (λ x. own (designation p (x .figures))) y e, w .caps p)
+      → owned p (putClass y (f .classes)) ≤ program p .cap
+  cap-kept y e p k l = omega (arith, sum-after (λ x. own (designation p (x .figures))) y e, w .caps p k)
 
   keep-update :
       (y : OpenClass) → T (isClass (f .now) y) → wordsTaken (update y f) ≤ n
-      → ((p : ℕ) → owned p (putClass y (f .classes)) ≤ capOf p) → Well n (update y f)
+      → ((p : ℕ) → T (isProgram p) → owned p (putClass y (f .classes)) ≤ program p .cap) → Well n (update y f)
   keep-update y t room caps =
       record {
         run = w .run;
@@ -114,7 +127,7 @@ module _ (n : ℕ) (f : Facts) (c : ℕ) (w : Well n f) (k : T (isClassNumber c)
 
   keep-figures :
       (r : ClassRecord) → r .number ≡ c → T (areFigures r)
-      → ((p : ℕ) → owned p (putClass (withFigures r (class f c)) (f .classes)) ≤ capOf p)
+      → ((p : ℕ) → T (isProgram p) → owned p (putClass (withFigures r (class f c)) (f .classes)) ≤ program p .cap)
       → Well n (update (withFigures r (class f c)) f)
   keep-figures r e t caps =
       let s = class-series in
@@ -128,7 +141,7 @@ module _ (n : ℕ) (f : Facts) (c : ℕ) (w : Well n f) (k : T (isClassNumber c)
       let l = class-limits in
       let r : T (areFigures (class f c .figures)) = search ands in
       keep-update (withSeries ss (class f c)) (search and-intro) room
-      (λ p. cap-kept (withSeries ss (class f c)) class-number p (omega arith))
+      (λ p k. cap-kept (withSeries ss (class f c)) class-number p k (omega arith))
 
   fewer-words :
       (ss : List Series) → expirations ss + length ss ≤ expirations (class f c .series) + length (class f c .series)
@@ -154,21 +167,20 @@ module _ (n : ℕ) (f : Facts) (c : ℕ) (w : Well n f) (k : T (isClassNumber c)
   keep-close p t =
       let l = class-limits in
       keep-figures (withClose p (class f c .figures)) class-number (search (ands, and-intro) depth 12)
-      (λ q. cap-kept (withFigures (withClose p (class f c .figures)) (class f c)) class-number q (omega arith))
+      (λ q k. cap-kept (withFigures (withClose p (class f c .figures)) (class f c)) class-number q k (omega arith))
 
   keep-volume :
       (v : ℕ) → T (isVolume v) → Well n (update (withFigures (withVolume v (class f c .figures)) (class f c)) f)
   keep-volume v t =
       let l = class-limits in
       keep-figures (withVolume v (class f c .figures)) class-number (search (ands, and-intro) depth 12)
-      (λ q. cap-kept (withFigures (withVolume v (class f c .figures)) (class f c)) class-number q (omega arith))
+      (λ q k. cap-kept (withFigures (withVolume v (class f c .figures)) (class f c)) class-number q k (omega arith))
 
   keep-designation :
-      (p d : ℕ) → T (isDesignation d) → T (not (isNewlyOurs f c p d && isCapReached f p))
+      (p d : ℕ) → T (isProgram p) → T (isDesignation d) → T (not (isNew p d (class f c .figures) && isCapReached p f))
       → Well n (update (withFigures (withDesignation p d (class f c .figures)) (class f c)) f)
-  keep-designation p d t new =
-      keep-figures (withDesignation p d r) number-kept (figures (eqb p 1))
-      (λ q. cap q (set-designation p q d r))
+  keep-designation p d k t new =
+      keep-figures (withDesignation p d r) class-number figures (λ q j. cap q j (set-designation p q d r k j all))
     where
       r : ClassRecord
       r = class f c .figures
@@ -176,25 +188,32 @@ module _ (n : ℕ) (f : Facts) (c : ℕ) (w : Well n f) (k : T (isClassNumber c)
       y : OpenClass
       y = withFigures (withDesignation p d r) (class f c)
 
-      number-kept : withDesignation p d r .number ≡ c
-      number-kept = number-designated p d r ∙ class-number
+      all : T (areDesignations programs (r .designations))
+      all = let l = class-limits in search ands
 
-      figures :
-          (b : Bool) → T (areFigures (cond b (withDollar d r) (withHalf d r)))
-      figures true = let l = class-limits in search (ands, and-intro) depth 12
-      figures false = let l = class-limits in search (ands, and-intro) depth 12
+      figures : T (areFigures (withDesignation p d r))
+      figures =
+          let l = class-limits in
+          let each = designations-set programs (r .designations) (p - 1) d t all in
+          search (ands, and-intro) depth 12
 
       cap :
-          (q : ℕ)
-          → (designation q (y .figures) ≡ designation q r) ⊎ ((designation q (y .figures) ≡ d) × (eqb q 1 ≡ eqb p 1))
-          → owned q (putClass y (f .classes)) ≤ capOf q
-      cap q (inl e) = cap-kept y number-kept q (omega (arith, ap own e))
-      cap q (inr (e, same)) =
-          let here : T (not (isNewlyOurs f c q d && isCapReached f q)) = rw same new in
-          let count = sum-after (λ x. own (designation q (x .figures))) y number-kept in
-          elim (newly-cases d (designation q r) (isCapReached f q) here) [
-            | inl l ↦ omega (arith, count, ap own e, w .caps q)
-            | inr room ↦ omega (arith, count, ap own e, own-at-most-one d, nleb→lt (capOf q) (owned q (f .classes)) room)
+          (q : ℕ) → T (isProgram q)
+          → (designation q (y .figures) ≡ designation q r) ⊎ ((designation q (y .figures) ≡ d) × (p ≡ q))
+          → owned q (putClass y (f .classes)) ≤ program q .cap
+      cap q j (inl e) = cap-kept y class-number q j (omega (arith, ap own e))
+      cap q j (inr (e, same)) =
+          let here : T (not (isNew q d r && isCapReached q f)) = rw (sym same) new in
+          let count = sum-after (λ x. own (designation q (x .figures))) y class-number in
+          elim (newly-cases d (designation q r) (isCapReached q f) here) [
+            | inl l ↦ omega (arith, count, ap own e, w .caps q j)
+            | inr room ↦ omega (
+              arith,
+              count,
+              ap own e,
+              own-at-most-one d,
+              nleb→lt (program q .cap) (owned q (f .classes)) room,
+            )
           ]
 
 -- ---- a month that begins
@@ -231,13 +250,14 @@ module _ (n : ℕ) (f : Facts) (m : ℕ) (w : Well n f) (l : f .now ≤ m) where
         month = t;
         limits = every-map (isClass (f .now)) (isClass m) (expired m) class-expired (f .classes) (w .limits);
         order = same-keys number ltb (map (expired m) (f .classes)) (f .classes) (map-map number (expired m) (f .classes)) (w .order);
-        caps = λ p.
-            omega (arith, sum-map (λ x. own (designation p (x .figures))) (expired m) (λ x. omega arith) (f .classes), w .caps p);
+        caps = λ p k.
+            let count = sum-map (λ x. own (designation p (x .figures))) (expired m) (λ x. omega arith) (f .classes) in
+            omega (arith, count, w .caps p k);
       }
 
 -- the current month again: no expiration is earlier
-pub month-again : (n : ℕ) (f : Facts) → Well n f → changed (callM (f .now)) f ≡ f
-unfolding changed
+pub month-again : (n : ℕ) (f : Facts) → Well n f → monthSet (f .now) f ≡ f
+unfolding monthSet
 month-again n f w =
     let classes = map-same (isClass (f .now)) (expired (f .now)) none-expires (f .classes) (w .limits) in
     λ i. record { now = f .now; classes = classes i }
@@ -266,14 +286,12 @@ keep-open n c f w t o room =
       caps = cap;
     }
   where
-    cap : (p : ℕ) → owned p (insertClass (newClass c) (f .classes)) ≤ capOf p
-    cap p =
+    cap : (p : ℕ) → T (isProgram p) → owned p (insertClass (newClass c) (f .classes)) ≤ program p .cap
+    cap p k =
         let count = sum-inserted isBelow (λ x. own (designation p (x .figures))) (newClass c) (f .classes) in
-        omega (arith, count, none (eqb p 1), w .caps p)
-      where
-        none : (b : Bool) → own (cond {A = ℕ} b 0 0) ≡ 0
-        none true = refl
-        none false = refl
+        let within : p - 1 < programCount =
+        omega (arith, leb→le 1 p (search ands), leb→le p programCount (search ands)) in
+        omega (arith, count, ap own (getD-replicate programCount (p - 1) 0 0 within), w .caps p k)
 
 -- ---- a new series
 
@@ -283,7 +301,8 @@ not-leb a b t = le→leb b a (omega (arith, nleb→lt a b t))
 not-ltb : (a b : ℕ) → T (not (ltb a b)) → T (leb b a)
 not-ltb a b t = le→leb b a (nltb→le a b t)
 
-month-listed : (f : Facts) (c m : ℕ) → T (isMonth m) → T (not (isOutside (setting f c m))) → T (isListed (f .now) m)
+month-listed :
+    (f : Facts) (c m : ℕ) → T (isMonth m) → T (not (isOutside (setting (viewOf c f) m))) → T (isListed (f .now) m)
 month-listed f c m t o = search (not-leb, not-ltb, nor-left, nor-right, and-intro) depth 12
 
 -- the grounds of rows that begin at g
@@ -304,7 +323,8 @@ ground-from v g (row ∷ rows) t each = go (passes row) (ground-from v (g + 1) r
     go false r = r
 
 -- the ground of a judgement, and the value of one that refuses
-ground-limit : (s : Setting) (standing : List Standing) (h : ℕ) → T (isGround (answerValue (judgement s standing h)))
+pub ground-limit :
+    (s : Setting) (standing : List Standing) (h : ℕ) → T (isGround (answerValue (judgement s standing h)))
 ground-limit s standing h =
     let rows = rowsOf s standing h in
     ground-from (Refused (refusalOf rows)) 0 rows (refused (some passesRange rows) (some passesGrid rows)) tt
@@ -315,14 +335,15 @@ ground-limit s standing h =
     refused false false = tt
 
 keep-strike :
-    (n c m h : ℕ) (f : Facts) → Well n f → T (isClassNumber c) → T (not (isNotOpen f c)) → T (isMonth m)
-    → T (isStrike h) → T (not (isOutside (setting f c m))) → T (not (isStanding f c m h))
-    → wordsTaken (changed (callL c m h) f) ≤ n → Well n (changed (callL c m h) f)
-unfolding changed
+    (n c m h : ℕ) (f : Facts) → Well n f → T (isClassNumber c) → T (not (isNotOpen (viewOf c f))) → T (isMonth m)
+    → T (isStrike h) → T (not (isOutside (setting (viewOf c f) m))) → T (not (isStanding (viewOf c f) m h))
+    → wordsTaken (withStrike c m h f) ≤ n → Well n (withStrike c m h f)
+unfolding classGrown
 keep-strike n c m h f w number o month strike inside new room =
-    let s : Series = record { month = m; strike = h; ground = groundOf f c m h; put = 0; call = 0 } in
+    let s : Series = record { month = m; strike = h; ground = groundOf (viewOf c f) m h; put = 0; call = 0 } in
     let a : T (isListed (f .now) m) = month-listed f c m month inside in
-    let b : T (isGround (groundOf f c m h)) = ground-limit (setting f c m) (standingIn f c m) h in
+    let b : T (isGround (groundOf (viewOf c f) m h)) =
+    ground-limit (setting (viewOf c f) m) (standingIn (viewOf c f) m) h in
     let t : T (isSeries (f .now) s) = search and-intro depth 12 in
     let ss = class f c .series in
     keep-series n f c w number o (insertSeries s ss)
@@ -330,36 +351,34 @@ keep-strike n c m h f w number o month strike inside new room =
 
 -- ---- every call
 
-changed-well :
-    (n : ℕ) (x : Call) (f : Facts) → Well n f → T (isWritten x && noneApplies (conditions n x f)) → Well n (changed x f)
-unfolding changed conditions
-changed-well n (callM m) f w t = keep-month n f m w (nltb→le m (f .now) (search ands)) (search ands)
-changed-well n (callO c) f w t =
-    keep-open n c f w (search ands) (search ands) (nltb→le n (wordsTaken (changed (callO c) f)) (search ands))
-changed-well n (callC c p) f w t = keep-close n f c w (search ands) (search ands) p (search ands)
-changed-well n (callV c v) f w t = keep-volume n f c w (search ands) (search ands) v (search ands)
-changed-well n (callD c p d) f w t = keep-designation n f c w (search ands) (search ands) p d (search ands) (search ands)
-changed-well n (callL c m h) f w t =
+effect-well :
+    (n : ℕ) (x : Call) (f : Facts) → Well n f → T (isGranted n x f)
+    → Well n (acceptedFacts x f)
+unfolding effectOn monthSet classOpened
+effect-well n (callM m) f w t = keep-month n f m w (nltb→le m (f .now) (search ands)) (search ands)
+effect-well n (on c callO) f w t =
+    keep-open n c f w (search ands) (search ands) (nltb→le n (wordsTaken (classOpened c f)) (search ands))
+effect-well n (on c (callC p)) f w t = keep-close n f c w (search ands) (search ands) p (search ands)
+effect-well n (on c (callV v)) f w t = keep-volume n f c w (search ands) (search ands) v (search ands)
+effect-well n (on c (callD p d)) f w t =
+    keep-designation n f c w (search ands) (search ands) p d (search ands) (search ands) (search ands)
+effect-well n (on c (callL m h)) f w t =
     keep-strike n c m h f w (search ands) (search ands) (search ands) (search ands) (search ands) (search ands)
-    (nltb→le n (wordsTaken (changed (callL c m h) f)) (search ands depth 12))
-changed-well n (callJ c m h) f w t = w
-changed-well n (callX c m h) f w t = keep-only n f c w (search ands) (search ands) (λ s. not (isAt m h s))
-changed-well n (callI c m h a b) f w t =
+    (nltb→le n (wordsTaken (withStrike c m h f)) (search ands depth 12))
+effect-well n (on c (callJ m h)) f w t = w
+effect-well n (on c (callX m h)) f w t = keep-only n f c w (search ands) (search ands) (λ s. not (isAt m h s))
+effect-well n (on c (callI m h a b)) f w t =
     keep-marks n f c w (search ands) (search ands) m h a b (search ands depth 12) (search ands depth 12)
-changed-well n (callR c) f w t = keep-only n f c w (search ands) (search ands) (λ s. not (isReviewed (class f c) s))
-changed-well n (callA c m room) f w t = w
-changed-well n malformed f w t = absurd t
-
-pub changed-keeps :
-    (n : ℕ) (x : Call) (f : Facts) → numberOf n x f ≡ 0 → T (isWellFormed n f) → T (isWellFormed n (changed x f))
-changed-keeps n x f e t = well-formed n (changed x f) (changed-well n x f (well n f t) (accepted n x f e))
+effect-well n (on c callR) f w t = keep-only n f c w (search ands) (search ands) (λ s. not (isReviewed (class f c) s))
+effect-well n (on c (callA m)) f w t = w
+effect-well n malformed f w t = absurd t
 
 pub step-keeps : (n : ℕ) (x : Call) (f : Facts) → T (isWellFormed n f) → T (isWellFormed n (step n x f))
 unfolding step
-step-keeps n x f t = go (eqb (numberOf n x f) 0) refl
+step-keeps n x f t = go (isGranted n x f) refl
   where
-    go : (b : Bool) → eqb (numberOf n x f) 0 ≡ b → T (isWellFormed n (cond b (changed x f) f))
-    go true e = changed-keeps n x f (eqb-true (numberOf n x f) 0 e) t
+    go : (b : Bool) → isGranted n x f ≡ b → T (isWellFormed n (cond b (acceptedFacts x f) f))
+    go true e = well-formed n (acceptedFacts x f) (effect-well n x f (well n f t) (true-T (isGranted n x f) e))
     go false e = t
 
 pub steps-keep : (n : ℕ) (xs : List Call) (f : Facts) → T (isWellFormed n f) → T (isWellFormed n (steps n xs f))

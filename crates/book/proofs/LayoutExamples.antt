@@ -19,7 +19,7 @@ facts =
       now = 5;
       classes =
           record {
-            figures = record { number = 7; close = 2500; volume = 1200; dollar = 1; half = 2 };
+            figures = record { number = 7; close = 2500; volume = 1200; designations = 1 ∷ 2 ∷ [] };
             series = series 6 50 1 1 0 ∷ series 6 52 0 0 0 ∷ series 9 45 3 1 1 ∷ [];
           }
           ∷ [];

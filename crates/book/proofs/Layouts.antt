@@ -44,7 +44,7 @@ read-classes :
 read-classes [] rest ends q = ends q
 read-classes (x ∷ xs) rest ends q =
     let r = x .figures in
-    ap (λ (t : Tail). addClass (r .number) (r .dollar) (r .half) (setClose (r .close) (setVolume (r .volume) t)))
+    ap (λ (t : Tail). addClass (r .number) (r .designations) (setClose (r .close) (setVolume (r .volume) t)))
     (read-series 0 (x .series) (classesWords xs rest) xs (read-classes xs rest ends))
 
 -- reading the words of any facts, before words that add none, gives the facts back

@@ -2,11 +2,11 @@
 use Prim.Native.Nat.{ℕ}
 use lib.Dec.{T}
 use Rattle.word.specs.declared.class.ClassRecord.{ClassRecord}
-use Rattle.word.specs.Codec.{Word, Class, Close, Volume, isLegal, Fits}
+use Rattle.word.specs.Codec.{Word, Close, Volume, isLegal, Fits}
 use Rattle.word.specs.Limits.{isMonth}
 use Rattle.word.proofs.Words.{legal-fits}
 use Rattle.book.specs.Facts.{Series}
-use Rattle.book.specs.Layout.{strikeWord}
+use Rattle.book.specs.Layout.{strikeWord, classWord}
 use Rattle.book.specs.Books.{isSeries, areFigures}
 use Rattle.book.proofs.Tests.{and-intro, ands, T-true}
 
@@ -21,5 +21,5 @@ month-legal now s t = search ands depth 12
 
 pub figures-legal :
     (r : ClassRecord) → T (areFigures r)
-    → T (isLegal (Class (r .number) (r .dollar) (r .half))) × (T (isLegal (Close (r .close))) × T (isLegal (Volume (r .volume))))
+    → T (isLegal (classWord r)) × (T (isLegal (Close (r .close))) × T (isLegal (Volume (r .volume))))
 figures-legal r t = (search (ands, and-intro), (search ands depth 8, search ands depth 8))

@@ -2,6 +2,7 @@
 pub mod Tests
 pub mod Alternatives
 pub mod Lists
+pub mod Programs
 pub mod Forms
 pub mod LegalWords
 pub mod SeriesLaws
@@ -9,6 +10,7 @@ pub mod ClassLaws
 pub mod Layouts
 pub mod LayoutExamples
 pub mod Order
+pub mod Views
 pub mod Keep
 pub mod SameFacts
 pub mod Permits

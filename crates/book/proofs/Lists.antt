@@ -1,11 +1,11 @@
 -- Lists under any test and any order: what keeping some, changing each and inserting one leave of `every`, `some`, `rises` and sums, through the form in which each element stands before all later ones. Assumes nothing.
-use Prim.Native.Nat.{ℕ, suc, _+_, _≤_, zero-le}
+use Prim.Native.Nat.{ℕ, zero, suc, _+_, _≤_, _<_, zero-le}
 use mathlib.Core.Path.{_≡_, refl, sym, ap, _∙_, subst}
 use mathlib.Core.Bool.{Bool, true, false, cond, not, _&&_, _||_, or-true}
 use mathlib.Core.List.{List, [], _∷_, map}
 use mathlib.Core.Logic.{inl, inr}
 use native.Mathlib.Omega.{arith}
-use lib.ListN.{length}
+use lib.ListN.{length, getD}
 use lib.Dec.{T, T-not}
 use Rattle.rule.specs.Lists.{every, some, only}
 use Rattle.rule.proofs.Near.{not-some}
@@ -27,6 +27,20 @@ module _ {A : Type 0} where
       let a : T (q x) = f x (search ands) in
       let b : T (every q xs) = every-imply p q f xs (search ands) in
       search and-intro
+
+  -- by the places of the list
+  pub every-at :
+      (p : A → Bool) (none : A) (xs : List A) (i : ℕ) → i < length xs → T (every p xs) → T (p (getD xs i none))
+  every-at p none [] i l t = absurd (omega arith)
+  every-at p none (x ∷ xs) zero l t = search ands
+  every-at p none (x ∷ xs) (suc i) l t = every-at p none xs i (omega arith) (search ands)
+
+  pub every-places :
+      (p : A → Bool) (none : A) (xs : List A) → ((i : ℕ) → i < length xs → T (p (getD xs i none))) → T (every p xs)
+  every-places p none [] each = tt
+  every-places p none (x ∷ xs) each =
+      and-intro (p x) (every p xs) (each 0 (omega arith))
+      (every-places p none xs (λ i l. each (suc i) (omega arith)))
 
   pub every-map :
       {B : Type 0} (p : A → Bool) (q : B → Bool) (g : A → B) → ((x : A) → T (p x) → T (q (g x))) → (xs : List A)

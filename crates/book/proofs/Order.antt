@@ -1,120 +1,300 @@
--- The number of an answer is the lowest that applies, an accepted call has passed every condition, a refused one changes nothing: the conditions of each call rise, by computation. Assumes nothing.
-use Prim.Native.Nat.{ℕ, _≤_, _<_}
-use mathlib.Core.Path.{_≡_, refl}
-use mathlib.Core.Bool.{Bool, true, false, not, _&&_, _||_}
-use mathlib.Core.List.{List, [], _∷_}
+-- The refusal that a call draws applies, and none of a lower rank does; a call is accepted exactly when nothing refuses
+-- it, and a refused one changes nothing: the conditions of each call rise by rank, by computation. Assumes nothing.
+use Prim.Native.Nat.{ℕ, suc, _≤_, zero-le}
+use mathlib.Core.Path.{_≡_, refl, sym, ap, _∙_}
 use mathlib.Core.Logic.{_⊎_, inl, inr}
+use lib.ListN.{length}
+use mathlib.Core.Bool.{Bool, true, false, cond, not, _&&_, _||_, true≢false, and-true}
+use mathlib.Core.List.{List, [], _∷_, _++_}
 use native.Mathlib.Omega.{arith}
-use lib.Dec.{T, eqb, ltb, eqb→eq, ltb→lt, eqb-refl}
-use borrow.Author.Tests.{ne-eqb}
-use Rattle.book.specs.Facts.{Facts}
-use Rattle.book.specs.Calls.{Call, callM, callO, callC, callV, callD, callL, callJ, callX, callI, callR, callA, malformed, isWritten, Condition, draws, first, conditions, numberOf, written, step}
-use Rattle.book.proofs.Tests.{and-right, and-intro, ands}
-use Rattle.book.proofs.Alternatives.{or-cases, or-left, or-right, not-not}
+use borrow.Author.Tests.{le-ltb, ltb-false, not-true}
+use lib.Dec.{T, eqb, leb, ltb, eqb→eq, leb→le, le→leb, eqb-refl}
+use Rattle.word.specs.declared.answer.Answer.{Answer}
+use Rattle.word.specs.declared.answer.Answer.the-variants.{Done, Ground, Removed, Listed, Refused}
+use Rattle.word.specs.declared.answer.Refusal.{Refusal}
+use Rattle.word.specs.declared.answer.Refusal.the-variants.{BeyondLimits, OutOfWords}
+use Rattle.word.specs.Answers.{refusalNumber, answerNumber, rank, isAccepted, strikesListed}
+use Rattle.word.proofs.Refusals.{accepted-zero}
+use Rattle.word.proofs.Tests.{and-both}
+use Rattle.book.specs.Facts.{Facts, number}
+use Rattle.book.specs.Views.{View, viewOf}
+use Rattle.book.specs.Changes.{Deed, monthBecomes, opens, becomes, grows, designates, writes, nothing, factsAfter, listOf}
+use Rattle.book.specs.Calls.{ClassCall, Call, callM, on, callO, callC, callV, callD, callL, callJ, callX, callI, callR, callA, malformed, named, Condition, draws, firstOr, noneApplies, Effect, effectOn, effect, asked, conditions, answerTo, written, isGranted, step, acceptedFacts}
+use Rattle.book.proofs.Tests.{and-intro, ands, T-true, equal-test}
+use Rattle.book.proofs.Alternatives.{or-left, or-right}
 
--- the number i applies
+-- the number k applies
 abbrev pub applies : ℕ → List Condition → Bool
-applies i [] = false
-applies i (draws k b ∷ cs) = (eqb k i && b) || applies i cs
+applies k [] = false
+applies k (draws why b ∷ cs) = (eqb (refusalNumber why) k && b) || applies k cs
 
--- the numbers rise from above k
+-- no condition of a rank below k applies
+abbrev pub noneBelow : ℕ → List Condition → Bool
+noneBelow k [] = true
+noneBelow k (draws why b ∷ cs) = (not b || leb k (rank why)) && noneBelow k cs
+
+-- the ranks rise from k
 abbrev risesFrom : ℕ → List Condition → Bool
 risesFrom k [] = true
-risesFrom k (draws j b ∷ cs) = ltb k j && risesFrom j cs
+risesFrom k (draws why b ∷ cs) = leb k (rank why) && risesFrom (rank why) cs
 
-applies-above : (k i : ℕ) (cs : List Condition) → T (risesFrom k cs) → T (applies i cs) → k < i
-applies-above k i [] r a = absurd a
-applies-above k i (draws j b ∷ cs) r a =
-    go (ltb→lt k j (search ands)) (or-cases (eqb j i && b) (applies i cs) a) (applies-above j i cs (search ands))
+-- the answer a where no condition applies, else a refusal that applies, and none of a lower rank does
+pub data Lowest (cs : List Condition) (a : Answer) : Answer → Type 0 where
+  granted : T (noneApplies cs) → Lowest cs a a
+  refused :
+      {why : Refusal} → T (applies (refusalNumber why) cs) → T (noneBelow (rank why) cs) → Lowest cs a (Refused why)
+
+rising-above : (j k : ℕ) (cs : List Condition) → j ≤ k → T (risesFrom k cs) → T (noneBelow j cs)
+rising-above j k [] l r = tt
+rising-above j k (draws why b ∷ cs) l r =
+    let up = leb→le k (rank why) (search ands) in
+    and-intro (not b || leb j (rank why)) (noneBelow j cs)
+    (or-right (not b) (leb j (rank why)) (le→leb j (rank why) (omega arith)))
+    (rising-above j (rank why) cs (omega arith) (search ands))
+
+first-lowest : (k : ℕ) (a : Answer) (cs : List Condition) → T (risesFrom k cs) → Lowest cs a (firstOr a cs)
+first-lowest k a [] r = granted tt
+first-lowest k a (draws why true ∷ cs) r =
+    refused
+    (or-left (eqb (refusalNumber why) (refusalNumber why) && true) (applies (refusalNumber why) cs)
+    (and-intro (eqb (refusalNumber why) (refusalNumber why)) true (eqb-refl (refusalNumber why)) tt))
+    (and-intro (leb (rank why) (rank why)) (noneBelow (rank why) cs) (le→leb (rank why) (rank why) (omega arith))
+    (rising-above (rank why) (rank why) cs (omega arith) (search ands)))
+first-lowest k a (draws why false ∷ cs) r = go (first-lowest (rank why) a cs (search ands))
   where
-    go : k < j → T (eqb j i && b) ⊎ T (applies i cs) → (T (applies i cs) → j < i) → k < i
-    go l (inl t) later = omega (arith, eqb→eq j i (search ands))
-    go l (inr t) later = omega (arith, later t)
+    go : {x : Answer} → Lowest cs a x → Lowest (draws why false ∷ cs) a x
+    go (granted t) = granted t
+    go (refused {why = other} t least) =
+        refused
+        (or-right (eqb (refusalNumber why) (refusalNumber other) && false) (applies (refusalNumber other) cs) t)
+        least
 
-first-applies : (cs : List Condition) → (first cs ≡ 0) ⊎ T (applies (first cs) cs)
-first-applies [] = inl refl
-first-applies (draws k true ∷ cs) =
-    inr (or-left (eqb k k && true) (applies k cs) (and-intro (eqb k k) true (eqb-refl k) tt))
-first-applies (draws k false ∷ cs) = elim (first-applies cs) [
+-- the numbers that are drawn rise with the ranks
+first-above :
+    (k : ℕ) (a : Answer) (cs : List Condition) → answerNumber a ≡ 0 → T (risesFrom k cs)
+    → (answerNumber (firstOr a cs) ≡ 0) ⊎ (k ≤ answerNumber (firstOr a cs))
+first-above k a [] zero r = inl zero
+first-above k a (draws why true ∷ cs) zero r = inr (leb→le k (rank why) (search ands))
+first-above k a (draws why false ∷ cs) zero r = elim (first-above (rank why) a cs zero (search ands)) [
   | inl e ↦ inl e
-  | inr t ↦ inr (or-right (eqb k (first cs) && false) (applies (first cs) cs) t)
+  | inr l ↦ let up = leb→le k (rank why) (search ands) in inr (omega arith)
 ]
 
-first-least : (k i : ℕ) (cs : List Condition) → T (risesFrom k cs) → T (applies i cs) → (k < first cs) × (first cs ≤ i)
-first-least k i [] r a = absurd a
-first-least k i (draws j true ∷ cs) r a =
-    (ltb→lt k j (search ands), go (or-cases (eqb j i && true) (applies i cs) a) (applies-above j i cs (search ands)))
-  where
-    go : T (eqb j i && true) ⊎ T (applies i cs) → (T (applies i cs) → j < i) → j ≤ i
-    go (inl t) later = omega (arith, eqb→eq j i (search ands))
-    go (inr t) later = omega (arith, later t)
-first-least k i (draws j false ∷ cs) r a =
-    go (ltb→lt k j (search ands)) (or-cases (eqb j i && false) (applies i cs) a) (first-least j i cs (search ands))
-  where
-    go : k < j → T (eqb j i && false) ⊎ T (applies i cs) → (T (applies i cs) → (j < first cs) × (first cs ≤ i))
-        → (k < first cs) × (first cs ≤ i)
-    go l (inl t) later = absurd (and-right (eqb j i) false t)
-    go l (inr t) later = (omega (arith, later t .0), later t .1)
+-- a number that is drawn applies
+pub drawn-applies :
+    (a : Answer) (cs : List Condition) (k : ℕ) → answerNumber a ≡ 0 → answerNumber (firstOr a cs) ≡ suc k
+    → T (applies (suc k) cs)
+drawn-applies a [] k zero e = absurd (omega (arith, zero, e))
+drawn-applies a (draws why true ∷ cs) k zero e =
+    or-left (eqb (refusalNumber why) (suc k) && true) (applies (suc k) cs)
+    (and-intro (eqb (refusalNumber why) (suc k)) true (equal-test (refusalNumber why) (suc k) e) tt)
+drawn-applies a (draws why false ∷ cs) k zero e =
+    or-right (eqb (refusalNumber why) (suc k) && false) (applies (suc k) cs) (drawn-applies a cs k zero e)
 
--- no condition applies
-abbrev pub noneApplies : List Condition → Bool
-noneApplies [] = true
-noneApplies (draws k b ∷ cs) = not b && noneApplies cs
+pub granted-answer : (a : Answer) (cs : List Condition) → isAccepted (firstOr a cs) ≡ true → firstOr a cs ≡ a
+granted-answer a [] e = refl
+granted-answer a (draws why true ∷ cs) e = absurd (true≢false (sym e))
+granted-answer a (draws why false ∷ cs) e = granted-answer a cs e
 
-first-none : (k : ℕ) (cs : List Condition) → T (risesFrom k cs) → first cs ≡ 0 → T (noneApplies cs)
-first-none k [] r e = tt
-first-none k (draws j true ∷ cs) r e = absurd (omega (arith, ltb→lt k j (search ands)))
-first-none k (draws j false ∷ cs) r e = first-none j cs (search ands) e
+-- an answer that accepts is given exactly where none applies
+pub first-accepted :
+    (a : Answer) (cs : List Condition) → isAccepted a ≡ true → isAccepted (firstOr a cs) ≡ noneApplies cs
+first-accepted a [] e = e
+first-accepted a (draws why true ∷ cs) e = refl
+first-accepted a (draws why false ∷ cs) e = first-accepted a cs e
+
+pub none-last :
+    (cs : List Condition) (why : Refusal) (b : Bool)
+    → noneApplies (cs ++ (draws why b ∷ [])) ≡ (noneApplies cs && not b)
+none-last [] why b = and-true (not b)
+none-last (draws other true ∷ cs) why b = refl
+none-last (draws other false ∷ cs) why b = none-last cs why b
+
+-- what follows is asked where nothing before it refuses
+pub first-append :
+    (a : Answer) (cs ds : List Condition)
+    → firstOr a (cs ++ ds) ≡ cond (noneApplies cs) (firstOr a ds) (firstOr a cs)
+first-append a [] ds = refl
+first-append a (draws why true ∷ cs) ds = refl
+first-append a (draws why false ∷ cs) ds = first-append a cs ds
+
+-- a refusal that applies after conditions that don't
+pub first-after :
+    (a : Answer) (cs : List Condition) (why : Refusal) (ds : List Condition) → T (noneApplies cs)
+    → firstOr a (cs ++ (draws why true ∷ ds)) ≡ Refused why
+first-after a cs why ds t = first-append a cs (draws why true ∷ ds) ∙ rw (T-true (noneApplies cs) t)
 
 -- ---- of every call
 
--- the limits come first
-abbrev pub allConditions : ℕ → Call → Facts → List Condition
-allConditions n x f = draws 2 (not (isWritten x)) ∷ conditions n x f
+-- what the deed of a call on a class is: it sets no month, opens a class only where it is not open, and leaves a class
+-- its number
+abbrev pub Sound : View → List Condition → Deed → Type 0
+Sound v asks (monthBecomes m) = ⊥
+Sound v asks opens = T (noneApplies asks) → T (not (v .isThere))
+Sound v asks (becomes y) = number y ≡ number (v .class)
+Sound v asks (grows y) = number y ≡ number (v .class)
+Sound v asks (designates p d) = T true
+Sound v asks (writes ws) = T true
+Sound v asks nothing = T true
 
-conditions-rise : (n : ℕ) (x : Call) (f : Facts) → T (risesFrom 1 (allConditions n x f))
-unfolding conditions
-conditions-rise n (callM m) f = tt
-conditions-rise n (callO c) f = tt
-conditions-rise n (callC c p) f = tt
-conditions-rise n (callV c v) f = tt
-conditions-rise n (callD c p d) f = tt
-conditions-rise n (callL c m h) f = tt
-conditions-rise n (callJ c m h) f = tt
-conditions-rise n (callX c m h) f = tt
-conditions-rise n (callI c m h a b) f = tt
-conditions-rise n (callR c) f = tt
-conditions-rise n (callA c m room) f = tt
-conditions-rise n malformed f = tt
+-- the conditions rise by rank, and the answer for a call that is granted accepts
+abbrev Ranked : (n room : ℕ) → Call → Facts → Type 0
+Ranked n room x f = T (risesFrom 2 (conditions n room x f) && isAccepted (effect x f .answer))
 
--- the number is 0 or applies, and none lower applies
-pub record Lowest (n : ℕ) (x : Call) (f : Facts) : Type 0 where
-  pub drawn : (numberOf n x f ≡ 0) ⊎ T (applies (numberOf n x f) (allConditions n x f))
-  pub least : (i : ℕ) → T (applies i (allConditions n x f)) → (1 < numberOf n x f) × (numberOf n x f ≤ i)
+-- the answer for a call that is granted tells how many words it writes
+abbrev Told : Effect → Type 0
+Told e = length (listOf (e .does)) ≡ strikesListed (e .answer)
 
-pub lowest-number : (n : ℕ) (x : Call) (f : Facts) → Lowest n x f
-unfolding numberOf
-lowest-number n x f = record {
-  drawn = first-applies (allConditions n x f);
-  least = λ i a. first-least 1 i (allConditions n x f) (conditions-rise n x f) a;
-}
+pub effect-sound :
+    (n room c : ℕ) (x : ClassCall) (f : Facts)
+    → Ranked n room (on c x) f
+    × Sound (viewOf c f) (effectOn c x (viewOf c f) .asks) (effectOn c x (viewOf c f) .does)
+    × Told (effectOn c x (viewOf c f))
+unfolding effectOn
+effect-sound n room c callO f = (tt, λ t. search ands, refl)
+effect-sound n room c (callC p) f = (tt, refl, refl)
+effect-sound n room c (callV v) f = (tt, refl, refl)
+effect-sound n room c (callD p d) f = (tt, tt, refl)
+effect-sound n room c (callL m h) f = (tt, refl, refl)
+effect-sound n room c (callJ m h) f = (tt, tt, refl)
+effect-sound n room c (callX m h) f = (tt, refl, refl)
+effect-sound n room c (callI m h a b) f = (tt, refl, refl)
+effect-sound n room c callR f = (tt, refl, refl)
+effect-sound n room c (callA m) f = (tt, tt, refl)
 
--- "1 is never drawn": the numbers of the conditions rise from above 1
-pub never-one : (n : ℕ) (x : Call) (f : Facts) → numberOf n x f ≡ 1 → ⊥
-never-one n x f e = elim (lowest-number n x f .drawn) [
-  | inl none ↦ omega arith
-  | inr drawn ↦ omega (arith, lowest-number n x f .least (numberOf n x f) drawn .0)
-]
+ranked : (n room : ℕ) (x : Call) (f : Facts) → Ranked n room x f
+ranked n room (callM m) f = tt
+ranked n room (on c x) f = effect-sound n room c x f .0
+ranked n room malformed f = tt
 
-pub accepted : (n : ℕ) (x : Call) (f : Facts) → numberOf n x f ≡ 0 → T (isWritten x && noneApplies (conditions n x f))
-unfolding numberOf
-accepted n x f e =
-    let t : T (noneApplies (allConditions n x f)) = first-none 1 (allConditions n x f) (conditions-rise n x f) e in
-    let a : T (isWritten x) = not-not (isWritten x) (search ands) in
-    let b : T (noneApplies (conditions n x f)) = search ands in
-    search and-intro
+effect-told : (x : Call) (f : Facts) → Told (effect x f)
+effect-told (callM m) f = refl
+effect-told (on c x) f = effect-sound 0 0 c x f .2
+effect-told malformed f = refl
 
-pub refused-unchanged :
-    (n : ℕ) (x : Call) (f : Facts) → (numberOf n x f ≡ 0 → ⊥) → (step n x f ≡ f) × (written n x f ≡ [])
-unfolding step written
-refused-unchanged n x f r = (rw (ne-eqb (numberOf n x f) 0 r), rw (ne-eqb (numberOf n x f) 0 r))
+-- "An accepted call answers 0"
+pub effect-zero : (n : ℕ) (x : Call) (f : Facts) → answerNumber (effect x f .answer) ≡ 0
+effect-zero n x f =
+    let s = ranked n 0 x f in
+    let t : T (isAccepted (effect x f .answer)) = search ands in
+    eqb→eq (answerNumber (effect x f .answer)) 0 (rw accepted-zero at t)
+
+-- "1 is never drawn": the ranks begin above it
+pub never-one : (n room : ℕ) (x : Call) (f : Facts) → answerNumber (answerTo n room x f) ≡ 1 → ⊥
+unfolding answerTo
+never-one n room x f e =
+    let s = ranked n room x f in
+    elim (first-above 2 (effect x f .answer) (conditions n room x f) (effect-zero n x f) (search ands)) [
+      | inl zero ↦ omega (arith, zero, e)
+      | inr above ↦ omega (arith, above, e)
+    ]
+
+-- a call that writes to the second run changes no fact
+writes-alone : (c : ℕ) (d : Deed) (f : Facts) → (listOf d ≡ []) ⊎ (factsAfter c d f ≡ f)
+writes-alone c (monthBecomes m) f = inl refl
+writes-alone c opens f = inl refl
+writes-alone c (becomes x) f = inl refl
+writes-alone c (grows x) f = inl refl
+writes-alone c (designates p d) f = inl refl
+writes-alone c (writes ws) f = inr refl
+writes-alone c nothing f = inl refl
+
+module _ (n room : ℕ) (x : Call) (f : Facts) where
+  abbrev exceeds : Bool
+  exceeds = ltb room (length (listOf (effect x f .does)))
+
+  pub lowest : Lowest (conditions n room x f) (effect x f .answer) (answerTo n room x f)
+  unfolding answerTo
+  lowest = let s = ranked n room x f in first-lowest 2 (effect x f .answer) (conditions n room x f) (search ands)
+
+  -- an accepted call answers what its effect says
+  pub accepted-answer : isAccepted (answerTo n room x f) ≡ true → answerTo n room x f ≡ effect x f .answer
+  unfolding answerTo
+  accepted-answer e = granted-answer (effect x f .answer) (conditions n room x f) e
+
+  -- a call is accepted exactly when nothing in the book refuses it and its words fit the second run
+  pub accepted-exactly : isAccepted (answerTo n room x f) ≡ (isGranted n x f && not exceeds)
+  unfolding answerTo
+  accepted-exactly =
+      first-accepted (effect x f .answer) (conditions n room x f) (T-true (isAccepted (effect x f .answer)) accepts)
+      ∙ go (effect x f .limits)
+    where
+      accepts : T (isAccepted (effect x f .answer))
+      accepts = let s = ranked n room x f in search ands
+
+      last : List Condition
+      last = draws (OutOfWords (length (listOf (effect x f .does)))) exceeds ∷ []
+
+      go :
+          (b : Bool)
+          → (not (not b) && noneApplies (asked n x f ++ last))
+          ≡ ((b && noneApplies (asked n x f)) && not exceeds)
+      go true = none-last (asked n x f) (OutOfWords (length (listOf (effect x f .does)))) exceeds
+      go false = refl
+
+  pub accepted-granted : isAccepted (answerTo n room x f) ≡ true → isGranted n x f ≡ true
+  accepted-granted e = and-both (isGranted n x f) (not exceeds) (sym accepted-exactly ∙ e) .0
+
+  -- what a call writes fits the second run
+  pub written-fits : length (written n room x f) ≤ room
+  unfolding written
+  written-fits = go (isAccepted (answerTo n room x f)) refl
+    where
+      go : (b : Bool) → isAccepted (answerTo n room x f) ≡ b → length (cond b (listOf (effect x f .does)) []) ≤ room
+      go true e =
+          let fits = and-both (isGranted n x f) (not exceeds) (sym accepted-exactly ∙ e) .1 in
+          ltb-false room (length (listOf (effect x f .does))) (not-true exceeds fits)
+      go false e = zero-le
+
+  -- the answer tells how many words are written
+  pub written-count : length (written n room x f) ≡ strikesListed (answerTo n room x f)
+  unfolding written
+  written-count = go (isAccepted (answerTo n room x f)) refl
+    where
+      none : (a : Answer) → isAccepted a ≡ false → strikesListed a ≡ 0
+      none Done e = refl
+      none (Ground g) e = refl
+      none (Removed count) e = refl
+      none (Listed count) e = absurd (true≢false e)
+      none (Refused why) e = refl
+
+      go :
+          (b : Bool) → isAccepted (answerTo n room x f) ≡ b
+          → length (cond b (listOf (effect x f .does)) []) ≡ strikesListed (answerTo n room x f)
+      go true e = effect-told x f ∙ ap strikesListed (sym (accepted-answer e))
+      go false e = sym (none (answerTo n room x f) e)
+
+  -- a call that writes nothing answers the same with a second run of any length
+  pub any-room : listOf (effect x f .does) ≡ [] → answerTo n room x f ≡ answerTo n 0 x f
+  unfolding answerTo
+  any-room none =
+      let fits : exceeds ≡ ltb 0 (length (listOf (effect x f .does))) =
+      ap (λ (ws : List ℕ). ltb room (length ws)) none
+      ∙ le-ltb room 0 (omega arith)
+      ∙ ap (λ (ws : List ℕ). ltb 0 (length ws)) (sym none) in
+      ap
+      (λ (b : Bool).
+      firstOr (effect x f .answer)
+      (draws BeyondLimits (not (effect x f .limits))
+      ∷ asked n x f ++ draws (OutOfWords (length (listOf (effect x f .does)))) b ∷ []))
+      fits
+
+  pub refused-unchanged : isAccepted (answerTo n room x f) ≡ false → (step n x f ≡ f) × (written n room x f ≡ [])
+  unfolding step written
+  refused-unchanged r = (
+    elim (writes-alone (named x) (effect x f .does) f) [
+      | inl none ↦ go (isGranted n x f) refl none
+      | inr same ↦ either (isGranted n x f) same
+    ],
+    rw r,
+  )
+    where
+      either : (b : Bool) → acceptedFacts x f ≡ f → cond b (acceptedFacts x f) f ≡ f
+      either true same = same
+      either false same = refl
+
+      go : (b : Bool) → isGranted n x f ≡ b → listOf (effect x f .does) ≡ [] → cond b (acceptedFacts x f) f ≡ f
+      go false e none = refl
+      go true e none =
+          let fits : exceeds ≡ false = ap (λ (ws : List ℕ). ltb room (length ws)) none ∙ le-ltb room 0 (omega arith) in
+          absurd (true≢false (sym (accepted-exactly ∙ rw (e, fits)) ∙ r))

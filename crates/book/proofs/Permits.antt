@@ -1,4 +1,5 @@
--- The conditions of the rules draw the number of the judgement, and no strike above the rules' bound is permitted: by the first row that passes. Assumes nothing.
+-- The conditions of the rules answer as the judgement does, and no strike above the rules' bound is permitted: by the
+-- first row that passes. Assumes nothing.
 use mathlib.Core.Path.{_≡_, refl, sym, ap, _∙_}
 use mathlib.Core.Bool.{Bool, true, false, cond, not, _&&_, _||_, true≢false}
 use mathlib.Core.List.{List, [], _∷_}
@@ -8,8 +9,8 @@ use lib.Dec.{eqb}
 use lib.ListN.{getD}
 use Rattle.word.specs.declared.answer.Answer.{Answer}
 use Rattle.word.specs.declared.answer.Answer.the-variants.{Ground, Refused}
-use Rattle.word.specs.Answers.{answerNumber, refusalNumber}
-use Rattle.word.specs.declared.answer.Refusal.the-variants.{OffGrid, OutOfRange, TooClose}
+use Rattle.word.specs.Answers.{answerValue, isAccepted}
+use Rattle.word.specs.declared.answer.Refusal.the-variants.{NotOpen, MonthOutside, AlreadyStanding, NoClose, OffGrid, OutOfRange, TooClose}
 use Rattle.rule.specs.Lists.{some, only, upFrom}
 use Rattle.rule.specs.Terms.{isOutside}
 use Rattle.rule.specs.Ends.{highEnd}
@@ -17,22 +18,34 @@ use Rattle.rule.specs.Spacing.{Standing}
 use Rattle.rule.specs.Judgement.{passesGrid, passesRange, passes, refusalOf, groundFrom, decided, judgement, isPermittedBeside, permitted}
 use Rattle.rule.proofs.Tests.{and-left}
 use Rattle.rule.proofs.Most.{refused-above, only-short}
-use Rattle.book.specs.Facts.{Facts, inMonth}
-use Rattle.book.specs.Calls.{class, setting, standingIn, rows, isNotOpen, isStanding, hasNoClose, Condition, draws, first, judging, permittedIn}
+use Rattle.book.specs.Facts.{inMonth}
+use Rattle.book.specs.Views.{View, isNotOpen, isStanding, hasNoClose, setting, standingIn, rows, groundOf}
+use Rattle.book.specs.Calls.{Condition, draws, firstOr, noneApplies, judging, permittedIn}
+use Rattle.book.specs.Permission.{isPermittedBy}
 use Rattle.book.proofs.Lists.{some-map}
+use Rattle.book.proofs.Order.{first-accepted}
 use Rattle.book.proofs.Parts.{some-both}
 
 -- what the rules ask, of the rows of the grounds
 abbrev pub ruled : List (List Bool) → List Condition
 ruled rs =
-    draws 11 (not (some passesGrid rs)) ∷ draws 12 (not (some passesRange rs)) ∷ draws 13 (not (some passes rs)) ∷ []
+    draws OffGrid (not (some passesGrid rs))
+    ∷ draws OutOfRange (not (some passesRange rs))
+    ∷ draws TooClose (not (some passes rs))
+    ∷ []
 
-number-from : (v : Answer) (g : ℕ) (rs : List (List Bool)) → answerNumber (groundFrom v g rs) ≡ cond (some passes rs) 0 (answerNumber v)
-number-from v g [] = refl
-number-from v g (r ∷ rs) = go (passes r) (number-from v (g + 1) rs)
+-- the first ground that passes, or the other answer
+ground-passed :
+    (v : Answer) (g : ℕ) (rs : List (List Bool))
+    → groundFrom v g rs ≡ cond (some passes rs) (Ground (answerValue (groundFrom v g rs))) v
+ground-passed v g [] = refl
+ground-passed v g (r ∷ rs) = go (passes r) (ground-passed v (g + 1) rs)
   where
-    go : (b : Bool) → answerNumber (groundFrom v (g + 1) rs) ≡ cond (some passes rs) 0 (answerNumber v)
-        → answerNumber (cond b (Ground g) (groundFrom v (g + 1) rs)) ≡ cond (b || some passes rs) 0 (answerNumber v)
+    later : Answer
+    later = groundFrom v (g + 1) rs
+
+    go : (b : Bool) → later ≡ cond (some passes rs) (Ground (answerValue later)) v
+        → cond b (Ground g) later ≡ cond (b || some passes rs) (Ground (answerValue (cond b (Ground g) later))) v
     go true e = refl
     go false e = e
 
@@ -53,14 +66,18 @@ passes-range r e = and-left (passesRange r) (getD r 2 false) e
 range-grid : (r : List Bool) → passesRange r ≡ true → passesGrid r ≡ true
 range-grid r e = and-left (passesGrid r) (getD r 1 false) e
 
--- the lowest number that the rules draw is the judgement's
-pub ruled-number : (rs : List (List Bool)) → first (ruled rs) ≡ answerNumber (decided rs)
-ruled-number rs =
-    go (some passesGrid rs) refl (some passesRange rs) refl (some passes rs) refl ∙ sym (number-from (Refused (refusalOf rs)) 0 rs)
+-- the lowest refusal that the rules draw is the judgement's, and so is the ground
+pub ruled-answer : (rs : List (List Bool)) → firstOr (Ground (answerValue (decided rs))) (ruled rs) ≡ decided rs
+ruled-answer rs =
+    go (some passesGrid rs) refl (some passesRange rs) refl (some passes rs) refl
+    ∙ sym (ground-passed (Refused (refusalOf rs)) 0 rs)
   where
+    ground : Answer
+    ground = Ground (answerValue (decided rs))
+
     go : (g : Bool) → some passesGrid rs ≡ g → (r : Bool) → some passesRange rs ≡ r → (p : Bool) → some passes rs ≡ p
-        → cond (not g) 11 (cond (not r) 12 (cond {A = ℕ} (not p) 13 0))
-        ≡ cond p 0 (refusalNumber (cond r TooClose (cond g OutOfRange OffGrid)))
+        → cond (not g) (Refused OffGrid) (cond (not r) (Refused OutOfRange) (cond (not p) (Refused TooClose) ground))
+        ≡ cond p ground (Refused (cond r TooClose (cond g OutOfRange OffGrid)))
     go true a true b true c = refl
     go true a true b false c = refl
     go true a false b true c = absurd (true≢false (sym (some-less passes passesRange passes-range rs c) ∙ b))
@@ -69,46 +86,75 @@ ruled-number rs =
     go false a false b true c = absurd (true≢false (sym (some-less passes passesRange passes-range rs c) ∙ b))
     go false a false b false c = refl
 
-module _ (c m : ℕ) (f : Facts) where
-  -- what `J` answers: the first of the conditions before the rules, else the judgement
-  pub judging-number :
-      (h : ℕ)
-      → first (judging c m h f)
-      ≡ cond (isNotOpen f c) 4
-      (cond (isOutside (setting f c m)) 5
-      (cond (isStanding f c m h) 6
-      (cond (hasNoClose f c) 8 (answerNumber (judgement (setting f c m) (standingIn f c m) h)))))
-  judging-number h =
-      ap
-      (λ (k : ℕ). cond (isNotOpen f c) 4 (cond (isOutside (setting f c m)) 5 (cond (isStanding f c m h) 6 (cond (hasNoClose f c) 8 k))))
-      (ruled-number (rows f c m h))
+-- what `J` answers: the first of the conditions before the rules, else the judgement
+abbrev pub beforeRules : Bool → Bool → Bool → Bool → Answer → Answer
+beforeRules notOpen outside stands noClose judgement =
+    cond notOpen (Refused NotOpen)
+    (cond outside (Refused MonthOutside)
+    (cond stands (Refused AlreadyStanding) (cond noClose (Refused NoClose) judgement)))
 
-  beyond : (h : ℕ) → highEnd (setting f c m) < h → h ≤ 19999 → eqb (first (judging c m h f)) 0 ≡ false
-  beyond h l most =
-      ap (λ (k : ℕ). eqb k 0) (judging-number h)
-      ∙ go (isNotOpen f c) (isOutside (setting f c m)) (isStanding f c m h) (hasNoClose f c)
+module _ (m : ℕ) (v : View) where
+  pub judged-answer :
+      (h : ℕ)
+      → firstOr (Ground (groundOf v m h)) (judging m h v)
+      ≡ beforeRules (isNotOpen v) (isOutside (setting v m)) (isStanding v m h) (hasNoClose v)
+      (judgement (setting v m) (standingIn v m) h)
+  judged-answer h =
+      ap (beforeRules (isNotOpen v) (isOutside (setting v m)) (isStanding v m h) (hasNoClose v))
+      (ruled-answer (rows v m h))
+
+  -- nothing refuses the strike exactly where the conditions before the rules and the judgement accept it
+  pub judged-none :
+      (h : ℕ)
+      → noneApplies (judging m h v)
+      ≡ isAccepted
+      (beforeRules (isNotOpen v) (isOutside (setting v m)) (isStanding v m h) (hasNoClose v)
+      (judgement (setting v m) (standingIn v m) h))
+  judged-none h =
+      sym (first-accepted (Ground (groundOf v m h)) (judging m h v) refl) ∙ ap isAccepted (judged-answer h)
+
+  -- .. and that is the permitted strikes
+  pub none-permitted : (h : ℕ) → noneApplies (judging m h v) ≡ isPermittedBy m h v
+  none-permitted h =
+      judged-none h ∙ go (isNotOpen v) (isOutside (setting v m)) (isStanding v m h) (hasNoClose v)
     where
-      go : (a b d e : Bool)
-          → eqb (cond a 4 (cond b 5 (cond d 6 (cond e 8 (answerNumber (judgement (setting f c m) (standingIn f c m) h)))))) 0 ≡ false
+      a : Answer
+      a = judgement (setting v m) (standingIn v m) h
+
+      go : (notOpen outside stands noClose : Bool)
+          → isAccepted (beforeRules notOpen outside stands noClose a)
+          ≡ (not notOpen && (not outside && (not stands && (not noClose && isAccepted a))))
+      go true d e g = refl
+      go false true e g = refl
+      go false false true g = refl
+      go false false false true = refl
+      go false false false false = refl
+
+  beyond : (h : ℕ) → highEnd (setting v m) < h → h ≤ 19999 → noneApplies (judging m h v) ≡ false
+  beyond h l most =
+      judged-none h
+      ∙ go (isNotOpen v) (isOutside (setting v m)) (isStanding v m h) (hasNoClose v)
+    where
+      go : (a b d e : Bool) → isAccepted (beforeRules a b d e (judgement (setting v m) (standingIn v m) h)) ≡ false
       go true b d e = refl
       go false true d e = refl
       go false false true e = refl
       go false false false true = refl
-      go false false false false = refused-above (setting f c m) (standingIn f c m) h l most
+      go false false false false = refused-above (setting v m) (standingIn v m) h l most
 
   -- the permitted strikes are found among those up to the bound of the rules
   pub permitted-short :
-      (b : ℕ) → highEnd (setting f c m) ≤ b → b ≤ 19999
-      → permittedIn c m f ≡ only (λ h. eqb (first (judging c m h f)) 0) (upFrom b 1)
+      (b : ℕ) → highEnd (setting v m) ≤ b → b ≤ 19999
+      → permittedIn m v ≡ only (λ h. noneApplies (judging m h v)) (upFrom b 1)
   unfolding permittedIn
   permitted-short b l k =
-      let test : ℕ → Bool = λ h. eqb (first (judging c m h f)) 0 in
+      let test : ℕ → Bool = λ h. noneApplies (judging m h v) in
       let e : 19999 ≡ b + (19999 - b) = omega arith in
       ap (λ (n : ℕ). only test (upFrom n 1)) e ∙ only-short test b (19999 - b) 1 (λ x j i. beyond x (omega arith) (omega arith))
 
-  standing-is : (h : ℕ) → isStanding f c m h ≡ some (λ t. eqb (t .strike) h) (standingIn f c m)
+  standing-is : (h : ℕ) → isStanding v m h ≡ some (λ t. eqb (t .strike) h) (standingIn v m)
   standing-is h =
-      let ss = class f c .series in
+      let ss = v .class .series in
       sym
       (some-map (λ (t : Standing). eqb (t .strike) h) (λ s. eqb (s .strike) h) (λ s. record { strike = s .strike; ground = s .ground })
       (λ s. refl) (inMonth m ss)
@@ -116,18 +162,20 @@ module _ (c m : ℕ) (f : Facts) where
 
   -- the permitted strikes are those that the rules permit beside the standing ones
   pub permitted-beside :
-      isNotOpen f c ≡ false → isOutside (setting f c m) ≡ false → hasNoClose f c ≡ false
-      → permittedIn c m f ≡ permitted (setting f c m) (standingIn f c m)
+      isNotOpen v ≡ false → isOutside (setting v m) ≡ false → hasNoClose v ≡ false
+      → permittedIn m v ≡ permitted (setting v m) (standingIn v m)
   unfolding permittedIn permitted
   permitted-beside opened inside priced = λ i. only (λ h. tested h i) (upFrom 19999 1)
     where
-      go : (stands : Bool) (k : ℕ) → eqb (cond {A = ℕ} stands 6 k) 0 ≡ (not stands && eqb k 0)
-      go true k = refl
-      go false k = refl
+      go :
+          (stands : Bool) (a : Answer)
+          → isAccepted (beforeRules false false stands false a) ≡ (not stands && isAccepted a)
+      go true a = refl
+      go false a = refl
 
-      tested : (h : ℕ) → eqb (first (judging c m h f)) 0 ≡ isPermittedBeside (setting f c m) (standingIn f c m) h
+      tested : (h : ℕ) → noneApplies (judging m h v) ≡ isPermittedBeside (setting v m) (standingIn v m) h
       tested h =
-          let k = answerNumber (judgement (setting f c m) (standingIn f c m) h) in
-          ap (λ (j : ℕ). eqb j 0) (judging-number h)
-          ∙ rw (opened, inside, priced) (go (isStanding f c m h) k)
-          ∙ ap (λ (b : Bool). not b && eqb k 0) (standing-is h)
+          let a = judgement (setting v m) (standingIn v m) h in
+          judged-none h
+          ∙ rw (opened, inside, priced) (go (isStanding v m h) a)
+          ∙ ap (λ (b : Bool). not b && isAccepted a) (standing-is h)

@@ -17,7 +17,7 @@ use Rattle.rule.specs.Spacing.{standingIn as standingOf}
 use Rattle.book.specs.Facts.{Series, Facts, number, isOpen, isAt, isMarked, inMonth}
 use Rattle.book.specs.Layout.{strikeWord, expirationUnless, seriesWords, figuresWords, classesWords, used, layout}
 use Rattle.book.specs.Books.{isSeries, isWellFormed}
-use Rattle.book.specs.Calls.{class, isStanding, hasOpenInterest, standingIn}
+use Rattle.book.specs.Views.{viewOf, class, isStanding, hasOpenInterest, standingIn}
 use Rattle.book.specs.Places.{hasExpiration, strikesPlace, strikesEnd, strikePlace}
 use Rattle.book.proofs.Tests.{ands}
 use Rattle.book.proofs.LegalWords.{fits, strike-legal}
@@ -155,7 +155,7 @@ module _ (n : ℕ) (f : Facts) (c m : ℕ) (w : T (isWellFormed n f)) (o : T (is
 
   pub strikes-standing :
       map standingOf (take (strikesEnd c m f - strikesPlace c m f) (drop (strikesPlace c m f) (layout n f)))
-      ≡ standingIn f c m
+      ≡ standingIn (viewOf c f) m
   strikes-standing =
       ap (map standingOf) strikes-part ∙ standing-words (f .now) (inMonth m (class f c .series)) strikes-good
 
@@ -176,7 +176,7 @@ pub record Stands (n : ℕ) (f : Facts) (c m h : ℕ) (s : Series) : Type 0 wher
   pub strike : s .strike ≡ h
   pub limits : T (isSeries (f .now) s)
   pub word : getD (layout n f) (strikePlace c m h f) 0 ≡ packed (strikeWord s)
-  pub interest : hasOpenInterest f c m h ≡ isMarked s
+  pub interest : hasOpenInterest (viewOf c f) m h ≡ isMarked s
   pub within : strikePlace c m h f < strikesEnd c m f
 
 module _ (n : ℕ) (f : Facts) (c m h : ℕ) (w : T (isWellFormed n f)) (o : T (isOpen c (f .classes))) where
@@ -186,7 +186,7 @@ module _ (n : ℕ) (f : Facts) (c m h : ℕ) (w : T (isWellFormed n f)) (o : T (
   abbrev higherStrikes : List Series
   higherStrikes = high (class f c .series) m h
 
-  pub strike-stands : T (isStanding f c m h) → (s : Series) × Stands n f c m h s
+  pub strike-stands : T (isStanding (viewOf c f) m h) → (s : Series) × Stands n f c m h s
   strike-stands t = (
     s,
     record {
@@ -240,13 +240,13 @@ module _ (n : ℕ) (f : Facts) (c m h : ℕ) (w : T (isWellFormed n f)) (o : T (
               ≡ (ws ++ map strikeWord ss) ++ (strikeWord s ∷ (map strikeWord ts ++ rest))
           regroup ws rest ss ts = simp (map-append, append-assoc)
 
-  pub standing-within : T (isStanding f c m h) → strikePlace c m h f < used f
+  pub standing-within : T (isStanding (viewOf c f) m h) → strikePlace c m h f < used f
   standing-within t = omega (arith, strike-stands t .1 .within, strikes-within n f c m w o)
 
   -- a word that stands says whether the strike has open interest
   pub interest-says :
-      T (isStanding f c m h)
-      → not (eqb (getD (layout n f) (strikePlace c m h f) 0 / 2 ^ 18 % 2 ^ 2) 0) ≡ hasOpenInterest f c m h
+      T (isStanding (viewOf c f) m h)
+      → not (eqb (getD (layout n f) (strikePlace c m h f) 0 / 2 ^ 18 % 2 ^ 2) 0) ≡ hasOpenInterest (viewOf c f) m h
   interest-says t =
       let x = strike-stands t in
       ap (λ (k : ℕ). not (eqb (field k 18 2) 0)) (x .1 .word) ∙ marks-say (f .now) (x .0) (x .1 .limits) ∙ sym (x .1 .interest)

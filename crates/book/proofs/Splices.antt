@@ -13,7 +13,8 @@ use Rattle.rule.specs.Lists.{some, only}
 use Rattle.book.specs.Facts.{Series, OpenClass, Facts, number, newClass, isOpen, insertClass, withFigures, withSeries, isBelow, isAt, withMarks, insertSeries, wordsOf, wordsTaken}
 use Rattle.book.specs.Layout.{strikeWord, expirationUnless, seriesWords, figuresWords, classesWords, used}
 use Rattle.book.specs.Books.{isSeries, isWellFormed}
-use Rattle.book.specs.Calls.{callO, callX, callI, class, isStanding, update, changed}
+use Rattle.book.specs.Views.{viewOf, class, isStanding}
+use Rattle.book.specs.Changes.{update, classOpened, strikeAdded, strikeRemoved, marksSet}
 use Rattle.book.specs.Places.{classPlace, hasExpiration, expirationPlace, strikesPlace, strikesEnd, strikePlace}
 use Rattle.book.proofs.Tests.{T-true}
 use Rattle.book.proofs.Lists.{every-imply, sum-inserted}
@@ -110,8 +111,8 @@ module _ (n : ℕ) (f : Facts) (c : ℕ) (w : T (isWellFormed n f)) where
 
   pub opened-spliced :
       T (not (isOpen c (f .classes)))
-      → Spliced (classPlace c f) [] (figuresWords (opened c) []) f (changed (callO c) f)
-  unfolding changed
+      → Spliced (classPlace c f) [] (figuresWords (opened c) []) f (classOpened c f)
+  unfolding classOpened
   opened-spliced o =
       let parts : f .classes ≡ below ++ above =
       distinct-parts number c (f .classes) (numbers-rise n f w)
@@ -159,10 +160,10 @@ module _ (n : ℕ) (f : Facts) (c : ℕ) (w : T (isWellFormed n f)) (o : T (isOp
         (ap (λ (l : List Series). seriesWords 0 l rest) is ∙ around-words ss m h y rest month))
 
   pub listed-spliced :
-      (s : Series) → T (not (isStanding f c (s .month) (s .strike)))
+      (s : Series) → T (not (isStanding (viewOf c f) (s .month) (s .strike)))
       → Spliced (strikePlace c (s .month) (s .strike) f) []
       (expirationUnless (hasExpiration c (s .month) f) (s .month) (strikeWord s ∷ [])) f
-      (update (withSeries (insertSeries s (class f c .series)) (class f c)) f)
+      (update (strikeAdded s (class f c)) f)
   listed-spliced s new =
       let ss = class f c .series in
       let none : placed ss (s .month) (s .strike) ≡ [] =
@@ -171,7 +172,7 @@ module _ (n : ℕ) (f : Facts) (c : ℕ) (w : T (isWellFormed n f)) (o : T (isOp
       strike-spliced (s .month) (s .strike) [] s (insertSeries s ss) none refl
       (inserted-around ss (s .month) (s .strike) (f .now) series-limits s refl refl none)
 
-  module _ (m h : ℕ) (s : T (isStanding f c m h)) where
+  module _ (m h : ℕ) (s : T (isStanding (viewOf c f) m h)) where
     one : Stander (class f c .series) m h (f .now) series-limits
     one = stander (class f c .series) m h (f .now) series-limits s
 
@@ -190,10 +191,10 @@ module _ (n : ℕ) (f : Facts) (c : ℕ) (w : T (isWellFormed n f)) (o : T (isOp
     pub limits : T (isSeries (f .now) it)
     pub spliced :
         (a b : ℕ)
-        → Spliced (strikePlace c m h f) (strikeWord it ∷ []) (strikeWord (withMarks a b it) ∷ []) f (changed (callI c m h a b) f)
+        → Spliced (strikePlace c m h f) (strikeWord it ∷ []) (strikeWord (withMarks a b it) ∷ []) f
+        (update (marksSet m h a b (class f c)) f)
 
-  pub marking : (m h : ℕ) → T (isStanding f c m h) → Marking m h
-  unfolding changed
+  pub marking : (m h : ℕ) → T (isStanding (viewOf c f) m h) → Marking m h
   marking m h s =
       let ss = class f c .series in
       let x = one m h s in
@@ -204,7 +205,8 @@ module _ (n : ℕ) (f : Facts) (c : ℕ) (w : T (isWellFormed n f)) (o : T (isOp
             subst
             (λ (b′ : Bool).
             Spliced (strikePlace c m h f) (strikeWord (x .it) ∷ [])
-            (expirationUnless b′ m (strikeWord (withMarks a b (x .it)) ∷ [])) f (changed (callI c m h a b) f))
+            (expirationUnless b′ m (strikeWord (withMarks a b (x .it)) ∷ [])) f
+            (update (marksSet m h a b (class f c)) f))
             (has m h s)
             (strike-spliced m h (x .it ∷ []) (withMarks a b (x .it)) (map (markedAt m h a b) ss) (x .alone) (x .month)
             (marked-around ss m h (f .now) series-limits (x .it) a b (x .month) (x .strike) (x .alone)));
@@ -215,12 +217,12 @@ module _ (n : ℕ) (f : Facts) (c : ℕ) (w : T (isWellFormed n f)) (o : T (isOp
     pub it : Series
     pub spliced :
         Spliced (strikePlace c m h f - cond {A = ℕ} alone 1 0) (expirationUnless (not alone) m (strikeWord it ∷ [])) [] f
-        (changed (callX c m h) f)
+        (update (strikeRemoved m h (class f c)) f)
 
   pub delisting :
-      (m h : ℕ) (alone : Bool) → T (isStanding f c m h) → alone ≡ eqb (strikesEnd c m f) (strikesPlace c m f + 1)
+      (m h : ℕ) (alone : Bool) → T (isStanding (viewOf c f) m h)
+      → alone ≡ eqb (strikesEnd c m f) (strikesPlace c m f + 1)
       → Delisting m h alone
-  unfolding changed
   delisting m h alone s e =
       let ss = class f c .series in
       let x = one m h s in
@@ -262,17 +264,17 @@ module _ (n : ℕ) (f : Facts) (c : ℕ) (w : T (isWellFormed n f)) (o : T (isOp
 
 -- ---- the words that they take
 
-pub words-opened : (c : ℕ) (f : Facts) → wordsTaken (changed (callO c) f) ≡ wordsTaken f + 3
-unfolding changed
+pub words-opened : (c : ℕ) (f : Facts) → wordsTaken (classOpened c f) ≡ wordsTaken f + 3
+unfolding classOpened
 words-opened c f = omega (arith, sum-inserted isBelow wordsOf (newClass c) (f .classes))
 
 pub words-listed :
     (n : ℕ) (f : Facts) (c : ℕ) (s : Series) → T (isWellFormed n f) → T (isOpen c (f .classes))
-    → T (not (isStanding f c (s .month) (s .strike)))
-    → wordsTaken (update (withSeries (insertSeries s (class f c .series)) (class f c)) f)
+    → T (not (isStanding (viewOf c f) (s .month) (s .strike)))
+    → wordsTaken (update (strikeAdded s (class f c)) f)
     ≡ wordsTaken f + cond {A = ℕ} (hasExpiration c (s .month) f) 1 2
 words-listed n f c s good o new =
-    let g = update (withSeries (insertSeries s (class f c .series)) (class f c)) f in
+    let g = update (strikeAdded s (class f c)) f in
     omega (
       arith,
       used-spliced (listed-spliced n f c good o s new),

@@ -5,9 +5,10 @@ use mathlib.Core.List.{List, [], _∷_}
 use lib.ListN.{length}
 use lib.Dec.{eqb, leb}
 use Rattle.word.specs.declared.class.ClassRecord.{ClassRecord}
-use Rattle.word.specs.Limits.{isStrike, isMonth, isClassNumber, isVolume, isLength, isDesignation, isClose, isGround, isMark}
+use Rattle.word.specs.Limits.{isStrike, isMonth, isClassNumber, isVolume, isLength, isClose, isGround, isMark}
 use Rattle.rule.specs.Lists.{every}
-use Rattle.book.specs.Facts.{Series, OpenClass, Facts, isBelow, precedes, capOf, owned, wordsTaken}
+use Rattle.word.specs.Programs.{Program, programs, areDesignations}
+use Rattle.book.specs.Facts.{Series, OpenClass, Facts, isBelow, precedes, owned, wordsTaken}
 use Rattle.book.specs.Layout.{layout, factsOf}
 
 -- "Classes rise by number, a class's expirations by month, an expiration's strikes by h, none twice."
@@ -28,12 +29,16 @@ isSeries now s =
 abbrev pub areFigures : ClassRecord → Bool
 areFigures r =
     isClassNumber (r .number)
-    && (isDesignation (r .dollar) && (isDesignation (r .half) && (isClose (r .close) && isVolume (r .volume))))
+    && (areDesignations programs (r .designations) && (isClose (r .close) && isVolume (r .volume)))
 
 abbrev pub isClass : ℕ → OpenClass → Bool
 isClass now x = areFigures (x .figures) && (every (isSeries now) (x .series) && rises precedes (x .series))
 
--- "with every field in its limits, each expiration from `now` to `now` + 39, at most 150 classes with $1 designation 1 and at most 20 with $0.50 designation 1",
+-- "at most 150 classes with $1 designation 1 and at most 20 with $0.50 designation 1": the own classes of each program
+abbrev pub isCapKept : List OpenClass → Program → Bool
+isCapKept xs g = leb (owned (g .number) xs) (g .cap)
+
+-- "with every field in its limits, each expiration from `now` to `now` + 39, at most 150 classes .. and at most 20 ..",
 -- within n words
 unfoldable pub isWellFormed : ℕ → Facts → Bool
 isWellFormed n f =
@@ -41,8 +46,7 @@ isWellFormed n f =
     && (leb (wordsTaken f) n
     && (isMonth (f .now)
     && (every (isClass (f .now)) (f .classes)
-    && (rises isBelow (f .classes)
-    && (leb (owned 1 (f .classes)) (capOf 1) && leb (owned 2 (f .classes)) (capOf 2))))))
+    && (rises isBelow (f .classes) && every (isCapKept (f .classes)) programs))))
 
 abbrev pub sameWords : List ℕ → List ℕ → Bool
 sameWords [] [] = true

@@ -1,31 +1,37 @@
--- Lists of calls: the answers that they get, and what they write to a second run. Document 01, clause a, of every call of a list. Assumes nothing.
-use Prim.Native.Nat.{ℕ, min}
-use mathlib.Core.List.{List, [], _∷_}
+-- Lists of calls: the answers that they get, and what they write to a second run. Document 01, clause a, of every call
+-- of a list. Assumes nothing.
+use Prim.Native.Nat.{ℕ}
+use mathlib.Core.List.{List, [], _∷_, map}
+use Rattle.word.specs.declared.answer.Answer.{Answer}
+use Rattle.word.specs.Answers.{answerNumber, answerValue}
 use Rattle.book.specs.Facts.{Facts}
-use Rattle.book.specs.Calls.{Call, callM, callO, callC, callV, callD, callL, callJ, callX, callI, callR, callA, malformed, numberOf, valueOf, written, step}
+use Rattle.book.specs.Calls.{Call, answerTo, written, step}
 use Rattle.book.specs.Made.{over}
 
--- the number and the value of each call's answer, in a run of n words
-unfoldable pub answersTo : ℕ → List Call → Facts → List ℕ
+-- "and for `A` the second run's length": a call, and the length of the second run that it is lent
+pub record LentCall : Type 0 where
+  pub call : Call
+  pub room : ℕ
+
+-- the calls alone
+abbrev pub callsAlone : List LentCall → List Call
+callsAlone xs = map (λ x. x .call) xs
+
+-- calls that are each lent a second run of `room` words
+abbrev pub lentEach : ℕ → List Call → List LentCall
+lentEach room xs = map (λ x. record { call = x; room = room }) xs
+
+-- each call's answer, in a run of n words
+unfoldable pub answersTo : ℕ → List LentCall → Facts → List Answer
 answersTo n [] f = []
-answersTo n (x ∷ xs) f = numberOf n x f ∷ valueOf n x f ∷ answersTo n xs (step n x f)
+answersTo n (x ∷ xs) f = answerTo n (x .room) (x .call) f ∷ answersTo n xs (step n (x .call) f)
+
+-- the number and the value of each answer
+abbrev pub told : List Answer → List ℕ
+told [] = []
+told (r ∷ rs) = answerNumber r ∷ answerValue r ∷ told rs
 
 -- the words of the second run v after calls that are each lent it, from its first word on
-unfoldable pub secondAfter : ℕ → List Call → Facts → List ℕ → List ℕ
+unfoldable pub secondAfter : ℕ → List LentCall → Facts → List ℕ → List ℕ
 secondAfter n [] f v = v
-secondAfter n (x ∷ xs) f v = secondAfter n xs (step n x f) (over (written n x f) v)
-
--- the call where `A` is lent at most p words
-unfoldable pub lentWithin : ℕ → Call → Call
-lentWithin p (callM m) = callM m
-lentWithin p (callO c) = callO c
-lentWithin p (callC c price) = callC c price
-lentWithin p (callV c n) = callV c n
-lentWithin p (callD c program d) = callD c program d
-lentWithin p (callL c m h) = callL c m h
-lentWithin p (callJ c m h) = callJ c m h
-lentWithin p (callX c m h) = callX c m h
-lentWithin p (callI c m h a b) = callI c m h a b
-lentWithin p (callR c) = callR c
-lentWithin p (callA c m room) = callA c m (min room p)
-lentWithin p malformed = malformed
+secondAfter n (x ∷ xs) f v = secondAfter n xs (step n (x .call) f) (over (written n (x .room) (x .call) f) v)

@@ -5,8 +5,8 @@ use mathlib.Core.List.{List, [], _∷_}
 use lib.ListN.{length}
 use lib.Dec.{eqb, ltb}
 use Rattle.word.specs.declared.class.ClassRecord.{ClassRecord}
-use Rattle.word.specs.Class.{opened, withDollar, withHalf}
-use Rattle.word.specs.Caps.{dollarCap, halfCap, own}
+use Rattle.word.specs.Class.{opened, designation}
+use Rattle.word.specs.Caps.{own}
 use Rattle.rule.specs.Lists.{some, only}
 
 -- "a set of (month, h, ground, put, call)": one standing strike of a class
@@ -99,16 +99,7 @@ precedes s t = ltb (s .month) (t .month) || (eqb (s .month) (t .month) && ltb (s
 abbrev pub insertSeries : Series → List Series → List Series
 insertSeries s ss = inserted precedes s ss
 
--- ---- programs: "1 for $1, 2 for $0.50"
-
-abbrev pub designation : ℕ → ClassRecord → ℕ
-designation p r = cond (eqb p 1) (r .dollar) (r .half)
-
-abbrev pub withDesignation : ℕ → ℕ → ClassRecord → ClassRecord
-withDesignation p d r = cond (eqb p 1) (withDollar d r) (withHalf d r)
-
-abbrev pub capOf : ℕ → ℕ
-capOf p = cond {A = ℕ} (eqb p 1) dollarCap halfCap
+-- ---- sums
 
 module _ {A : Type 0} (size : A → ℕ) where
   abbrev pub sum : List A → ℕ

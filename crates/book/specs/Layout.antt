@@ -24,9 +24,13 @@ seriesWords p [] rest = rest
 seriesWords p (s ∷ ss) rest =
     expirationUnless (eqb p (suc (s .month))) (s .month) (strikeWord s ∷ seriesWords (suc (s .month)) ss rest)
 
+-- the class word of a class's figures
+abbrev pub classWord : ClassRecord → Word
+classWord r = Class (r .number) (r .designations)
+
 -- "One of each follows its class word, close first."
 abbrev pub figuresWords : ClassRecord → List Word → List Word
-figuresWords r rest = Class (r .number) (r .dollar) (r .half) ∷ Close (r .close) ∷ Volume (r .volume) ∷ rest
+figuresWords r rest = classWord r ∷ Close (r .close) ∷ Volume (r .volume) ∷ rest
 
 abbrev pub classesWords : List OpenClass → List Word → List Word
 classesWords [] rest = rest
@@ -52,11 +56,11 @@ pub record Tail : Type 0 where
 abbrev pub begun : List Series → List OpenClass → Tail
 begun ss xs = record { close = 0; volume = 0; series = ss; classes = xs }
 
-abbrev pub addClass : ℕ → ℕ → ℕ → Tail → Tail
-addClass n d e t =
+abbrev pub addClass : ℕ → List ℕ → Tail → Tail
+addClass n ds t =
     begun []
     (record {
-      figures = record { number = n; close = t .close; volume = t .volume; dollar = d; half = e };
+      figures = record { number = n; close = t .close; volume = t .volume; designations = ds };
       series = t .series;
     }
     ∷ t .classes)
@@ -79,7 +83,7 @@ monthBefore (suc m) = m
 abbrev pub readFrom : ℕ → List Word → Tail
 readFrom p [] = begun [] []
 readFrom p (Head now k ∷ ws) = begun [] []
-readFrom p (Class n d e ∷ ws) = addClass n d e (readFrom 0 ws)
+readFrom p (Class n ds ∷ ws) = addClass n ds (readFrom 0 ws)
 readFrom p (Close price ∷ ws) = setClose price (readFrom p ws)
 readFrom p (Volume v ∷ ws) = setVolume v (readFrom p ws)
 readFrom p (Expiration m ∷ ws) = readFrom (suc m) ws
@@ -89,7 +93,7 @@ readFrom p (Invalid ∷ ws) = begun [] []
 
 abbrev pub headMonth : Word → ℕ
 headMonth (Head now k) = now
-headMonth (Class n d e) = 0
+headMonth (Class n ds) = 0
 headMonth (Close price) = 0
 headMonth (Volume v) = 0
 headMonth (Expiration m) = 0

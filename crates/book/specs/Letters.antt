@@ -3,33 +3,60 @@ use Prim.Native.Nat.{ℕ}
 use mathlib.Core.Bool.{cond}
 use mathlib.Core.List.{List, [], _∷_}
 use lib.Dec.{eqb}
-use Rattle.book.specs.Calls.{Call, callM, callO, callC, callV, callD, callL, callJ, callX, callI, callR, callA, malformed}
+use Rattle.book.specs.Calls.{ClassCall, Call, callM, on, callO, callC, callV, callD, callL, callJ, callX, callI, callR, callA, malformed}
 
 -- `M m`, `O c`, `R c`
 abbrev pub callOfOne : ℕ → ℕ → Call
-callOfOne c a = cond (eqb c 77) (callM a) (cond (eqb c 79) (callO a) (cond (eqb c 82) (callR a) malformed))
+callOfOne c a = cond (eqb c 77) (callM a) (cond (eqb c 79) (on a callO) (cond (eqb c 82) (on a callR) malformed))
 
--- `C c P`, `V c n`, `A c m`, and for `A` the length of the second run, `room`
-abbrev pub callOfTwo : ℕ → ℕ → ℕ → ℕ → Call
-callOfTwo room c a b =
-    cond (eqb c 67) (callC a b) (cond (eqb c 86) (callV a b) (cond (eqb c 65) (callA a b room) malformed))
+-- `C c P`, `V c n`, `A c m`
+abbrev pub callOfTwo : ℕ → ℕ → ℕ → Call
+callOfTwo c a b =
+    cond (eqb c 67) (on a (callC b)) (cond (eqb c 86) (on a (callV b)) (cond (eqb c 65) (on a (callA b)) malformed))
 
 -- `D c p d`, `L c m h`, `J c m h`, `X c m h`
 abbrev pub callOfThree : ℕ → ℕ → ℕ → ℕ → Call
 callOfThree c a b d =
-    cond (eqb c 68) (callD a b d)
-    (cond (eqb c 76) (callL a b d) (cond (eqb c 74) (callJ a b d) (cond (eqb c 88) (callX a b d) malformed)))
+    cond (eqb c 68) (on a (callD b d))
+    (cond (eqb c 76) (on a (callL b d))
+    (cond (eqb c 74) (on a (callJ b d)) (cond (eqb c 88) (on a (callX b d)) malformed)))
 
 -- `I c m h a b`
 abbrev pub callOfFive : ℕ → ℕ → ℕ → ℕ → ℕ → ℕ → Call
-callOfFive c a b d e f = cond (eqb c 73) (callI a b d e f) malformed
+callOfFive c a b d e f = cond (eqb c 73) (on a (callI b d e f)) malformed
 
 -- the call of a letter and its numbers; "any other form, is malformed"
-unfoldable pub callOf : ℕ → ℕ → List ℕ → Call
-callOf room c [] = malformed
-callOf room c (a ∷ []) = callOfOne c a
-callOf room c (a ∷ b ∷ []) = callOfTwo room c a b
-callOf room c (a ∷ b ∷ d ∷ []) = callOfThree c a b d
-callOf room c (a ∷ b ∷ d ∷ e ∷ []) = malformed
-callOf room c (a ∷ b ∷ d ∷ e ∷ f ∷ []) = callOfFive c a b d e f
-callOf room c (a ∷ b ∷ d ∷ e ∷ f ∷ g ∷ more) = malformed
+unfoldable pub callOf : ℕ → List ℕ → Call
+callOf c [] = malformed
+callOf c (a ∷ []) = callOfOne c a
+callOf c (a ∷ b ∷ []) = callOfTwo c a b
+callOf c (a ∷ b ∷ d ∷ []) = callOfThree c a b d
+callOf c (a ∷ b ∷ d ∷ e ∷ []) = malformed
+callOf c (a ∷ b ∷ d ∷ e ∷ f ∷ []) = callOfFive c a b d e f
+callOf c (a ∷ b ∷ d ∷ e ∷ f ∷ g ∷ more) = malformed
+
+-- ---- the letter and the numbers of a call
+
+-- how a call is written: its letter in ASCII, and its numbers
+pub record Spelling : Type 0 where
+  pub letter : ℕ
+  pub numbers : List ℕ
+
+-- a call on the class c
+abbrev pub spelledOn : ℕ → ClassCall → Spelling
+spelledOn c callO = record { letter = 79; numbers = c ∷ [] }
+spelledOn c (callC p) = record { letter = 67; numbers = c ∷ p ∷ [] }
+spelledOn c (callV n) = record { letter = 86; numbers = c ∷ n ∷ [] }
+spelledOn c (callD p d) = record { letter = 68; numbers = c ∷ p ∷ d ∷ [] }
+spelledOn c (callL m h) = record { letter = 76; numbers = c ∷ m ∷ h ∷ [] }
+spelledOn c (callJ m h) = record { letter = 74; numbers = c ∷ m ∷ h ∷ [] }
+spelledOn c (callX m h) = record { letter = 88; numbers = c ∷ m ∷ h ∷ [] }
+spelledOn c (callI m h a b) = record { letter = 73; numbers = c ∷ m ∷ h ∷ a ∷ b ∷ [] }
+spelledOn c callR = record { letter = 82; numbers = c ∷ [] }
+spelledOn c (callA m) = record { letter = 65; numbers = c ∷ m ∷ [] }
+
+-- any call; a malformed line has no letter
+abbrev pub spelled : Call → Spelling
+spelled (callM m) = record { letter = 77; numbers = m ∷ [] }
+spelled (on c x) = spelledOn c x
+spelled malformed = record { letter = 0; numbers = [] }

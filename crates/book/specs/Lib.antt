@@ -1,6 +1,8 @@
 pub mod Facts
 pub mod Layout
 pub mod Books
+pub mod Views
+pub mod Changes
 pub mod Calls
 pub mod Letters
 pub mod Points

@@ -8,7 +8,7 @@ use lib.Dec.{T, eqb, ltb}
 use Rattle.rule.specs.Lists.{some, only}
 use Rattle.book.specs.Facts.{Facts, number, isOpen, inMonth}
 use Rattle.book.specs.Layout.{seriesWords, classesWords}
-use Rattle.book.specs.Calls.{class, isStanding}
+use Rattle.book.specs.Views.{class, viewOf, isStanding}
 
 -- the index of the class word c, or of the word before which it would stand
 abbrev pub classPlace : ℕ → Facts → ℕ
@@ -46,5 +46,5 @@ pub record StrikeStands (f : Facts) (at : ℕ) : Type 0 where
   pub month : ℕ
   pub strike : ℕ
   pub is-open : T (isOpen class (f .classes))
-  pub standing : T (isStanding f class month strike)
+  pub standing : T (isStanding (viewOf class f) month strike)
   pub place : at ≡ strikePlace class month strike f
