@@ -8,14 +8,15 @@ use native.Mathlib.Omega.{arith}
 use lib.Dec.{T}
 use lib.ListN.{length, getD, set}
 use Rattle.word.specs.declared.class.ClassRecord.{ClassRecord}
-use Rattle.word.specs.Codec.{Class, Close, Volume, Strike, packed, Fits}
+use Rattle.word.specs.Codec.{Close, Volume, Strike, packed, Fits}
 use Rattle.word.specs.Class.{opened}
 use Rattle.word.specs.Field.{field}
 use Rattle.word.proofs.Words.{strike-fields}
-use Rattle.book.specs.Facts.{Series, Facts, withFigures, withSeries, insertSeries}
-use Rattle.book.specs.Layout.{expirationUnless, figuresWords, strikeWord, layout, factsOf}
+use Rattle.book.specs.Facts.{Facts, withFigures}
+use Rattle.book.specs.Layout.{classWord, expirationUnless, figuresWords, strikeWord, layout, factsOf}
 use Rattle.book.specs.Books.{areFigures, isBook}
-use Rattle.book.specs.Calls.{callI, callO, class, update, changed}
+use Rattle.book.specs.Views.{class}
+use Rattle.book.specs.Changes.{update, newSeries, strikeAdded, marksSet, classOpened}
 use Rattle.book.specs.Places.{StrikeStands, classPlace}
 use Rattle.book.proofs.LegalWords.{fits, strike-legal, figures-legal}
 use Rattle.book.proofs.Tests.{and-intro}
@@ -29,18 +30,14 @@ use Rattle.edit.proofs.Runs.{old-read, stored, inserted}
 
 -- what the words of a class ask of its figures
 abbrev pub FiguresFit : ClassRecord → Type 0
-FiguresFit r = Fits (Class (r .number) (r .dollar) (r .half)) × (Fits (Close (r .close)) × Fits (Volume (r .volume)))
+FiguresFit r = Fits (classWord r) × (Fits (Close (r .close)) × Fits (Volume (r .volume)))
 
 pub figures-fit : (r : ClassRecord) → T (areFigures r) → FiguresFit r
 figures-fit r t =
     let l = figures-legal r t in (
-      fits (Class (r .number) (r .dollar) (r .half)) (l .0),
+      fits (classWord r) (l .0),
       (fits (Close (r .close)) (l .1 .0), fits (Volume (r .volume)) (l .1 .1)),
     )
-
--- a strike as it is listed
-abbrev pub newSeries : ℕ → ℕ → ℕ → Series
-newSeries m h ground = record { month = m; strike = h; ground = ground; put = 0; call = 0 }
 
 module _ (ws : List ℕ) (at : ℕ) where
   abbrev f : Facts
@@ -55,7 +52,7 @@ module _ (ws : List ℕ) (at : ℕ) where
 
     pub figures-stored :
         set
-        (set (set ws at (packed (Class (r .number) (r .dollar) (r .half)))) (at + 1) (packed (Close (r .close))))
+        (set (set ws at (packed (classWord r))) (at + 1) (packed (Close (r .close))))
         (at + 2)
         (packed (Volume (r .volume)))
         ≡ layout (length ws) (update (withFigures r (class f (r .number))) f)
@@ -66,7 +63,7 @@ module _ (ws : List ℕ) (at : ℕ) where
         let second : at + 2 ≡ suc (suc (classPlace c f)) = omega arith in
         (λ i.
         set
-        (set (set ws (e i) (packed (Class c (r .dollar) (r .half)))) (first i) (packed (Close (r .close))))
+        (set (set ws (e i) (packed (classWord r))) (first i) (packed (Close (r .close))))
         (second i)
         (packed (Volume (r .volume))))
         ∙ stored ws (x .book) (figures-spliced (length ws) f c (book-good ws (x .book)) (x .is-open) r refl) refl
@@ -87,7 +84,7 @@ module _ (ws : List ℕ) (at : ℕ) where
   pub marks-stored :
       (a b : ℕ) → T (isBook ws) → (x : StrikeStands f at)
       → set ws at (packed (Strike (field (getD ws at 0) 0 15) (field (getD ws at 0) 15 3) a b))
-      ≡ layout (length ws) (changed (callI (x .class) (x .month) (x .strike) a b) f)
+      ≡ layout (length ws) (update (marksSet (x .month) (x .strike) a b (class f (x .class))) f)
   marks-stored a b t x =
       let one = marking (length ws) f (x .class) (book-good ws t) (x .is-open) (x .month) (x .strike) (x .standing) in
       let it = one .it in
@@ -112,7 +109,7 @@ module _ (ws : List ℕ) (at : ℕ) where
     opened-room = (x .book, (omega (arith, x .place, class-within ws (x .book) c), x .room))
 
     pub class-inserted :
-        insertWords at (map packed (figuresWords (opened c) [])) ws ≡ layout (length ws) (changed (callO c) f)
+        insertWords at (map packed (figuresWords (opened c) [])) ws ≡ layout (length ws) (classOpened c f)
     class-inserted =
         ap (λ (i : ℕ). insertWords i (map packed (figuresWords (opened c) [])) ws) (x .place)
         ∙ inserted ws (x .book) (opened-spliced (length ws) f c (book-good ws (x .book)) (x .is-closed)) refl
@@ -130,8 +127,7 @@ module _ (ws : List ℕ) (at : ℕ) where
 
     pub strike-inserted :
         insertWords at (map packed (expirationUnless stands m (strikeWord (newSeries m h ground) ∷ []))) ws
-        ≡ layout (length ws)
-        (update (withSeries (insertSeries (newSeries m h ground) (class f (x .class) .series)) (class f (x .class))) f)
+        ≡ layout (length ws) (update (strikeAdded (newSeries m h ground) (class f (x .class))) f)
     strike-inserted =
         let s = newSeries m h ground in
         (λ i. insertWords (x .place i) (map packed (expirationUnless (x .expiration i) m (strikeWord s ∷ []))) ws)

@@ -10,7 +10,7 @@ use Rattle.word.specs.Limits.{isClassNumber, isGround, isMark, isMonth, isStrik
 use Rattle.book.specs.Facts.{isOpen}
 use Rattle.book.specs.Layout.{factsOf, used}
 use Rattle.book.specs.Books.{areFigures, isBook}
-use Rattle.book.specs.Calls.{isStanding}
+use Rattle.book.specs.Views.{viewOf, isStanding}
 use Rattle.book.specs.Places.{StrikeStands, classPlace, hasExpiration, strikePlace}
 
 -- figures can be stored at `at`: the class of their number is open, and its words begin there
@@ -44,7 +44,7 @@ pub record Insertable (ws : List ℕ) (at : ℕ) (stands : Bool) (m h ground : �
   pub on : T (isGround ground)
   pub class : ℕ
   pub is-open : T (isOpen class (factsOf ws .classes))
-  pub absent : T (not (isStanding (factsOf ws) class m h))
+  pub absent : T (not (isStanding (viewOf class (factsOf ws)) m h))
   pub place : at ≡ strikePlace class m h (factsOf ws)
   pub expiration : stands ≡ hasExpiration class m (factsOf ws)
   pub room : used (factsOf ws) + cond {A = ℕ} stands 1 2 ≤ length ws

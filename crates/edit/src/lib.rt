@@ -6,8 +6,9 @@ ghost use lib.Dec.{T};
 ghost use lib.ListN.{length};
 ghost use Rattle.word.specs.Codec.{packed, Head};
 ghost use Rattle.book.specs.Books.{isBook};
-ghost use Rattle.book.specs.Calls.{callI, callO, changed, class, update};
-ghost use Rattle.book.specs.Facts.{insertSeries, withFigures, withSeries};
+ghost use Rattle.book.specs.Views.{class};
+ghost use Rattle.book.specs.Changes.{classOpened, marksSet, newSeries, strikeAdded, update};
+ghost use Rattle.book.specs.Facts.{withFigures};
 ghost use Rattle.book.specs.Layout.{factsOf, layout};
 ghost use Rattle.book.specs.Places.{StrikeStands};
 ghost use Rattle.edit.specs.Insertion.{HasRoom, insertWords, pushed};
@@ -111,7 +112,7 @@ pub fn store_figures(run: &mut [u32], at: usize, figures: ClassRecord)
         now (run .exit)
         ≡ layout (length (now (run .entry))) (update (withFigures figures (class f (figures .number))) f)) ⌝ }
 {
-    run[at] = class_word(figures.number, figures.dollar, figures.half);
+    run[at] = class_word(figures);
     run[at + 1] = close_word(figures.close);
     run[at + 2] = volume_word(figures.volume);
 }
@@ -122,7 +123,7 @@ pub fn store_marks(run: &mut [u32], at: usize, a: u32, b: u32)
     ensures { λ _. ⌜ (let f = factsOf (now (run .entry)) in
         (x : StrikeStands f at)
         → now (run .exit)
-        ≡ layout (length (now (run .entry))) (changed (callI (x .class) (x .month) (x .strike) a b) f)) ⌝ }
+        ≡ layout (length (now (run .entry))) (update (marksSet (x .month) (x .strike) a b (class f (x .class))) f)) ⌝ }
 {
     let w = run[at];
     run[at] = strike_word(field_of(w, 0, 15), field_of(w, 15, 3), a, b);
@@ -132,13 +133,13 @@ pub fn store_marks(run: &mut [u32], at: usize, a: u32, b: u32)
 pub fn insert_class(run: &mut [u32], at: usize, c: u32)
     requires { ⌜ Openable (now run) at c ⌝ }
     ensures { λ _. ⌜ (let f = factsOf (now (run .entry)) in
-        now (run .exit) ≡ layout (length (now (run .entry))) (changed (callO c) f)) ⌝ }
+        now (run .exit) ≡ layout (length (now (run .entry))) (classOpened c f)) ⌝ }
 {
     let figures = ClassRecord::open(c);
     insert3(
         run,
         at,
-        class_word(figures.number, figures.dollar, figures.half),
+        class_word(figures),
         close_word(figures.close),
         volume_word(figures.volume),
     );
@@ -151,12 +152,7 @@ pub fn insert_strike(run: &mut [u32], at: usize, stands: bool, m: u32, h: u32, g
         (x : Insertable (now (run .entry)) at stands m h ground)
         → now (run .exit)
         ≡ layout (length (now (run .entry)))
-        (update
-        (withSeries
-        (insertSeries (record { month = m; strike = h; ground = ground; put = 0; call = 0 })
-        (class f (x .class) .series))
-        (class f (x .class)))
-        f)) ⌝ }
+        (update (strikeAdded (newSeries m h ground) (class f (x .class))) f)) ⌝ }
 {
     if stands {
         insert1(run, at, strike_word(h, ground, 0, 0));

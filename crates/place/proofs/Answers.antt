@@ -13,7 +13,7 @@ use Rattle.rule.specs.Lists.{some, only}
 use Rattle.book.specs.Facts.{Series, Facts, isOpen, inMonth}
 use Rattle.book.specs.Layout.{used, factsOf}
 use Rattle.book.specs.Books.{isBook}
-use Rattle.book.specs.Calls.{class, isStanding}
+use Rattle.book.specs.Views.{viewOf, class, isStanding}
 use Rattle.book.specs.Places.{classPlace, hasExpiration, expirationPlace, strikesPlace, strikesEnd, strikePlace}
 use Rattle.book.proofs.Parts.{isUnder, isEqual, some-both}
 use Rattle.book.proofs.Expirations.{monthOf, strikeOf}
@@ -75,7 +75,7 @@ module _
     no-strike h =
         let at : place ≡ strikePlace c m h facts =
         omega (arith, place-absent, ap (λ (l : List Series). length (only (isUnder strikeOf h) l)) none) in
-        let standing : false ≡ isStanding facts c m h =
+        let standing : false ≡ isStanding (viewOf c facts) m h =
         ap (some (isEqual strikeOf h)) (sym none) ∙ some-both (isEqual monthOf m) (isEqual strikeOf h) (class facts c .series) in
         λ i. record { at = at i; expiration = sym absent i; standing = standing i }
 
@@ -119,5 +119,6 @@ module _
           place-stands,
           searched (isUpTo 6 15 h) k q ∙ strike-sought ws b c o m month stands h small (place + 1) after,
         ) in
-        let is : standing ≡ isStanding facts c m h = s ∙ strike-found ws b c o m month stands h small (place + 1 + k) at in
+        let is : standing ≡ isStanding (viewOf c facts) m h =
+        s ∙ strike-found ws b c o m month stands h small (place + 1 + k) at in
         λ i. record { at = at i; expiration = sym stands i; standing = is i }

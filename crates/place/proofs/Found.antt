@@ -14,11 +14,12 @@ use Rattle.word.specs.Field.{field}
 use Rattle.word.proofs.Words.{legal-fits, kindIn, kind-packed, class-fields}
 use Rattle.rule.specs.Lists.{every, only}
 use Rattle.book.specs.Facts.{Series, OpenClass, Facts, number, isOpen, inMonth}
-use Rattle.book.specs.Layout.{strikeWord, expirationUnless, seriesWords, figuresWords, classesWords, used, factsOf}
+use Rattle.book.specs.Layout.{classWord, strikeWord, expirationUnless, seriesWords, figuresWords, classesWords, used, factsOf}
 use Rattle.book.specs.Books.{areFigures, isBook}
-use Rattle.book.specs.Calls.{class, isStanding}
+use Rattle.book.specs.Views.{viewOf, class, isStanding}
 use Rattle.book.specs.Places.{ClassBegins, classPlace, hasExpiration, expirationPlace, strikePlace}
 use Rattle.book.proofs.Tests.{ands, T-true, true-T}
+use Rattle.book.proofs.LegalWords.{fits, figures-legal}
 use Rattle.book.proofs.Lists.{every-imply, every-map, every-true}
 use Rattle.book.proofs.Layouts.{seriesWords-append, words-legal}
 use Rattle.book.proofs.Parts.{only-absent, every-kept, some-both, isUnder, isEqual, isOver, distinct-parts}
@@ -35,29 +36,27 @@ use Rattle.place.proofs.Rising.{ordered-rises, ordered-packed, classes-
 -- the three words of legal figures say them
 figures-said :
     (r : ClassRecord) → T (areFigures r) → (at : ℕ) (ws : List ℕ)
-    → getD ws at 0 ≡ packed (Class (r .number) (r .dollar) (r .half)) → getD ws (at + 1) 0 ≡ packed (Close (r .close))
+    → getD ws at 0 ≡ packed (classWord r) → getD ws (at + 1) 0 ≡ packed (Close (r .close))
     → getD ws (at + 2) 0 ≡ packed (Volume (r .volume)) → figuresAt at ws ≡ r
 figures-said r t at ws x y z =
-    let a : r .number ≤ 16383 = leb→le (r .number) 16383 (search ands) in
-    let b : r .dollar ≤ 2 = leb→le (r .dollar) 2 (search ands) in
-    let d : r .half ≤ 2 = leb→le (r .half) 2 (search ands) in
     let e : r .close ≤ 999999 = leb→le (r .close) 999999 (search ands) in
     let g : r .volume ≤ 9999999 = leb→le (r .volume) 9999999 (search ands) in
-    let class = class-fields (getD ws at 0) (r .number) (r .dollar) (r .half) (omega arith) (sym x) in
+    let class =
+    class-fields (getD ws at 0) (r .number) (r .designations) (fits (classWord r) (figures-legal r t .0)) (sym x) in
     let close : field (getD ws (at + 1) 0) 0 20 ≡ r .close = omega arith in
     let volume : field (getD ws (at + 2) 0) 0 24 ≡ r .volume = omega arith in
-    λ i. record { number = class .0 i; close = close i; volume = volume i; dollar = class .1 i; half = class .2 i }
+    λ i. record { number = class .0 i; close = close i; volume = volume i; designations = class .1 i }
 
 -- ---- the words after those of a month
 
 -- they begin with a class or a later expiration, or there are none
 module _
     (m : ℕ) (P : List Word → Type 0) (none : P [])
-    (of-class : (number dollar half : ℕ) (ws : List Word) → P (Class number dollar half ∷ ws))
+    (of-class : (number : ℕ) (ds : List ℕ) (ws : List Word) → P (Class number ds ∷ ws))
     (of-month : (n : ℕ) (ws : List Word) → m < n → P (Expiration n ∷ ws)) where
   later-begin : (ss : List Series) (xs : List OpenClass) → T (every (isOver monthOf m) ss) → P (seriesWords 0 ss (classesWords xs []))
   later-begin [] [] t = none
-  later-begin [] (x ∷ xs) t = of-class (number x) (x .figures .dollar) (x .figures .half) _
+  later-begin [] (x ∷ xs) t = of-class (number x) (x .figures .designations) _
   later-begin (s ∷ ss) xs t =
       let after : m < s .month = ltb→lt m (s .month) (search ands) in
       rw (eqb·zero-suc (s .month)) (of-month (s .month) _ after)
@@ -278,7 +277,7 @@ module _ (ws : List ℕ) (b : T (isBook ws)) where
       from-legal = every-split isLegal early (from-month has) (rw tail-words at tail-legal) .1
 
       later :
-          (P : List Word → Type 0) → P [] → ((number dollar half : ℕ) (ws : List Word) → P (Class number dollar half ∷ ws))
+          (P : List Word → Type 0) → P [] → ((number : ℕ) (ds : List ℕ) (ws : List Word) → P (Class number ds ∷ ws))
           → ((n : ℕ) (ws : List Word) → m < n → P (Expiration n ∷ ws)) → P late
       later P none of-class of-month =
           later-begin m P none of-class of-month (only (isOver monthOf m) listed) (only (isOver number c) (facts .classes))
@@ -298,7 +297,7 @@ module _ (ws : List ℕ) (b : T (isBook ws)) where
           stop true q = rw (le-leb m m (omega arith))
           stop false q =
               rw (none-in q)
-              (later (λ l. firstAt (isEnding 5 m) l ≡ 0) refl (λ n d h l. refl) (λ n l k. rw (le-leb m n (omega arith))))
+              (later (λ l. firstAt (isEnding 5 m) l ≡ 0) refl (λ n d l. refl) (λ n l k. rw (le-leb m n (omega arith))))
 
           passed : firstAt (isUpTo 5 10 m) (map packed (early ++ from-month has)) ≡ length early
           passed =
@@ -328,9 +327,10 @@ module _ (ws : List ℕ) (b : T (isBook ws)) where
           go false q legal =
               rw (none-in q)
               (later (λ l. T (every isLegal l) → begins (λ w. eqb w (packed (Expiration m))) l ≡ false) (λ t. refl)
-              (λ n d h l t.
-              let fits = legal-fits (Class n d h) (T-true (isLegal (Class n d h)) (search ands)) in
-              ne-eqb (packed (Class n d h)) (packed (Expiration m)) (λ x. omega arith))
+              (λ n ds l t.
+              ne-eqb (packed (Class n ds)) (packed (Expiration m))
+              (λ x.
+              omega (arith, kind-packed (Class n ds) (packed (Expiration m)) (fits (Class n ds) (search ands)) x)))
               (λ n l k t. ne-eqb (packed (Expiration n)) (packed (Expiration m)) (λ x. omega arith))
               (rw (none-in q) at legal))
 
@@ -364,7 +364,7 @@ module _ (ws : List ℕ) (b : T (isBook ws)) where
             ∙ first-after (isUpTo 5 10 0) (isEnding 5 0) (up-to-packed 5 0 (omega arith) (omega arith)) strikes late strikes-legal
             (every-map (λ s. true) (λ w. not (isEnding 5 0 w)) strikeWord (λ s t. tt) here
             (every-true here))
-            (later (λ l. firstAt (isEnding 5 0) l ≡ 0) refl (λ n d h l. refl) (λ n l k. rw (leb·zero n)))
+            (later (λ l. firstAt (isEnding 5 0) l ≡ 0) refl (λ n d l. refl) (λ n l k. rw (leb·zero n)))
             ∙ length-map here strikeWord
 
         -- ---- a strike of them
@@ -400,13 +400,13 @@ module _ (ws : List ℕ) (b : T (isBook ws)) where
               (ends-there strikeOf 6 (map strikeWord) strikes-laid h
               (placed listed m h ++ high listed m h) late
               (from-there strikeOf 6 (map strikeWord) strikes-laid h here parts here-legal)
-              (later (λ l. firstAt (isEnding 6 h) l ≡ 0) refl (λ n d k l. refl) (λ n l k. refl)))
+              (later (λ l. firstAt (isEnding 6 h) l ≡ 0) refl (λ n d l. refl) (λ n l k. refl)))
               ∙ length-map (low listed m h) strikeWord
 
           -- .. and its word stands there where it stands
           pub strike-found :
               (at : ℕ) → at ≡ strikePlace c m h facts
-              → (ltb at (used facts) && isHolding 6 15 h (getD ws at 0)) ≡ isStanding facts c m h
+              → (ltb at (used facts) && isHolding 6 15 h (getD ws at 0)) ≡ isStanding (viewOf c facts) m h
           strike-found at e =
               let before = (lower ++ figures) ++ (early ++ (Expiration m ∷ [])) in
               let one : cond {A = ℕ} has 1 0 ≡ 1 = rw stands in
@@ -415,7 +415,7 @@ module _ (ws : List ℕ) (b : T (isBook ws)) where
               (e ∙ sym (simp (length-append, length-map) (omega (arith, before-length))))
               ∙ found strikeOf 6 (map strikeWord) strikes-laid h here parts here-legal (isHolding 6 15 h) (strike-said h) late
               (later (λ l. T (every isLegal l) → begins (isHolding 6 15 h) l ≡ false) (λ t. refl)
-              (λ n d k l t. no-strike h (Class n d k) (T-true (isLegal (Class n d k)) (search ands)) refl)
+              (λ n ds l t. no-strike h (Class n ds) (T-true (isLegal (Class n ds)) (search ands)) refl)
               (λ n l k t. no-strike h (Expiration n) (T-true (isLegal (Expiration n)) (search ands)) refl)
               (every-split isLegal strikes late strikes-legal .1))
               ∙ some-both (isEqual monthOf m) (isEqual strikeOf h) listed

@@ -203,11 +203,11 @@ module _ (q : Word → Bool) (other : (w : Word) → eqb (kindIn w) 2 ≡ false 
           search and-intro
 
   pub every-class :
-      (xs : List OpenClass) → T (every (λ x. q (Class (number x) (x .figures .dollar) (x .figures .half))) xs)
+      (xs : List OpenClass) → T (every (λ x. q (Class (number x) (x .figures .designations))) xs)
       → T (every q (classesWords xs []))
   every-class [] t = tt
   every-class (x ∷ xs) t =
-      let a : T (q (Class (number x) (x .figures .dollar) (x .figures .half))) = search ands in
+      let a : T (q (Class (number x) (x .figures .designations))) = search ands in
       let b = other (Close (x .figures .close)) refl in
       let c = other (Volume (x .figures .volume)) refl in
       let d = no-class 0 (x .series) (classesWords xs []) (every-class xs (search ands)) in
@@ -215,7 +215,7 @@ module _ (q : Word → Bool) (other : (w : Word) → eqb (kindIn w) 2 ≡ false 
 
 pub classes-laid : Laid number 2 (λ xs. classesWords xs [])
 classes-laid = record {
-  first = λ x. Class (x .figures .number) (x .figures .dollar) (x .figures .half);
+  first = λ x. Class (x .figures .number) (x .figures .designations);
   rest = λ x xs. Close (x .figures .close) ∷ Volume (x .figures .volume) ∷ seriesWords 0 (x .series) (classesWords xs []);
   none = refl;
   begins = λ x xs. refl;

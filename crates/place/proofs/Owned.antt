@@ -7,60 +7,60 @@ use native.Mathlib.Numerals.{add-one}
 use native.Mathlib.Omega.{arith}
 use lib.ListN.{length, take, drop, getD}
 use lib.Seq.{drop-cons}
-use lib.Dec.{T, eqb}
+use lib.Dec.{T, eqb, leb→le}
 use Rattle.word.specs.Codec.{Word, Head, Class, Close, Volume, Expiration, Strike, Invalid, isLegal, packed, Fits}
+use Rattle.word.specs.Programs.{programCount, isProgram, program}
 use Rattle.word.specs.Field.{field}
 use Rattle.word.specs.Caps.{own}
-use Rattle.word.proofs.Words.{kindIn, kind-packed, class-fields}
+use Rattle.word.proofs.Words.{kindIn, kind-packed, class-designation}
 use Rattle.rule.specs.Lists.{every}
 use Rattle.book.specs.Facts.{Series, OpenClass, Facts, sum, owned}
 use Rattle.book.specs.Layout.{strikeWord, expirationUnless, seriesWords, classesWords, used, factsOf}
 use Rattle.book.specs.Books.{isBook}
 use Rattle.book.proofs.LegalWords.{fits}
 use Rattle.book.proofs.Tests.{ands}
+use Rattle.book.proofs.Programs.{cap-small}
 use Rattle.book.proofs.Forms.{well}
 use Rattle.place.specs.Search.{isOfKind}
 use Rattle.place.proofs.Heads.{book-good, book-room}
 use Rattle.place.proofs.Found.{legal, body}
 
--- the lowest bit of the designation in the program p
-abbrev pub lowOf : ℕ → ℕ
-lowOf p = cond {A = ℕ} (eqb p 1) 14 16
-
 -- what a word adds to the count of own classes
 abbrev pub added : ℕ → ℕ → ℕ
-added p w = own (cond {A = ℕ} (isOfKind 2 w) (field w (lowOf p) 2) 0)
+added p w = own (cond {A = ℕ} (isOfKind 2 w) (field w (program p .low) 2) 0)
 
 -- ---- the words of a book add what its classes do
 
 abbrev addedBy : ℕ → Word → ℕ
 addedBy p (Head now k) = 0
-addedBy p (Class n d e) = own (cond {A = ℕ} (eqb p 1) d e)
+addedBy p (Class n ds) = own (getD ds (p - 1) 0)
 addedBy p (Close price) = 0
 addedBy p (Volume v) = 0
 addedBy p (Expiration m) = 0
 addedBy p (Strike h g a b) = 0
 addedBy p Invalid = 0
 
-added-packed : (p : ℕ) (x : Word) → Fits x → added p (packed x) ≡ addedBy p x
-added-packed p x small = rw (kind-packed x (packed x) small refl) (go x small)
+added-packed : (p : ℕ) → T (isProgram p) → (x : Word) → Fits x → added p (packed x) ≡ addedBy p x
+added-packed p k x small = rw (kind-packed x (packed x) small refl) (go x small)
   where
-    go : (y : Word) → Fits y → own (cond {A = ℕ} (eqb (kindIn y) 2) (field (packed y) (lowOf p) 2) 0) ≡ addedBy p y
-    go (Head now k) f = refl
-    go (Class n d e) f = in-program (eqb p 1)
-      where
-        in-program : (b : Bool) → own (field (packed (Class n d e)) (cond {A = ℕ} b 14 16) 2) ≡ own (cond {A = ℕ} b d e)
-        in-program true = ap own (class-fields (packed (Class n d e)) n d e f refl .1)
-        in-program false = ap own (class-fields (packed (Class n d e)) n d e f refl .2)
+    go : (y : Word) → Fits y
+        → own (cond {A = ℕ} (eqb (kindIn y) 2) (field (packed y) (program p .low) 2) 0) ≡ addedBy p y
+    go (Head now used) f = refl
+    go (Class n ds) f =
+        ap own
+        (class-designation (packed (Class n ds)) n ds f refl p (leb→le 1 p (search ands))
+        (leb→le p programCount (search ands)))
     go (Close price) f = refl
     go (Volume v) f = refl
     go (Expiration m) f = refl
     go (Strike h g a b) f = refl
     go Invalid f = refl
 
-sum-packed : (p : ℕ) (ws : List Word) → T (every isLegal ws) → sum (added p) (map packed ws) ≡ sum (addedBy p) ws
-sum-packed p [] l = refl
-sum-packed p (w ∷ ws) l = λ i. added-packed p w (fits w (search ands)) i + sum-packed p ws (search ands) i
+sum-packed :
+    (p : ℕ) → T (isProgram p) → (ws : List Word) → T (every isLegal ws)
+    → sum (added p) (map packed ws) ≡ sum (addedBy p) ws
+sum-packed p k [] l = refl
+sum-packed p k (w ∷ ws) l = λ i. added-packed p k w (fits w (search ands)) i + sum-packed p k ws (search ands) i
 
 sum-series : (p q : ℕ) (ss : List Series) (rest : List Word) → sum (addedBy p) (seriesWords q ss rest) ≡ sum (addedBy p) rest
 sum-series p q [] rest = refl
@@ -84,7 +84,7 @@ pub record Counting (ws : List ℕ) (p at count : ℕ) : Type 0 where
   pub within : at ≤ used (factsOf ws)
   pub total : count + sum (added p) (take (used (factsOf ws) - at) (drop at ws)) ≡ owned p (factsOf ws .classes)
 
-module _ (ws : List ℕ) (b : T (isBook ws)) (p : ℕ) where
+module _ (ws : List ℕ) (b : T (isBook ws)) (p : ℕ) (k : T (isProgram p)) where
   abbrev facts : Facts
   facts = factsOf ws
 
@@ -94,21 +94,24 @@ module _ (ws : List ℕ) (b : T (isBook ws)) (p : ℕ) where
     total = omega (
       arith,
       ap (sum (added p)) (body ws b (used facts) refl),
-      sum-packed p (classesWords (facts .classes) []) (legal ws b),
+      sum-packed p k (classesWords (facts .classes) []) (legal ws b),
       sum-classes p (facts .classes),
     );
   }
 
   module _ (at count : ℕ) (s : Counting ws p at count) where
     pub count-small : count < 65535
-    count-small = omega (arith, s .total, well (length ws) facts (book-good ws b) .caps p, cap-small (eqb p 1))
-      where
-        cap-small : (x : Bool) → cond {A = ℕ} x 150 20 ≤ 150
-        cap-small true = omega arith
-        cap-small false = omega arith
+    count-small =
+        omega (
+          arith,
+          s .total,
+          well (length ws) facts (book-good ws b) .caps p k,
+          cap-small p (leb→le 1 p (search ands)) (leb→le p programCount (search ands)),
+        )
 
     pub count-more :
-        (designation more : ℕ) → at < used facts → designation ≡ cond {A = ℕ} (isOfKind 2 (getD ws at 0)) (field (getD ws at 0) (lowOf p) 2) 0
+        (designation more : ℕ) → at < used facts
+        → designation ≡ cond {A = ℕ} (isOfKind 2 (getD ws at 0)) (field (getD ws at 0) (program p .low) 2) 0
         → more ≡ count + own designation → Counting ws p (at + 1) more
     count-more designation more l e d = record {
       within = omega arith;

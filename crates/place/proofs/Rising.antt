@@ -125,7 +125,7 @@ pub classes-ordered : (xs : List OpenClass) → T (ordered isBelow xs) → T (or
 classes-ordered [] t = tt
 classes-ordered (x ∷ xs) t =
     let after = seriesWords 0 (x .series) (classesWords xs []) in
-    let test = isLower 2 (Class (x .figures .number) (x .figures .dollar) (x .figures .half)) in
+    let test = isLower 2 (Class (x .figures .number) (x .figures .designations)) in
     let above : T (every test after) =
     no-class test (λ w e. rw e tt) 0 (x .series) (classesWords xs []) (every-class test (λ w e. rw e tt) xs (search ands)) in
     let rest = series-ordered 0 (x .series) (classesWords xs []) (classes-ordered xs (search ands)) in

@@ -11,7 +11,7 @@ use lib.Dec.{T, eqb, leb, ltb, leb→le}
 use borrow.Author.Tests.{eqb-true, eqb-false, leb-true, leb-false, ltb-true, ltb-false, le-leb, lt-leb}
 use Rattle.word.specs.Codec.{Word, Head, Class, Close, Volume, Expiration, Strike, Invalid, isLegal, packed, Fits, kindOf}
 use Rattle.word.specs.Field.{field}
-use Rattle.word.proofs.Words.{legal-fits, kindIn, kind-packed}
+use Rattle.word.proofs.Words.{class-fields, legal-fits, kindIn, kind-packed}
 use Rattle.rule.specs.Lists.{every}
 use Rattle.book.proofs.Tests.{ands}
 use Rattle.place.specs.Search.{firstAt, isOfKind, isNoLower, rankOf, isUpTo, isFrom}
@@ -54,7 +54,7 @@ module _ (kind width key : ℕ) (small : key < 2 ^ 28) where
 -- the lowest field
 abbrev pub keyIn : Word → ℕ
 keyIn (Head now used) = now
-keyIn (Class number dollar half) = number
+keyIn (Class number ds) = number
 keyIn (Close price) = price
 keyIn (Volume contracts) = contracts
 keyIn (Expiration month) = month
@@ -72,7 +72,7 @@ widthOf kind =
 
 key-packed : (x : Word) → Fits x → field (packed x) 0 (widthOf (kindIn x)) ≡ keyIn x
 key-packed (Head now used) fits = omega arith
-key-packed (Class number dollar half) fits = omega arith
+key-packed (Class number ds) fits = class-fields (packed (Class number ds)) number ds fits refl .0
 key-packed (Close price) fits = omega arith
 key-packed (Volume contracts) fits = omega arith
 key-packed (Expiration month) fits = omega arith

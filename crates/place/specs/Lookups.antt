@@ -8,7 +8,7 @@ use Rattle.word.specs.Limits.{isClassNumber, isMonth}
 use Rattle.book.specs.Facts.{Facts}
 use Rattle.book.specs.Layout.{factsOf, used}
 use Rattle.book.specs.Books.{isBook}
-use Rattle.book.specs.Calls.{isStanding}
+use Rattle.book.specs.Views.{viewOf, isStanding}
 use Rattle.book.specs.Places.{ClassBegins, classPlace, hasExpiration, strikesPlace, strikesEnd, strikePlace}
 use Rattle.place.specs.declared.lookup.Expiration.{Expiration}
 use Rattle.place.specs.declared.lookup.StrikeSearch.{StrikeSearch}
@@ -24,7 +24,7 @@ expirationOf c m f = record { from = strikesPlace c m f; to = strikesEnd c m f }
 
 abbrev pub strikeSearchOf : ℕ → ℕ → ℕ → Facts → StrikeSearch
 strikeSearchOf c m h f =
-    record { at = strikePlace c m h f; expiration = hasExpiration c m f; standing = isStanding f c m h }
+    record { at = strikePlace c m h f; expiration = hasExpiration c m f; standing = isStanding (viewOf c f) m h }
 
 -- whether it is worth to remember where the class c was found: in a book of more than 256 words
 abbrev pub isRemembered : ℕ → Facts → Bool

@@ -2,12 +2,13 @@
 use Prim.Native.Nat.{ℕ, suc, _+_, _-_, _*_, _^_, _<_}
 use mathlib.Core.Path.{_≡_}
 use mathlib.Core.Bool.{Bool, true, cond, not, _&&_}
-use mathlib.Core.List.{List, [], _∷_}
+use mathlib.Core.List.{List, [], _∷_, map}
 use lib.ListN.{drop, getD, length, take}
 use lib.Dec.{eqb, leb, ltb}
 use Rattle.word.specs.declared.class.ClassRecord.{ClassRecord}
 use Rattle.word.specs.Field.{field}
 use Rattle.word.specs.Codec.{kindOf}
+use Rattle.word.specs.Programs.{programs}
 
 module _ {A : Type 0} (test : A → Bool) where
   -- how many stand before the first that passes the test
@@ -72,6 +73,5 @@ figuresAt at ws =
       number = field (getD ws at 0) 0 14;
       close = field (getD ws (at + 1) 0) 0 20;
       volume = field (getD ws (at + 2) 0) 0 24;
-      dollar = field (getD ws at 0) 14 2;
-      half = field (getD ws at 0) 16 2;
+      designations = map (λ g. field (getD ws at 0) (g .low) 2) programs;
     }

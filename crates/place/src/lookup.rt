@@ -20,6 +20,8 @@ use word::class::ClassRecord;
 use word::codec::expiration_word;
 use word::field::field_of;
 use word::limits::is_class_number;
+use word::programs::DOLLAR_LOW;
+use word::programs::HALF_LOW;
 
 // Where the strikes of an expiration stand; where it has none, both are the index before which its word would stand.
 pub struct Expiration {
@@ -39,12 +41,15 @@ pub fn figures_at(run: &[u32], at: usize) -> ClassRecord
     requires { ⌜ at + 2 < length (now run) ⌝ }
     ensures { λ r. ⌜ r ≡ figuresAt at (now (run .entry)) ⌝ }
 {
+    let designations = [
+        field_of(run[at], DOLLAR_LOW, 2),
+        field_of(run[at], HALF_LOW, 2),
+    ];
     ClassRecord {
         number: field_of(run[at], 0, 14),
         close: field_of(run[at + 1], 0, 20),
         volume: field_of(run[at + 2], 0, 24),
-        dollar: field_of(run[at], 14, 2),
-        half: field_of(run[at], 16, 2),
+        designations,
     }
 }
 

@@ -13,6 +13,8 @@ use word::caps::DollarCount;
 use word::caps::HalfCount;
 use word::codec::kind;
 use word::field::field_of;
+use word::programs::DOLLAR_LOW;
+use word::programs::HALF_LOW;
 
 // The designation of a class word from bit `low` on; 0 of any other word.
 fn designation_in(w: u32, low: u32) -> u32
@@ -30,7 +32,7 @@ pub fn own_dollars(run: &[u32]) -> DollarCount
     let mut count = DollarCount(0);
     let mut i = 1;
     while i < used {
-        count = count.counted(designation_in(run[i], 14));
+        count = count.counted(designation_in(run[i], DOLLAR_LOW));
         i += 1;
     }
     count
@@ -44,7 +46,7 @@ pub fn own_halves(run: &[u32]) -> HalfCount
     let mut count = HalfCount(0);
     let mut i = 1;
     while i < used {
-        count = count.counted(designation_in(run[i], 16));
+        count = count.counted(designation_in(run[i], HALF_LOW));
         i += 1;
     }
     count

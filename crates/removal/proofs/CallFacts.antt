@@ -11,7 +11,8 @@ use Rattle.rule.specs.Lists.{every}
 use Rattle.book.specs.Facts.{Series, Facts, withSeries}
 use Rattle.book.specs.Layout.{used, layout, factsOf}
 use Rattle.book.specs.Books.{isSeries, isBook}
-use Rattle.book.specs.Calls.{callR, class, update, changed, acceptedValue}
+use Rattle.book.specs.Views.{class}
+use Rattle.book.specs.Changes.{update, classReviewed, reviewedCount}
 use Rattle.book.proofs.Tests.{ands}
 use Rattle.book.proofs.Forms.{areSeries}
 use Rattle.book.proofs.ClassWords.{series-good}
@@ -82,9 +83,9 @@ module _ (ws : List ℕ) (from to close : ℕ) (x : Reviewable ws from to close)
 
   pub reviewed :
       (ys : List ℕ) (r : ℕ) → RemovedFrom close (factsOf ws .now) from to (used (factsOf ws)) ws ys r
-      → (r ≡ acceptedValue (callR (x .number)) (factsOf ws))
-      × (ys ≡ layout (length ws) (changed (callR (x .number)) (factsOf ws)))
-  unfolding changed acceptedValue
+      → (r ≡ reviewedCount (class (factsOf ws) (x .number)))
+      × (ys ≡ layout (length ws) (update (classReviewed (class (factsOf ws) (x .number))) (factsOf ws)))
+  unfolding reviewedCount
   reviewed ys r R =
       let f = factsOf ws in
       let c = x .number in

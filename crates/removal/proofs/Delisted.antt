@@ -13,7 +13,8 @@ use Rattle.word.specs.Codec.{Word, Head, packed}
 use Rattle.book.specs.Facts.{Facts}
 use Rattle.book.specs.Layout.{strikeWord, expirationUnless, used, layout, factsOf}
 use Rattle.book.specs.Books.{isBook, isWellFormed}
-use Rattle.book.specs.Calls.{callX, changed}
+use Rattle.book.specs.Views.{class}
+use Rattle.book.specs.Changes.{update, strikeRemoved}
 use Rattle.book.proofs.Splices.{Spliced, used-spliced, place-inside, delisting}
 use Rattle.book.proofs.SplicedRuns.{front, back, zeros, place-is, run-was, run-is}
 use Rattle.book.proofs.Runs.{standing-within}
@@ -116,7 +117,7 @@ module _
       → part ≡ closed (cond {A = ℕ} b 2 1) (midOf from (end - from) ws)
       → head ≡ packed (Head month (end - cond {A = ℕ} b 2 1))
       → set (putMid from (end - from) ws part) 0 head
-      ≡ layout (length ws) (changed (callX (x .class) (x .month) (x .strike)) (factsOf ws))
+      ≡ layout (length ws) (update (strikeRemoved (x .month) (x .strike) (class (factsOf ws) (x .class))) (factsOf ws))
   delisted b is from head part place moved counted =
       let d =
       delisting (length ws) (factsOf ws) (x .class) good (x .is-open) (x .month) (x .strike) b (x .standing)

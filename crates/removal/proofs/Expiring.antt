@@ -12,7 +12,7 @@ use Rattle.rule.specs.Lists.{every}
 use Rattle.book.specs.Facts.{OpenClass, Facts}
 use Rattle.book.specs.Layout.{figuresWords, classesWords, used, layout, factsOf}
 use Rattle.book.specs.Books.{isClass, isBook}
-use Rattle.book.specs.Calls.{callM, changed}
+use Rattle.book.specs.Changes.{monthSet}
 use Rattle.book.proofs.Tests.{ands}
 use Rattle.book.proofs.Runs.{run-parts}
 use Rattle.place.specs.Search.{firstAt, isUpTo}
@@ -242,12 +242,12 @@ module _ (m : ℕ) (ws : List ℕ) where
         T (isBook ws) → used facts ≤ at → (run′ : List ℕ) (r : ℕ) → length run′ ≡ length run
         → MovedTo written kept (used facts) run run′ → r ≡ written + (used facts - kept)
         → (zs : List ℕ) → zs ≡ replicate (length (stretch r (used facts) run′)) 0
-        → set (putMid r (used facts - r) run′ zs) 0 (packed (Head m r)) ≡ layout (length ws) (changed (callM m) facts)
-    unfolding changed layout
+        → set (putMid r (used facts - r) run′ zs) 0 (packed (Head m r)) ≡ layout (length ws) (monthSet m facts)
+    unfolding monthSet layout
     expire-done book l run′ r long M count zs z =
         let n = length ws in
         let end = used facts in
-        let g = changed (callM m) facts in
+        let g = monthSet m facts in
         let passed = E .passed in
         let within = E .within in
         let behind = E .behind in

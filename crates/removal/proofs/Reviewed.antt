@@ -11,7 +11,7 @@ use Rattle.rule.specs.Terms.{cents}
 use Rattle.rule.specs.Spacing.{apart}
 use Rattle.book.specs.Facts.{Series, OpenClass, isMarked}
 use Rattle.book.specs.Books.{isSeries}
-use Rattle.book.specs.Calls.{isReviewed}
+use Rattle.book.specs.Views.{isReviewed}
 use Rattle.book.proofs.Tests.{and-left, and-right, and-intro, ands, same-bool}
 use Rattle.removal.specs.declared.marks.Bounds.{Bounds}
 use Rattle.removal.specs.Marks.{noneMarked, widened}

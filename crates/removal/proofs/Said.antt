@@ -43,7 +43,7 @@ module _ {A : Type 0} (expiration : A) (strike : (h ground put call : ℕ) → A
       (P : A → Type 0) → P expiration → ((h ground put call : ℕ) → P (strike h ground put call))
       → P other → (x : Word) → P (byKind expiration strike other x)
   by-each P e s o (Head now used) = o
-  by-each P e s o (Class number dollar half) = o
+  by-each P e s o (Class number ds) = o
   by-each P e s o (Close price) = o
   by-each P e s o (Volume contracts) = o
   by-each P e s o (Expiration month) = e

@@ -8,7 +8,7 @@ use lib.ListN.{length}
 use Rattle.book.specs.Facts.{isOpen}
 use Rattle.book.specs.Layout.{factsOf, seriesWords}
 use Rattle.book.specs.Books.{isBook}
-use Rattle.book.specs.Calls.{class, isStanding}
+use Rattle.book.specs.Views.{viewOf, class, isStanding}
 use Rattle.book.specs.Places.{classPlace, strikePlace, strikesEnd, strikesPlace}
 
 -- a strike stands at `at`, `alone` in its expiration or not
@@ -18,7 +18,7 @@ pub record Delistable (ws : List ℕ) (at : ℕ) (alone : Bool) : Type 0 where
   pub month : ℕ
   pub strike : ℕ
   pub is-open : T (isOpen class (factsOf ws .classes))
-  pub standing : T (isStanding (factsOf ws) class month strike)
+  pub standing : T (isStanding (viewOf class (factsOf ws)) month strike)
   pub place : at ≡ strikePlace class month strike (factsOf ws)
   pub last : alone ≡ eqb (strikesEnd class month (factsOf ws)) (strikesPlace class month (factsOf ws) + 1)
 

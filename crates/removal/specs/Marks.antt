@@ -14,7 +14,7 @@ said w = fieldsAs (kindOf w) w
 module _ {A : Type 0} (expiration : A) (strike : (h ground put call : ℕ) → A) (other : A) where
   abbrev pub byKind : Word → A
   byKind (Head now used) = other
-  byKind (Class number dollar half) = other
+  byKind (Class number ds) = other
   byKind (Close price) = other
   byKind (Volume contracts) = other
   byKind (Expiration month) = expiration

@@ -5,7 +5,7 @@ ghost use lib.Dec.{T};
 ghost use lib.ListN.{length};
 ghost use Rattle.book.specs.Layout.{layout, factsOf};
 ghost use Rattle.book.specs.Books.{isBook};
-ghost use Rattle.book.specs.Calls.{callM, changed};
+ghost use Rattle.book.specs.Changes.{monthSet};
 ghost use Rattle.removal.specs.Expiry.{MovedTo};
 use crate::gap::move_down_by;
 use place::head;
@@ -29,7 +29,7 @@ fn move_to(run: &mut [u32], to: usize, from: usize, end: usize) -> usize
 // `M`: the months before m go, and m is the month.
 pub fn expire(run: &mut [u32], m: u32)
     requires { ⌜ T (isBook (now run)) × (m ≤ 1023) ⌝ }
-    ensures { λ _. ⌜ now (run .exit) ≡ layout (length (now (run .entry))) (changed (callM m) (factsOf (now (run .entry)))) ⌝ }
+    ensures { λ _. ⌜ now (run .exit) ≡ layout (length (now (run .entry))) (monthSet m (factsOf (now (run .entry)))) ⌝ }
 {
     let end = head::used(run);
     let mut written = 1;

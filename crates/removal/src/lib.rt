@@ -2,7 +2,8 @@
 ghost use mathlib.Core.Path.{_≡_};
 ghost use lib.ListN.{length};
 ghost use Rattle.book.specs.Layout.{layout, factsOf};
-ghost use Rattle.book.specs.Calls.{callX, callR, changed, acceptedValue};
+ghost use Rattle.book.specs.Views.{class};
+ghost use Rattle.book.specs.Changes.{classReviewed, reviewedCount, strikeRemoved, update};
 ghost use Rattle.removal.specs.Asked.{Delistable, Removable, Reviewable};
 ghost use Rattle.removal.specs.Compaction.{RemovedFrom};
 use crate::compaction::compact;
@@ -33,10 +34,10 @@ fn remove(run: &mut [u32], from: usize, to: usize, end: usize, month: u32, close
 // `X`: the strike whose word stands at `at` goes; with it its expiration word, where it is `alone` behind that.
 pub fn delist(run: &mut [u32], at: usize, alone: bool)
     requires { ⌜ Delistable (now run) at alone ⌝ }
-    ensures { λ _. ⌜ ((x : Delistable (now (run .entry)) at alone)
+    ensures { λ _. ⌜ (let f = factsOf (now (run .entry)) in
+        (x : Delistable (now (run .entry)) at alone)
         → now (run .exit)
-        ≡ layout (length (now (run .entry)))
-        (changed (callX (x .class) (x .month) (x .strike)) (factsOf (now (run .entry))))) ⌝ }
+        ≡ layout (length (now (run .entry))) (update (strikeRemoved (x .month) (x .strike) (class f (x .class))) f)) ⌝ }
 {
     let end = head::used(run);
     let month = head::current(run);
@@ -55,8 +56,8 @@ pub fn review(run: &mut [u32], from: usize, to: usize, close: u32) -> usize
     requires { ⌜ Reviewable (now run) from to close ⌝ }
     ensures { λ r. ⌜ (let f = factsOf (now (run .entry)) in
         (x : Reviewable (now (run .entry)) from to close)
-        → (r ≡ acceptedValue (callR (x .number)) f)
-        × (now (run .exit) ≡ layout (length (now (run .entry))) (changed (callR (x .number)) f))) ⌝ }
+        → (r ≡ reviewedCount (class f (x .number)))
+        × (now (run .exit) ≡ layout (length (now (run .entry))) (update (classReviewed (class f (x .number))) f))) ⌝ }
 {
     let end = head::used(run);
     let month = head::current(run);

@@ -11,14 +11,16 @@ use lib.Dec.{T, eqb, leb, ltb, leb→le, le→leb, eqb→eq}
 use borrow.Author.Tests.{not-true, not-false}
 use Rattle.word.specs.Codec.{Head, isLegal, packed}
 use Rattle.word.specs.Limits.{isLength, isMonth}
+use Rattle.word.specs.Programs.{program}
 use Rattle.word.specs.Field.{field}
 use Rattle.rule.specs.Lists.{every}
-use Rattle.book.specs.Facts.{OpenClass, Facts, number, capOf, owned, wordsTaken}
+use Rattle.book.specs.Facts.{OpenClass, Facts, number, owned, wordsTaken}
 use Rattle.book.specs.Layout.{classesWords, used, layout, factsOf}
 use Rattle.book.specs.Books.{rises, isClass, isWellFormed, isBook}
 use Rattle.word.proofs.Words.{head-fields}
 use Rattle.book.proofs.LegalWords.{fits}
 use Rattle.book.proofs.Tests.{and-intro, ands, true-T, same-bool}
+use Rattle.book.proofs.Forms.{well}
 use Rattle.book.proofs.Layouts.{used-taken, book-facts, book-exactly}
 use Rattle.scan.specs.Tests.{isZero, isHeadWord}
 use Rattle.scan.specs.Stretches.{leads, Classes}
@@ -105,8 +107,8 @@ module _ (ws : List ℕ) (f : Facts) (good : T (isWellFormed (length ws) f)) (la
               legal = search ands;
               rising = search ands;
               leading = numbered (f .now) xs (search ands);
-              dollarCapped = omega (arith, leb→le (owned 1 xs) (capOf 1) (search ands depth 12));
-              halfCapped = omega (arith, leb→le (owned 2 xs) (capOf 2) (search ands depth 12));
+              dollarCapped = omega (arith, well n f good .caps 1 tt);
+              halfCapped = omega (arith, well n f good .caps 2 tt);
             });
         zeros = rw (fields .1, rest, all) (zeros-replicate (n - u));
       }
@@ -146,8 +148,8 @@ module _ (ws : List ℕ) (p : Parts ws) where
       let month : T (isMonth (monthIn ws)) = le→leb (monthIn ws) 1023 (omega arith) in
       let legal : T (every (isClass (monthIn ws)) xs) = c .legal in
       let rising : T (rises (λ x y. ltb (number x) (number y)) xs) = c .rising in
-      let dollars : T (leb (owned 1 xs) (capOf 1)) = le→leb (owned 1 xs) (capOf 1) (omega (arith, c .dollarCapped)) in
-      let halves : T (leb (owned 2 xs) (capOf 2)) = le→leb (owned 2 xs) (capOf 2) (omega (arith, c .halfCapped)) in
+      let dollars = le→leb (owned 1 xs) (program 1 .cap) (omega (arith, c .dollarCapped)) in
+      let halves = le→leb (owned 2 xs) (program 2 .cap) (omega (arith, c .halfCapped)) in
       search and-intro depth 8
 
   told-laid : layout (length ws) told ≡ ws

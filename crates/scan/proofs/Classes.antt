@@ -10,11 +10,12 @@ use lib.Dec.{T, ltb}
 use borrow.Author.Tests.{ltb-true, ltb-false, not-true, not-false}
 use Rattle.word.specs.Field.{field}
 use Rattle.word.specs.Caps.{own}
+use Rattle.word.specs.Programs.{program, dollarProgram, halfProgram}
 use Rattle.rule.specs.Lists.{every}
-use Rattle.book.specs.Facts.{OpenClass, capOf}
+use Rattle.book.specs.Facts.{OpenClass}
 use Rattle.book.specs.Books.{isClass}
 use Rattle.book.proofs.Tests.{and-intro, ands, true-T}
-use Rattle.scan.specs.Tests.{isClassAbove, isCloseWord, isVolumeWord}
+use Rattle.scan.specs.Tests.{designationIn, isClassAbove, isCloseWord, isVolumeWord}
 use Rattle.scan.specs.Stretches.{isFrom, SeriesThen, ClassesWhere, Classes, SeriesEnd}
 use Rattle.scan.proofs.Tests.{or-none}
 use Rattle.scan.proofs.Places.{three-at}
@@ -23,8 +24,8 @@ use Rattle.scan.proofs.Figures.{FiguresThen, figures, classes-length}
 -- the classes after the head are what they are after those before i, of which `last` is the last number
 pub record Walked (now : ℕ) (ws : List ℕ) (i last dollars halves : ℕ) : Type 0 where
   pub within : i ≤ length ws
-  pub dollarCapped : dollars ≤ capOf 1
-  pub halfCapped : halves ≤ capOf 2
+  pub dollarCapped : dollars ≤ program 1 .cap
+  pub halfCapped : halves ≤ program 2 .cap
   pub same : Classes now 0 0 0 (drop 1 ws) ↔ Classes now last dollars halves (drop i ws)
 
 -- the same after the figures at i
@@ -92,7 +93,8 @@ module _ {now : ℕ} {ws : List ℕ} {i last dollars halves : ℕ} (v : Walked n
     pub walked-counted :
         not (areFiguresAt ws i last) ≡ false
         → let w = getD ws i 0 in
-        Counted now ws i (field w 0 14) (dollars + own (field w 14 2)) (halves + own (field w 16 2))
+        Counted now ws i (field w 0 14) (dollars + own (designationIn dollarProgram w))
+        (halves + own (designationIn halfProgram w))
     walked-counted t =
         let all : T (areFiguresAt ws i last) = true-T (areFiguresAt ws i last) (not-false (areFiguresAt ws i last) t) in
         record {
@@ -119,10 +121,11 @@ replaced f c =
     }
 
 module _ {now : ℕ} {ws : List ℕ} {i last dollars halves : ℕ} (v : Counted now ws i last dollars halves) where
-  pub counted-exceeded : (ltb (capOf 1) dollars || ltb (capOf 2) halves) ≡ true → Classes now 0 0 0 (drop 1 ws) → ⊥
-  counted-exceeded t r = go (ltb (capOf 1) dollars) refl t
+  pub counted-exceeded :
+      (ltb (program 1 .cap) dollars || ltb (program 2 .cap) halves) ≡ true → Classes now 0 0 0 (drop 1 ws) → ⊥
+  counted-exceeded t r = go (ltb (program 1 .cap) dollars) refl t
     where
-      go : (over : Bool) → ltb (capOf 1) dollars ≡ over → (over || ltb (capOf 2) halves) ≡ true → ⊥
+      go : (over : Bool) → ltb (program 1 .cap) dollars ≡ over → (over || ltb (program 2 .cap) halves) ≡ true → ⊥
       go true d t = omega (arith, ltb-true, v .same .0 r .dollarCapped)
       go false d t = omega (arith, ltb-true, v .same .0 r .halfCapped)
 
@@ -132,14 +135,14 @@ module _ {now : ℕ} {ws : List ℕ} {i last dollars halves : ℕ} (v : Counted 
   counted-breaks breaks r = let c = v .same .0 r in breaks (c .classes) (c .legal) (c .holds)
 
   pub counted-more :
-      (j : ℕ) → (ltb (capOf 1) dollars || ltb (capOf 2) halves) ≡ false → SeriesEnd now ws (i + 3) j
+      (j : ℕ) → (ltb (program 1 .cap) dollars || ltb (program 2 .cap) halves) ≡ false → SeriesEnd now ws (i + 3) j
       → Walked now ws j last dollars halves
   counted-more j t e =
-      let few = or-none (ltb (capOf 1) dollars) (ltb (capOf 2) halves) t in
+      let few = or-none (ltb (program 1 .cap) dollars) (ltb (program 2 .cap) halves) t in
       record {
         within = e .within;
-        dollarCapped = ltb-false (capOf 1) dollars (few .0);
-        halfCapped = ltb-false (capOf 2) halves (few .1);
+        dollarCapped = ltb-false (program 1 .cap) dollars (few .0);
+        halfCapped = ltb-false (program 2 .cap) halves (few .1);
         same = (
           λ r. replaced (λ xs legal. e .rest xs legal .0) (v .same .0 r),
           λ r. v .same .1 (replaced (λ xs legal. e .rest xs legal .1) r),

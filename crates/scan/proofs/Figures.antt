@@ -5,22 +5,24 @@ use mathlib.Core.Logic.{_↔_}
 use mathlib.Core.Bool.{Bool, _&&_}
 use mathlib.Core.List.{List, [], _∷_, map}
 use native.Mathlib.Omega.{arith}
-use lib.ListN.{length}
+use lib.ListN.{length, getD}
 use lib.Dec.{T, ltb, le→leb}
-use Rattle.word.specs.Codec.{Class, Close, Volume, isLegal, packed}
+use Rattle.word.specs.Codec.{Close, Volume, isLegal, packed}
 use Rattle.word.specs.Limits.{isClose, isVolume}
 use Rattle.word.specs.Field.{field}
 use Rattle.word.specs.Caps.{own}
+use Rattle.word.specs.Programs.{program, dollarProgram, halfProgram}
+use Rattle.word.specs.Class.{designation}
 use Rattle.rule.specs.Lists.{every}
-use Rattle.book.specs.Facts.{Series, OpenClass, number, precedes, capOf, owned}
-use Rattle.book.specs.Layout.{seriesWords, classesWords}
+use Rattle.book.specs.Facts.{Series, OpenClass, number, precedes, owned}
+use Rattle.book.specs.Layout.{seriesWords, classWord, classesWords}
 use Rattle.book.specs.Books.{rises, isSeries, areFigures, isClass}
 use Rattle.word.proofs.Words.{class-fields}
 use Rattle.book.proofs.LegalWords.{fits}
 use Rattle.book.proofs.Tests.{and-intro, ands}
-use Rattle.scan.specs.Tests.{isClassAbove, isCloseWord, isVolumeWord}
+use Rattle.scan.specs.Tests.{designationIn, isClassAbove, isCloseWord, isVolumeWord}
 use Rattle.scan.specs.Stretches.{leads, isFrom, SeriesThen, ClassesWhere, Classes}
-use Rattle.scan.proofs.Words.{figuresIn, class-packed, class-test, close-packed, close-test, volume-packed, volume-test}
+use Rattle.scan.proofs.Words.{figuresIn, classIn, class-packed, class-test, close-packed, close-test, volume-packed, volume-test}
 use Rattle.scan.proofs.Series.{rises-first}
 
 -- the class's words w, c and v pass their tests, and the words ws after them are those of its series and of classes that may follow it
@@ -29,7 +31,8 @@ pub record FiguresThen (now last dollars halves w c v : ℕ) (ws : List ℕ) : T
   pub close : T (isCloseWord c)
   pub volume : T (isVolumeWord v)
   pub rest :
-      ClassesWhere now (field w 0 14) (dollars + own (field w 14 2)) (halves + own (field w 16 2))
+      ClassesWhere now (field w 0 14) (dollars + own (designationIn dollarProgram w))
+      (halves + own (designationIn halfProgram w))
       (λ xs. SeriesThen now 0 (isFrom 0) xs ws)
 
 abbrev byNumber : OpenClass → OpenClass → Bool
@@ -47,23 +50,24 @@ module _ (now last dollars halves w c v : ℕ) (ws : List ℕ) where
       go :
           (xs : List OpenClass) → map packed (classesWords xs []) ≡ w ∷ c ∷ v ∷ ws → T (every (isClass now) xs)
           → T (rises byNumber xs) → T (leads (λ x. ltb last (number x)) xs)
-          → dollars + owned 1 xs ≤ capOf 1 → halves + owned 2 xs ≤ capOf 2
+          → dollars + owned 1 xs ≤ program 1 .cap → halves + owned 2 xs ≤ program 2 .cap
           → FiguresThen now last dollars halves w c v ws
       go [] e legal rising leading d h = let z : _≡_ {A = ℕ} 0 1 = cc in absurd (omega arith)
       go (x ∷ xs) e legal rising leading d h =
           let f = x .figures in
-          let n = f .number in
-          let word : T (isLegal (Class n (f .dollar) (f .half))) = search (ands, and-intro) depth 12 in
-          let ew : packed (Class n (f .dollar) (f .half)) ≡ w = cc in
+          let word : T (isLegal (classWord f)) = search (ands, and-intro) depth 12 in
+          let ew : packed (classWord f) ≡ w = cc in
           let ec : packed (Close (f .close)) ≡ c = cc in
           let ev : packed (Volume (f .volume)) ≡ v = cc in
           let es : map packed (seriesWords 0 (x .series) (classesWords xs [])) ≡ ws = cc in
           let close : T (isClose (f .close)) = search ands depth 12 in
           let volume : T (isVolume (f .volume)) = search ands depth 12 in
-          let fields = class-fields w n (f .dollar) (f .half) (fits (Class n (f .dollar) (f .half)) word) ew in
+          let fields = class-fields w (f .number) (f .designations) (fits (classWord f) word) ew in
+          let dollar : designationIn dollarProgram w ≡ designation 1 f = ap (λ ds. getD ds 0 0) (fields .1) in
+          let half : designationIn halfProgram w ≡ designation 2 f = ap (λ ds. getD ds 1 0) (fields .1) in
           let order : T (leads (byNumber x) xs && rises byNumber xs) = rw (rises-first byNumber x xs) at rising in
           record {
-            class = class-test last w n (f .dollar) (f .half) word ew leading;
+            class = class-test last w f word ew leading;
             close = close-test c (f .close) close ec;
             volume = volume-test v (f .volume) volume ev;
             rest =
@@ -80,8 +84,8 @@ module _ (now last dollars halves w c v : ℕ) (ws : List ℕ) where
                   legal = search ands;
                   rising = search ands;
                   leading = rw (fields .0) (search ands);
-                  dollarCapped = rw (fields .1) (omega arith);
-                  halfCapped = rw (fields .2) (omega arith);
+                  dollarCapped = rw dollar (omega arith);
+                  halfCapped = rw half (omega arith);
                 };
           }
 
@@ -92,7 +96,7 @@ module _ (now last dollars halves w c v : ℕ) (ws : List ℕ) where
       let x : OpenClass = record { figures = figuresIn w c v; series = s .series } in
       let word = class-packed last w (r .class) in
       let class : T (isClassAbove last w) = r .class in
-      let legal : T (isLegal (Class (field w 0 14) (field w 14 2) (field w 16 2))) = word .1 in
+      let legal : T (isLegal (classIn w)) = word .1 in
       let close : T (isCloseWord c) = r .close in
       let volume : T (isVolumeWord v) = r .volume in
       let figures : T (areFigures (figuresIn w c v)) = search (ands, and-intro) depth 12 in

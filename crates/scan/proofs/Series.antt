@@ -8,11 +8,11 @@ use native.Mathlib.Omega.{arith}
 use lib.ListN.{drop, getD}
 use lib.Dec.{T, eqb, leb, ltb, leb→le, ltb→lt, lt→ltb, le→leb, eqb→eq}
 use borrow.Author.Tests.{eqb-true, eqb-false, eq-eqb, ne-eqb}
-use Rattle.word.specs.Codec.{Word, Class, Expiration, isLegal, packed, kindOf}
+use Rattle.word.specs.Codec.{Word, Expiration, isLegal, packed, kindOf}
 use Rattle.word.specs.Field.{field}
 use Rattle.rule.specs.Lists.{every}
 use Rattle.book.specs.Facts.{Series, OpenClass, precedes}
-use Rattle.book.specs.Layout.{strikeWord, expirationUnless, seriesWords, classesWords}
+use Rattle.book.specs.Layout.{strikeWord, classWord, expirationUnless, seriesWords, classesWords}
 use Rattle.book.specs.Books.{rises, isListed, isSeries, isClass}
 use Rattle.word.proofs.Words.{kind-packed}
 use Rattle.book.proofs.Alternatives.{or-left, or-right}
@@ -72,7 +72,7 @@ module _ (now : ℕ) where
   class-first (x ∷ xs) w ws legal e =
       let f = x .figures in
       let word = figures-legal f (search ands) .0 in
-      kind-packed (Class (f .number) (f .dollar) (f .half)) w (fits (Class (f .number) (f .dollar) (f .half)) word) (cc)
+      kind-packed (classWord f) w (fits (classWord f) word) (cc)
 
 module _ (now : ℕ) (xs : List OpenClass) (classesLegal : T (every (isClass now) xs)) where
   -- the classes' words, and those of series before them

@@ -1,21 +1,23 @@
 -- A raw word passes a test exactly when it is a packed word of that kind in its limits: by its fields. Assumes nothing.
 use Prim.Native.Nat.{ℕ, _+_, _*_, _/_, _^_, _<_, min, max}
-use mathlib.Core.Path.{_≡_}
+use mathlib.Core.Path.{_≡_, sym, ap, _∙_, subst}
 use mathlib.Core.Bool.{Bool, _&&_}
+use mathlib.Core.List.{List, map}
 use native.Mathlib.Omega.{arith}
 use lib.Dec.{T, eqb, leb, ltb, leb→le, ltb→lt, lt→ltb, le→leb, eqb→eq}
 use lib.Pow.{shr-shr}
 use Rattle.word.specs.declared.class.ClassRecord.{ClassRecord}
-use Rattle.word.specs.Codec.{Head, Class, Close, Volume, Expiration, isLegal, packed, Fits, kindOf}
+use Rattle.word.specs.Programs.{programs, dollarProgram, halfProgram}
+use Rattle.word.specs.Codec.{Word, Head, Class, Close, Volume, Expiration, isLegal, packed, Fits, kindOf}
 use Rattle.word.specs.Limits.{between, isMonth, isVolume, isDesignation, isClose, isGround, isMark}
 use Rattle.word.specs.Field.{field}
 use Rattle.word.proofs.Words.{class-fields, strike-fields}
 use Rattle.book.specs.Facts.{Series}
-use Rattle.book.specs.Layout.{strikeWord}
+use Rattle.book.specs.Layout.{strikeWord, classWord}
 use Rattle.book.specs.Books.{isListed}
 use Rattle.book.proofs.LegalWords.{fits}
 use Rattle.book.proofs.Tests.{and-intro, ands, equal-test, same-bool}
-use Rattle.scan.specs.Tests.{isClassAbove, isCloseWord, isVolumeWord}
+use Rattle.scan.specs.Tests.{designationIn, isClassAbove, isCloseWord, isVolumeWord}
 
 -- ---- the head
 
@@ -81,6 +83,13 @@ strike-test above w s legal e l =
 
 -- ---- the three words of a class's figures
 
+-- the designations that a class word says, and what it says in all
+abbrev designationsIn : ℕ → List ℕ
+designationsIn w = map (λ g. designationIn g w) programs
+
+abbrev pub classIn : ℕ → Word
+classIn w = Class (field w 0 14) (designationsIn w)
+
 -- the figures that three words say
 abbrev pub figuresIn : ℕ → ℕ → ℕ → ClassRecord
 figuresIn w c v =
@@ -88,14 +97,11 @@ figuresIn w c v =
       number = field w 0 14;
       close = field c 0 28;
       volume = field v 0 28;
-      dollar = field w 14 2;
-      half = field w 16 2;
+      designations = designationsIn w;
     }
 
 pub class-packed :
-    (above w : ℕ) → T (isClassAbove above w)
-    → (packed (Class (field w 0 14) (field w 14 2) (field w 16 2)) ≡ w)
-    × T (isLegal (Class (field w 0 14) (field w 14 2) (field w 16 2)))
+    (above w : ℕ) → T (isClassAbove above w) → (packed (classIn w) ≡ w) × T (isLegal (classIn w))
 class-packed above w t =
     let top : w / 2 ^ 18 ≡ 2 * 2 ^ 10 = eqb→eq (w / 2 ^ 18) (2 * 2 ^ 10) (search ands) in
     let l : above < field w 0 14 = ltb→lt above (field w 0 14) (search ands) in
@@ -103,21 +109,22 @@ class-packed above w t =
     let b : w / 2 ^ 16 / 2 ^ 2 ≡ w / 2 ^ 18 = shr-shr w 16 2 in
     let low : T (leb 1 (field w 0 14)) = le→leb 1 (field w 0 14) (omega arith) in
     let high : T (leb (field w 0 14) 16383) = le→leb (field w 0 14) 16383 (omega arith) in
-    let dollar : T (isDesignation (field w 14 2)) = search ands in
-    let half : T (isDesignation (field w 16 2)) = search ands in
+    let dollar : T (isDesignation (designationIn dollarProgram w)) = search ands in
+    let half : T (isDesignation (designationIn halfProgram w)) = search ands in
     (omega arith, search and-intro)
 
 pub class-test :
-    (above w n d e : ℕ) → T (isLegal (Class n d e)) → packed (Class n d e) ≡ w → T (ltb above n) → T (isClassAbove above w)
-class-test above w n d e legal q l =
-    let small = fits (Class n d e) legal in
-    let f = class-fields w n d e small q in
+    (above w : ℕ) (r : ClassRecord) → T (isLegal (classWord r)) → packed (classWord r) ≡ w → T (ltb above (r .number))
+    → T (isClassAbove above w)
+class-test above w r legal q l =
+    let f = class-fields w (r .number) (r .designations) (fits (classWord r) legal) q in
+    let said : classIn w ≡ classWord r = λ i. Class (f .0 i) (f .1 i) in
+    let whole : packed (classIn w) ≡ w = ap packed said ∙ q in
+    let limits : T (isLegal (classIn w)) = subst (λ (x : Word). T (isLegal x)) (sym said) legal in
     let top : w / 2 ^ 18 ≡ 2 * 2 ^ 10 = omega arith in
     let a : T (eqb (w / 2 ^ 18) (2 * 2 ^ 10)) = equal-test (w / 2 ^ 18) (2 * 2 ^ 10) top in
     let b : T (ltb above (field w 0 14)) = rw (f .0) l in
-    let c : T (isDesignation (field w 14 2)) = rw (f .1) (search ands) in
-    let h : T (isDesignation (field w 16 2)) = rw (f .2) (search ands) in
-    search and-intro
+    search (ands, and-intro)
 
 -- ---- the words of a kind and one number
 

@@ -6,9 +6,10 @@ use mathlib.Core.Bool.{Bool, true}
 use mathlib.Core.List.{List, [], _∷_, map}
 use lib.ListN.{length, drop}
 use lib.Dec.{T, leb, ltb}
+use Rattle.word.specs.Programs.{program}
 use Rattle.word.specs.Codec.{packed}
 use Rattle.rule.specs.Lists.{every}
-use Rattle.book.specs.Facts.{Series, OpenClass, number, isBelow, precedes, capOf, owned}
+use Rattle.book.specs.Facts.{Series, OpenClass, number, isBelow, precedes, owned}
 use Rattle.book.specs.Layout.{seriesWords, classesWords}
 use Rattle.book.specs.Books.{rises, isSeries, isClass}
 use Rattle.scan.specs.Ahead.{Tells}
@@ -40,8 +41,8 @@ pub record ClassesWhere (now last dollars halves : ℕ) (Holds : List OpenClass 
   pub legal : T (every (isClass now) classes)
   pub rising : T (rises isBelow classes)
   pub leading : T (leads (λ x. ltb last (number x)) classes)
-  pub dollarCapped : dollars + owned 1 classes ≤ capOf 1
-  pub halfCapped : halves + owned 2 classes ≤ capOf 2
+  pub dollarCapped : dollars + owned 1 classes ≤ program 1 .cap
+  pub halfCapped : halves + owned 2 classes ≤ program 2 .cap
 
 -- ws are the words of such classes
 abbrev pub Classes : ℕ → ℕ → ℕ → ℕ → List ℕ → Type 0

@@ -4,6 +4,7 @@ use mathlib.Core.Bool.{Bool, cond, _&&_}
 use mathlib.Core.List.{List, [], _∷_}
 use lib.Dec.{eqb, leb, ltb}
 use Rattle.word.specs.Limits.{isGround, isDesignation, isClose, isVolume}
+use Rattle.word.specs.Programs.{Program, dollarProgram, halfProgram}
 use Rattle.word.specs.Field.{field}
 use Rattle.word.specs.Codec.{kindOf}
 
@@ -14,11 +15,16 @@ isZero w = eqb w 0
 abbrev pub isHeadWord : ℕ → ℕ → Bool
 isHeadWord n w = eqb (w / 2 ^ 26) (1 * 2 ^ 2) && (leb 1 (field w 10 16) && leb (field w 10 16) n)
 
+-- the designation in the program g that a class word says
+abbrev pub designationIn : Program → ℕ → ℕ
+designationIn g w = field w (g .low) 2
+
 -- a class word whose number is above the one before it
 abbrev pub isClassAbove : ℕ → ℕ → Bool
 isClassAbove above w =
     eqb (w / 2 ^ 18) (2 * 2 ^ 10)
-    && (ltb above (field w 0 14) && (isDesignation (field w 14 2) && isDesignation (field w 16 2)))
+    && (ltb above (field w 0 14)
+    && (isDesignation (designationIn dollarProgram w) && isDesignation (designationIn halfProgram w)))
 
 abbrev pub isCloseWord : ℕ → Bool
 isCloseWord w = eqb (kindOf w) 3 && isClose (field w 0 28)

@@ -28,6 +28,8 @@ use word::limits::is_close;
 use word::limits::is_designation;
 use word::limits::is_length;
 use word::limits::is_volume;
+use word::programs::DOLLAR_LOW;
+use word::programs::HALF_LOW;
 use word::zeros::zero_all;
 
 mod ahead;
@@ -44,7 +46,8 @@ fn is_class_above(w: u32, above: u32) -> bool
 {
     (field_of(w, 18, 14) == 2048)
         & ((above < field_of(w, 0, 14))
-            & (is_designation(field_of(w, 14, 2)) & is_designation(field_of(w, 16, 2))))
+            & (is_designation(field_of(w, DOLLAR_LOW, 2))
+                & is_designation(field_of(w, HALF_LOW, 2))))
 }
 
 fn is_close_word(w: u32) -> bool
@@ -125,8 +128,8 @@ fn are_classes(current: u32, s: &[u32]) -> bool
             return false;
         }
         last = field_of(w, 0, 14);
-        dollars = dollars.counted(field_of(w, 14, 2));
-        halves = halves.counted(field_of(w, 16, 2));
+        dollars = dollars.counted(field_of(w, DOLLAR_LOW, 2));
+        halves = halves.counted(field_of(w, HALF_LOW, 2));
         if dollars.is_exceeded() | halves.is_exceeded() {
             return false;
         }

@@ -9,8 +9,9 @@ use native.Mathlib.Omega.{arith}
 use lib.Dec.{leb→le}
 use Rattle.word.specs.Codec.{packed}
 use Rattle.book.specs.Layout.{expirationUnless, strikeWord}
+use Rattle.book.specs.Changes.{newSeries}
 use Rattle.edit.specs.Insertion.{insertWords}
-use Rattle.edit.proofs.Edits.{newSeries, listed-fits, listed-room, strike-inserted}
+use Rattle.edit.proofs.Edits.{listed-fits, listed-room, strike-inserted}
 use Rattle.edit.proofs.insert_strike.Statement.{statement}
 use Rattle.edit.proofs.insert_strike.Tie as tie
 

@@ -1,4 +1,5 @@
 -- `figures_at` reads the figures of a class: each field is what its call gives. Assumes nothing.
+use mathlib.Core.List.{[], _∷_}
 use borrow.Author.Needs.{needs}
 use Rattle.place.proofs.lookup.figures_at.Statement.{statement}
 use Rattle.place.proofs.lookup.figures_at.Tie as tie
@@ -12,9 +13,6 @@ shared-slice-read-field-of c = search needs
 field-of-requires : tie.Need-field-of-requires
 field-of-requires c κs = search needs
 
-add-field-of : tie.Need-add-field-of
-add-field-of c = search needs
-
 mul-field-of-2 : tie.Need-mul-field-of-2
 mul-field-of-2 c = search needs
 
@@ -23,9 +21,6 @@ shared-slice-read-field-of-2 c = search needs
 
 field-of-requires-2 : tie.Need-field-of-requires-2
 field-of-requires-2 c κs = search needs
-
-add-field-of-2 : tie.Need-add-field-of-2
-add-field-of-2 c = search needs
 
 mul-field-of-3 : tie.Need-mul-field-of-3
 mul-field-of-3 c = search needs
@@ -36,6 +31,9 @@ shared-slice-read-field-of-3 c = search needs
 field-of-requires-3 : tie.Need-field-of-requires-3
 field-of-requires-3 c κs = search needs
 
+add-field-of : tie.Need-add-field-of
+add-field-of c = search needs
+
 mul-field-of-4 : tie.Need-mul-field-of-4
 mul-field-of-4 c = search needs
 
@@ -44,6 +42,9 @@ shared-slice-read-field-of-4 c = search needs
 
 field-of-requires-4 : tie.Need-field-of-requires-4
 field-of-requires-4 c κs = search needs
+
+add-field-of-2 : tie.Need-add-field-of-2
+add-field-of-2 c = search needs
 
 mul-field-of-5 : tie.Need-mul-field-of-5
 mul-field-of-5 c = search needs
@@ -56,13 +57,17 @@ field-of-requires-5 c κs = search needs
 
 returns : tie.Need-returns
 returns c =
+    let volume = c in
+    let close = volume .before .before in
+    let number = close .before .before in
+    let half = number .before .before in
+    let dollar = half .before .before in
     λ i.
     record {
-      number = c .before .before .before .before .before .before .before .before .field-of .ensures i;
-      close = c .before .before .before .before .before .before .field-of2 .ensures i;
-      volume = c .before .before .before .before .field-of3 .ensures i;
-      dollar = c .before .before .field-of4 .ensures i;
-      half = c .field-of5 .ensures i;
+      number = number .field-of3 .ensures i;
+      close = close .field-of4 .ensures i;
+      volume = volume .field-of5 .ensures i;
+      designations = dollar .field-of .ensures i ∷ half .field-of2 .ensures i ∷ [];
     }
 
 pub figures-at-spec : {M : Type 1} → statement M
@@ -72,17 +77,17 @@ figures-at-spec =
     mul-field-of
     shared-slice-read-field-of
     field-of-requires
-    add-field-of
     mul-field-of-2
     shared-slice-read-field-of-2
     field-of-requires-2
-    add-field-of-2
     mul-field-of-3
     shared-slice-read-field-of-3
     field-of-requires-3
+    add-field-of
     mul-field-of-4
     shared-slice-read-field-of-4
     field-of-requires-4
+    add-field-of-2
     mul-field-of-5
     shared-slice-read-field-of-5
     field-of-requires-5

@@ -17,7 +17,7 @@ used-requires : tie.Need-used-requires Inv-loop μ-loop
 used-requires c κs = search needs
 
 loop-holds : tie.Need-loop-holds Inv-loop μ-loop
-loop-holds c = count-start _ (c .before .before .pre) 2
+loop-holds c = count-start _ (c .before .before .pre) 2 tt
 
 mul-designation-in : tie.Need-mul-designation-in Inv-loop μ-loop
 mul-designation-in c = omega (arith, book-room _ (c .before .before .before .before .pre))
@@ -31,7 +31,7 @@ designation-in-requires c κs = search needs
 counted-requires : tie.Need-counted-requires Inv-loop μ-loop
 counted-requires c κs =
     let l = c .before .before .before in
-    count-small _ (l .before .before .before .pre) _ _ _ (l .loop .inv)
+    count-small _ (l .before .before .before .pre) 2 tt _ _ (l .loop .inv)
 
 add-i : tie.Need-add-i Inv-loop μ-loop
 add-i c = omega (arith, book-room _ (c .before .before .before .before .before .before .before .pre))
@@ -42,11 +42,11 @@ loop-less c = search needs
 loop-again : tie.Need-loop-again Inv-loop μ-loop
 loop-again c =
     let l = c .before .before .before .before in
-    count-more _ (l .before .before .before .pre) _ _ _ (l .loop .inv) _ _ (omega arith) (c .before .designation-in .ensures)
-    (c .counted .ensures)
+    count-more _ (l .before .before .before .pre) 2 tt _ _ (l .loop .inv) _ _ (omega arith)
+    (c .before .designation-in .ensures) (c .counted .ensures)
 
 returns : tie.Need-returns Inv-loop μ-loop
-returns c = count-done _ (c .before .before .before .before .pre) _ _ _ (c .before .loop .inv) (omega arith)
+returns c = count-done _ (c .before .before .before .before .pre) 2 tt _ _ (c .before .loop .inv) (omega arith)
 
 pub own-halves-spec : {M : Type 1} → statement M
 own-halves-spec =
