@@ -1,7 +1,6 @@
 // The calls over any lent words. Each tests the run once and then makes the call as `class_call` or `strike_call` does on a book; where its class stands is not known.
 ghost use mathlib.Core.List.{[]};
-ghost use lib.ListN.{length};
-ghost use Rattle.book.specs.Calls.{callM, callO, callC, callV, callD, callL, callJ, callX, callI, callR, callA};
+ghost use Rattle.book.specs.Calls.{callM, on, callO, callC, callV, callD, callL, callJ, callX, callI, callR, callA};
 ghost use Rattle.book.specs.Made.{Made};
 use scan::is_book;
 use word::answer::Answer;
@@ -19,7 +18,7 @@ pub fn set_month(run: &mut [u32], m: u32) -> Answer
 
 // `O`: opens a class.
 pub fn open_class(run: &mut [u32], c: u32) -> Answer
-    ensures { λ r. ⌜ Made (callO c) (now (run .entry)) [] r (now (run .exit)) [] ⌝ }
+    ensures { λ r. ⌜ Made (on c callO) (now (run .entry)) [] r (now (run .exit)) [] ⌝ }
 {
     if !is_book(run) {
         return Answer::Refused(Refusal::NotABook);
@@ -29,7 +28,7 @@ pub fn open_class(run: &mut [u32], c: u32) -> Answer
 
 // `C`: sets the close of a class.
 pub fn set_close(run: &mut [u32], c: u32, p: u32) -> Answer
-    ensures { λ r. ⌜ Made (callC c p) (now (run .entry)) [] r (now (run .exit)) [] ⌝ }
+    ensures { λ r. ⌜ Made (on c (callC p)) (now (run .entry)) [] r (now (run .exit)) [] ⌝ }
 {
     if !is_book(run) {
         return Answer::Refused(Refusal::NotABook);
@@ -39,7 +38,7 @@ pub fn set_close(run: &mut [u32], c: u32, p: u32) -> Answer
 
 // `V`: sets the volume of a class.
 pub fn set_volume(run: &mut [u32], c: u32, n: u32) -> Answer
-    ensures { λ r. ⌜ Made (callV c n) (now (run .entry)) [] r (now (run .exit)) [] ⌝ }
+    ensures { λ r. ⌜ Made (on c (callV n)) (now (run .entry)) [] r (now (run .exit)) [] ⌝ }
 {
     if !is_book(run) {
         return Answer::Refused(Refusal::NotABook);
@@ -49,7 +48,7 @@ pub fn set_volume(run: &mut [u32], c: u32, n: u32) -> Answer
 
 // `D`: gives the program p the designation d.
 pub fn designate(run: &mut [u32], c: u32, p: u32, d: u32) -> Answer
-    ensures { λ r. ⌜ Made (callD c p d) (now (run .entry)) [] r (now (run .exit)) [] ⌝ }
+    ensures { λ r. ⌜ Made (on c (callD p d)) (now (run .entry)) [] r (now (run .exit)) [] ⌝ }
 {
     if !is_book(run) {
         return Answer::Refused(Refusal::NotABook);
@@ -59,7 +58,7 @@ pub fn designate(run: &mut [u32], c: u32, p: u32, d: u32) -> Answer
 
 // `L`: adds the strike h of the month m.
 pub fn list_strike(run: &mut [u32], c: u32, m: u32, h: u32) -> Answer
-    ensures { λ r. ⌜ Made (callL c m h) (now (run .entry)) [] r (now (run .exit)) [] ⌝ }
+    ensures { λ r. ⌜ Made (on c (callL m h)) (now (run .entry)) [] r (now (run .exit)) [] ⌝ }
 {
     if !is_book(run) {
         return Answer::Refused(Refusal::NotABook);
@@ -69,7 +68,7 @@ pub fn list_strike(run: &mut [u32], c: u32, m: u32, h: u32) -> Answer
 
 // `J`: judges the strike h of the month m, adding nothing.
 pub fn judge_strike(run: &[u32], c: u32, m: u32, h: u32) -> Answer
-    ensures { λ r. ⌜ Made (callJ c m h) (now (run .entry)) [] r (now (run .entry)) [] ⌝ }
+    ensures { λ r. ⌜ Made (on c (callJ m h)) (now (run .entry)) [] r (now (run .entry)) [] ⌝ }
 {
     if !is_book(run) {
         return Answer::Refused(Refusal::NotABook);
@@ -79,7 +78,7 @@ pub fn judge_strike(run: &[u32], c: u32, m: u32, h: u32) -> Answer
 
 // `X`: delists the strike h of the month m.
 pub fn delist_strike(run: &mut [u32], c: u32, m: u32, h: u32) -> Answer
-    ensures { λ r. ⌜ Made (callX c m h) (now (run .entry)) [] r (now (run .exit)) [] ⌝ }
+    ensures { λ r. ⌜ Made (on c (callX m h)) (now (run .entry)) [] r (now (run .exit)) [] ⌝ }
 {
     if !is_book(run) {
         return Answer::Refused(Refusal::NotABook);
@@ -89,7 +88,7 @@ pub fn delist_strike(run: &mut [u32], c: u32, m: u32, h: u32) -> Answer
 
 // `I`: sets the put mark a and the call mark b of the strike h of the month m.
 pub fn mark_strike(run: &mut [u32], c: u32, m: u32, h: u32, a: u32, b: u32) -> Answer
-    ensures { λ r. ⌜ Made (callI c m h a b) (now (run .entry)) [] r (now (run .exit)) [] ⌝ }
+    ensures { λ r. ⌜ Made (on c (callI m h a b)) (now (run .entry)) [] r (now (run .exit)) [] ⌝ }
 {
     if !is_book(run) {
         return Answer::Refused(Refusal::NotABook);
@@ -99,7 +98,7 @@ pub fn mark_strike(run: &mut [u32], c: u32, m: u32, h: u32, a: u32, b: u32) -> A
 
 // `R`: reviews a class, and answers how many strikes it removed.
 pub fn review_class(run: &mut [u32], c: u32) -> Answer
-    ensures { λ r. ⌜ Made (callR c) (now (run .entry)) [] r (now (run .exit)) [] ⌝ }
+    ensures { λ r. ⌜ Made (on c callR) (now (run .entry)) [] r (now (run .exit)) [] ⌝ }
 {
     if !is_book(run) {
         return Answer::Refused(Refusal::NotABook);
@@ -109,7 +108,8 @@ pub fn review_class(run: &mut [u32], c: u32) -> Answer
 
 // `A`: writes the strikes of the month m that `J` would accept to the second run, and answers how many there are.
 pub fn list_permitted(run: &[u32], second: &mut [u32], c: u32, m: u32) -> Answer
-    ensures { λ r. ⌜ Made (callA c m (length (now (second .entry)))) (now (run .entry)) (now (second .entry)) r (now (run .entry)) (now (second .exit)) ⌝ }
+    ensures { λ r. ⌜ Made (on c (callA m)) (now (run .entry)) (now (second .entry))
+        r (now (run .entry)) (now (second .exit)) ⌝ }
 {
     if !is_book(run) {
         return Answer::Refused(Refusal::NotABook);

@@ -2,24 +2,26 @@
 -- Assumes nothing.
 use Prim.Native.Nat.{ℕ}
 use mathlib.Core.Path.{_≡_, refl, sym, ap, _∙_}
-use mathlib.Core.Bool.{true, false, not}
+use mathlib.Core.Bool.{false, not, _&&_}
 use mathlib.Core.List.{List, []}
 use lib.ListN.{length}
 use lib.Dec.{T}
 use Rattle.word.specs.declared.class.ClassRecord.{ClassRecord}
-use Rattle.word.specs.declared.answer.Answer.the-variants.{Done, Refused}
-use Rattle.word.specs.declared.answer.Refusal.the-variants.{NotOpen}
+use Rattle.word.specs.declared.answer.Answer.the-variants.{Done}
+use Rattle.word.specs.Limits.{isClassNumber, isPrice, isVolume}
 use Rattle.word.specs.Class.{withClose, withVolume}
 use Rattle.book.specs.Facts.{withFigures}
 use Rattle.book.specs.Layout.{layout, factsOf}
 use Rattle.book.specs.Books.{areFigures, isBook}
-use Rattle.book.specs.Calls.{Call, callC, callV, isWritten, class, isNotOpen, update, first, conditions, changed, listed, acceptedValue}
+use Rattle.book.specs.Views.{class}
+use Rattle.book.specs.Changes.{update, listOf}
+use Rattle.book.specs.Calls.{Call, on, callC, callV, effectOn, effect, answerTo, acceptedFacts}
 use Rattle.book.specs.Places.{classPlace}
 use Rattle.book.specs.Made.{over, Made}
 use Rattle.book.proofs.Tests.{ands, and-intro}
 use Rattle.book.proofs.Answered.{made-accepted}
 use Rattle.edit.specs.Asked.{Storable}
-use Rattle.class_call.proofs.Ways.{within-limits, decided, not-open, Found, found-open, found-figures, found-number, found-limits}
+use Rattle.class_call.proofs.Ways.{passed, Found, found-open, found-figures, found-number, found-limits}
 
 -- what `store_figures` leaves
 abbrev pub Stored : List ℕ → ClassRecord → List ℕ → Type 0
@@ -44,58 +46,48 @@ module _
 
   -- a call that makes this change
   pub figures-set :
-      (x : Call) → not (isWritten x) ≡ false
-      → changed x (factsOf w)
+      (x : Call)
+      → acceptedFacts x (factsOf w)
       ≡ update (withFigures (change (class (factsOf w) c .figures)) (class (factsOf w) c)) (factsOf w)
-      → (w′ : List ℕ) → first (conditions (length w) x (factsOf w)) ≡ 0 → 0 ≡ acceptedValue x (factsOf w)
-      → Stored w new w′ → Made x w [] Done w′ (over (listed x (factsOf w)) [])
-  figures-set x within changes w′ none value stored =
+      → (w′ : List ℕ) → answerTo (length w) 0 x (factsOf w) ≡ Done → Stored w new w′
+      → Made x w [] Done w′ (over (listOf (effect x (factsOf w) .does)) [])
+  figures-set x changes w′ done stored =
       let figures : new ≡ change (class (factsOf w) c .figures) = e ∙ ap change (found-figures w book c at r found) in
-      made-accepted x w [] book Done w′ refl (decided (length w) x (factsOf w) within ∙ none) value
+      made-accepted x w [] book Done w′ refl done
       (stored
       ∙ (λ i. layout (length w) (update (withFigures (figures i) (class (factsOf w) (number i))) (factsOf w)))
       ∙ ap (layout (length w)) (sym changes))
 
 -- ---- `C`
 
-module _ (c p : ℕ) (w : List ℕ) (book : T (isBook w)) (within : not (isWritten (callC c p)) ≡ false) where
-  pub close-not-open : isNotOpen (factsOf w) c ≡ true → Made (callC c p) w [] (Refused NotOpen) w []
-  unfolding conditions
-  close-not-open closed = not-open (callC c p) w book within c [] refl closed
+module _
+    (c p : ℕ) (w : List ℕ) (book : T (isBook w)) (within : not (isClassNumber c && isPrice p) ≡ false) (at : ℕ)
+    (r : ClassRecord) (found : Found w c at r) (new : ClassRecord) (e : new ≡ withClose p r) where
+  pub close-storable : Storable w at new
+  close-storable =
+      let old = found-limits w book c at r found in
+      let given = passed (isClassNumber c && isPrice p) within in
+      storable w book c at r found (withClose p) refl new e (search (ands, and-intro) depth 12)
 
-  module _
-      (at : ℕ) (r : ClassRecord) (found : Found w c at r) (new : ClassRecord)
-      (e : new ≡ withClose p r) where
-    pub close-storable : Storable w at new
-    close-storable =
-        let old = found-limits w book c at r found in
-        let given = within-limits (callC c p) within in
-        storable w book c at r found (withClose p) refl new e (search (ands, and-intro) depth 12)
-
-    pub close-set : (w′ : List ℕ) → Stored w new w′ → Made (callC c p) w [] Done w′ []
-    unfolding changed conditions listed acceptedValue
-    close-set w′ stored =
-        figures-set w book c at r found (withClose p) refl new e (callC c p) within refl w′ (rw (found .is-open)) refl
-        stored
+  pub close-set : (w′ : List ℕ) → Stored w new w′ → Made (on c (callC p)) w [] Done w′ []
+  unfolding answerTo effectOn
+  close-set w′ stored =
+      figures-set w book c at r found (withClose p) refl new e (on c (callC p)) refl w′ (rw (within, found .is-open))
+      stored
 
 -- ---- `V`
 
-module _ (c n : ℕ) (w : List ℕ) (book : T (isBook w)) (within : not (isWritten (callV c n)) ≡ false) where
-  pub volume-not-open : isNotOpen (factsOf w) c ≡ true → Made (callV c n) w [] (Refused NotOpen) w []
-  unfolding conditions
-  volume-not-open closed = not-open (callV c n) w book within c [] refl closed
+module _
+    (c n : ℕ) (w : List ℕ) (book : T (isBook w)) (within : not (isClassNumber c && isVolume n) ≡ false) (at : ℕ)
+    (r : ClassRecord) (found : Found w c at r) (new : ClassRecord) (e : new ≡ withVolume n r) where
+  pub volume-storable : Storable w at new
+  volume-storable =
+      let old = found-limits w book c at r found in
+      let given = passed (isClassNumber c && isVolume n) within in
+      storable w book c at r found (withVolume n) refl new e (search (ands, and-intro) depth 12)
 
-  module _
-      (at : ℕ) (r : ClassRecord) (found : Found w c at r) (new : ClassRecord)
-      (e : new ≡ withVolume n r) where
-    pub volume-storable : Storable w at new
-    volume-storable =
-        let old = found-limits w book c at r found in
-        let given = within-limits (callV c n) within in
-        storable w book c at r found (withVolume n) refl new e (search (ands, and-intro) depth 12)
-
-    pub volume-set : (w′ : List ℕ) → Stored w new w′ → Made (callV c n) w [] Done w′ []
-    unfolding changed conditions listed acceptedValue
-    volume-set w′ stored =
-        figures-set w book c at r found (withVolume n) refl new e (callV c n) within refl w′ (rw (found .is-open)) refl
-        stored
+  pub volume-set : (w′ : List ℕ) → Stored w new w′ → Made (on c (callV n)) w [] Done w′ []
+  unfolding answerTo effectOn
+  volume-set w′ stored =
+      figures-set w book c at r found (withVolume n) refl new e (on c (callV n)) refl w′ (rw (within, found .is-open))
+      stored

@@ -2,12 +2,9 @@
 ghost use mathlib.Core.List.{[]};
 ghost use lib.Dec.{T};
 ghost use Rattle.book.specs.Books.{isBook};
-ghost use Rattle.book.specs.Calls.{callM, callO, callC, callV, callD, callR};
+ghost use Rattle.book.specs.Calls.{callM, on, callO, callC, callV, callD, callR};
 ghost use Rattle.book.specs.Made.{Made};
-use crate::programs::Claim;
 use crate::programs::claim_of;
-use crate::programs::is_program;
-use crate::programs::with_designation;
 use edit::insert_class;
 use edit::store_figures;
 use place::head::current;
@@ -25,6 +22,7 @@ use word::limits::is_designation;
 use word::limits::is_month;
 use word::limits::is_price;
 use word::limits::is_volume;
+use word::programs::is_program;
 
 pub mod programs;
 
@@ -49,7 +47,7 @@ pub fn set_month(run: &mut [u32], m: u32) -> Answer
 // `O`: opens a class.
 pub fn open_class(run: &mut [u32], near: usize, c: u32) -> Answer
     requires { ⌜ T (isBook (now run)) ⌝ }
-    ensures { λ r. ⌜ Made (callO c) (now (run .entry)) [] r (now (run .exit)) [] ⌝ }
+    ensures { λ r. ⌜ Made (on c callO) (now (run .entry)) [] r (now (run .exit)) [] ⌝ }
 {
     if !is_class_number(c) {
         return Answer::Refused(Refusal::BeyondLimits);
@@ -68,7 +66,7 @@ pub fn open_class(run: &mut [u32], near: usize, c: u32) -> Answer
 // `C`: sets the close.
 pub fn set_close(run: &mut [u32], near: usize, c: u32, p: u32) -> Answer
     requires { ⌜ T (isBook (now run)) ⌝ }
-    ensures { λ r. ⌜ Made (callC c p) (now (run .entry)) [] r (now (run .exit)) [] ⌝ }
+    ensures { λ r. ⌜ Made (on c (callC p)) (now (run .entry)) [] r (now (run .exit)) [] ⌝ }
 {
     if !(is_class_number(c) & is_price(p)) {
         return Answer::Refused(Refusal::BeyondLimits);
@@ -85,7 +83,7 @@ pub fn set_close(run: &mut [u32], near: usize, c: u32, p: u32) -> Answer
 // `V`: sets the volume.
 pub fn set_volume(run: &mut [u32], near: usize, c: u32, n: u32) -> Answer
     requires { ⌜ T (isBook (now run)) ⌝ }
-    ensures { λ r. ⌜ Made (callV c n) (now (run .entry)) [] r (now (run .exit)) [] ⌝ }
+    ensures { λ r. ⌜ Made (on c (callV n)) (now (run .entry)) [] r (now (run .exit)) [] ⌝ }
 {
     if !(is_class_number(c) & is_volume(n)) {
         return Answer::Refused(Refusal::BeyondLimits);
@@ -102,7 +100,7 @@ pub fn set_volume(run: &mut [u32], near: usize, c: u32, n: u32) -> Answer
 // `D`: gives the program p the designation d.
 pub fn designate(run: &mut [u32], near: usize, c: u32, p: u32, d: u32) -> Answer
     requires { ⌜ T (isBook (now run)) ⌝ }
-    ensures { λ r. ⌜ Made (callD c p d) (now (run .entry)) [] r (now (run .exit)) [] ⌝ }
+    ensures { λ r. ⌜ Made (on c (callD p d)) (now (run .entry)) [] r (now (run .exit)) [] ⌝ }
 {
     if !(is_class_number(c) & (is_program(p) & is_designation(d))) {
         return Answer::Refused(Refusal::BeyondLimits);
@@ -113,17 +111,17 @@ pub fn designate(run: &mut [u32], near: usize, c: u32, p: u32, d: u32) -> Answer
     }
     let figures = figures_at(run, at);
     let claim = claim_of(run, figures, p, d);
-    if let Claim::Refused(why) = claim {
-        return Answer::Refused(why);
+    if !claim.is_accepted() {
+        return claim;
     }
-    store_figures(run, at, with_designation(figures, p, d));
+    store_figures(run, at, figures.with_designation(p, d));
     Answer::Done
 }
 
 // `R`: the review.
 pub fn review_class(run: &mut [u32], near: usize, c: u32) -> Answer
     requires { ⌜ T (isBook (now run)) ⌝ }
-    ensures { λ r. ⌜ Made (callR c) (now (run .entry)) [] r (now (run .exit)) [] ⌝ }
+    ensures { λ r. ⌜ Made (on c callR) (now (run .entry)) [] r (now (run .exit)) [] ⌝ }
 {
     if !is_class_number(c) {
         return Answer::Refused(Refusal::BeyondLimits);

@@ -1,7 +1,8 @@
 // The call that a letter and its numbers name, made on a run that is known to be a book. `near` is where its class is looked for first: any number will do.
-ghost use mathlib.Core.List.{[], _∷_};
+ghost use mathlib.Core.List.{List, [], _∷_};
+ghost use Prim.Native.Nat.{ℕ};
 ghost use lib.Dec.{T};
-ghost use lib.ListN.{length, take};
+ghost use lib.ListN.{take};
 ghost use Rattle.book.specs.Books.{isBook};
 ghost use Rattle.book.specs.Letters.{callOfOne, callOfTwo, callOfThree, callOfFive, callOf};
 ghost use Rattle.book.specs.Made.{Made};
@@ -19,10 +20,10 @@ use strike_call::mark_strike;
 use word::answer::Answer;
 use word::answer::Refusal;
 
-// `M`, `O` and `R`.
+// `M`, `O` and `R`, which leave any second run as it is.
 fn make_of_one(run: &mut [u32], near: usize, letter: u32, a: u32) -> Answer
     requires { ⌜ T (isBook (now run)) ⌝ }
-    ensures { λ r. ⌜ Made (callOfOne letter a) (now (run .entry)) [] r (now (run .exit)) [] ⌝ }
+    ensures { λ r. ⌜ ((v : List ℕ) → Made (callOfOne letter a) (now (run .entry)) v r (now (run .exit)) v) ⌝ }
 {
     match letter {
         77 => set_month(run, a),
@@ -42,7 +43,7 @@ fn make_of_two(
     b: u32,
 ) -> Answer
     requires { ⌜ T (isBook (now run)) ⌝ }
-    ensures { λ r. ⌜ Made (callOfTwo (length (now (second .entry))) letter a b)
+    ensures { λ r. ⌜ Made (callOfTwo letter a b)
         (now (run .entry)) (now (second .entry)) r (now (run .exit)) (now (second .exit)) ⌝ }
 {
     match letter {
@@ -53,10 +54,10 @@ fn make_of_two(
     }
 }
 
-// `D`, `L`, `J` and `X`.
+// `D`, `L`, `J` and `X`, which leave any second run as it is.
 fn make_of_three(run: &mut [u32], near: usize, letter: u32, a: u32, b: u32, c: u32) -> Answer
     requires { ⌜ T (isBook (now run)) ⌝ }
-    ensures { λ r. ⌜ Made (callOfThree letter a b c) (now (run .entry)) [] r (now (run .exit)) [] ⌝ }
+    ensures { λ r. ⌜ ((v : List ℕ) → Made (callOfThree letter a b c) (now (run .entry)) v r (now (run .exit)) v) ⌝ }
 {
     match letter {
         68 => designate(run, near, a, b, c),
@@ -67,7 +68,7 @@ fn make_of_three(run: &mut [u32], near: usize, letter: u32, a: u32, b: u32, c: u
     }
 }
 
-// `I`.
+// `I`, which leaves any second run as it is.
 fn make_of_five(
     run: &mut [u32],
     near: usize,
@@ -79,7 +80,7 @@ fn make_of_five(
     e: u32,
 ) -> Answer
     requires { ⌜ T (isBook (now run)) ⌝ }
-    ensures { λ r. ⌜ Made (callOfFive letter a b c d e) (now (run .entry)) [] r (now (run .exit)) [] ⌝ }
+    ensures { λ r. ⌜ ((v : List ℕ) → Made (callOfFive letter a b c d e) (now (run .entry)) v r (now (run .exit)) v) ⌝ }
 {
     if letter == 73 {
         return mark_strike(run, near, a, b, c, d, e);
@@ -101,7 +102,7 @@ pub fn make_call(
     e: u32,
 ) -> Answer
     requires { ⌜ T (isBook (now run)) ⌝ }
-    ensures { λ r. ⌜ Made (callOf (length (now (second .entry))) letter (take count (a ∷ b ∷ c ∷ d ∷ e ∷ [])))
+    ensures { λ r. ⌜ Made (callOf letter (take count (a ∷ b ∷ c ∷ d ∷ e ∷ [])))
         (now (run .entry)) (now (second .entry)) r (now (run .exit)) (now (second .exit)) ⌝ }
 {
     match count {

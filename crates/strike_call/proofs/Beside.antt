@@ -1,4 +1,5 @@
--- The words beside those of an expiration's strikes are no strikes, so that the words next to a place among them tell whether it has strikes below it and above it: by the kinds of the words of a book. Assumes nothing.
+-- The words beside those of an expiration's strikes are no strikes, so that the words next to a place among them tell
+-- whether it has strikes below it and above it: by the kinds of the words of a book. Assumes nothing.
 use Prim.Native.Nat.{ℕ, zero, suc, _+_, _-_, _≤_, _<_}
 use mathlib.Core.Path.{_≡_, refl, sym, ap, ap₂, _∙_, subst}
 use mathlib.Core.Bool.{Bool, true, false, cond, not, _&&_, and-false}
@@ -8,14 +9,14 @@ use lib.Dec.{T, eqb, leb, ltb, eqb·zero-suc, le→leb}
 use lib.ListN.{length, getD, take, drop, replicate, length-append, length-drop, length-map}
 use lib.Seq.{getD-take, getD-drop, length-take-le}
 use borrow.Author.Tests.{ltb-true, ltb-false, lt-ltb, le-ltb, eq-eqb, ne-eqb}
-use Rattle.word.specs.Codec.{Word, Head, Class, Close, Volume, Expiration, isLegal, packed, kindOf}
+use Rattle.word.specs.Codec.{Word, Head, Close, Volume, Expiration, isLegal, packed, kindOf}
 use Rattle.word.proofs.Words.{legal-fits, kindIn, kind-packed}
 use Rattle.rule.specs.Lists.{every, only}
 use Rattle.rule.proofs.Tests.{and-left}
 use Rattle.book.specs.Facts.{Series, OpenClass, number, isOpen, inMonth}
-use Rattle.book.specs.Layout.{strikeWord, expirationUnless, seriesWords, figuresWords, classesWords, used, factsOf}
+use Rattle.book.specs.Layout.{strikeWord, expirationUnless, seriesWords, classWord, figuresWords, classesWords, used, factsOf}
 use Rattle.book.specs.Books.{isSeries, isBook}
-use Rattle.book.specs.Calls.{class}
+use Rattle.book.specs.Views.{class}
 use Rattle.book.specs.Places.{hasExpiration, strikesPlace, strikesEnd}
 use Rattle.book.proofs.Tests.{and-intro, ands, T-true}
 use Rattle.book.proofs.Lists.{every-map, every-true}
@@ -34,10 +35,12 @@ use Rattle.place.proofs.Found.{legal}
 abbrev pub isStrikeAt : List ℕ → ℕ → Bool
 isStrikeAt w i = ltb i (used (factsOf w)) && isOfKind 6 (getD w i 0)
 
--- the words from `start` to `stop`, with the one at `at` where it is a strike and perhaps with the one before it, are words used
+-- the words from `start` to `stop`, with the one at `at` where it is a strike and perhaps with the one before it, are
+-- words used
 pub beside-within :
     (w : List ℕ) (at start stop : ℕ) (below : Bool) → start ≡ cond {A = ℕ} below (at - 1) at
-    → stop ≡ cond {A = ℕ} (isStrikeAt w at) (at + 1) at → at ≤ used (factsOf w) → (start ≤ stop) × (stop ≤ used (factsOf w))
+    → stop ≡ cond {A = ℕ} (isStrikeAt w at) (at + 1) at → at ≤ used (factsOf w)
+    → (start ≤ stop) × (stop ≤ used (factsOf w))
 beside-within w at start stop below first last within =
     let l = starts below first in
     let k = stops (isStrikeAt w at) refl last in
@@ -47,7 +50,9 @@ beside-within w at start stop below first last within =
     starts true e = omega arith
     starts false e = omega arith
 
-    stops : (b : Bool) → isStrikeAt w at ≡ b → stop ≡ cond {A = ℕ} b (at + 1) at → (at ≤ stop) × (stop ≤ used (factsOf w))
+    stops :
+        (b : Bool) → isStrikeAt w at ≡ b → stop ≡ cond {A = ℕ} b (at + 1) at
+        → (at ≤ stop) × (stop ≤ used (factsOf w))
     stops true e d =
         let l = ltb-true at (used (factsOf w)) (and-left (ltb at (used (factsOf w))) (isOfKind 6 (getD w at 0)) e) in
         (omega arith, omega arith)
@@ -71,8 +76,8 @@ module _ (w : List ℕ) (book : T (isBook w)) where
 
   -- the kind of a word by the words before it
   kind-at :
-      (i : ℕ) (before rest : List Word) (x : Word) → bookWords (length w) (factsOf w) ≡ before ++ (x ∷ rest) → i ≡ length before
-      → kindOf (getD w i 0) ≡ kindIn x
+      (i : ℕ) (before rest : List Word) (x : Word) → bookWords (length w) (factsOf w) ≡ before ++ (x ∷ rest)
+      → i ≡ length before → kindOf (getD w i 0) ≡ kindIn x
   kind-at i before rest x e d =
       let t = every-split isLegal before (x ∷ rest) (subst (λ (l : List Word). T (every isLegal l)) e words-legal) .1 in
       let fits = legal-fits x (T-true (isLegal x) (search ands)) in
@@ -93,12 +98,13 @@ module _ (w : List ℕ) (book : T (isBook w)) where
       ap (isOfKind 6) word
   kind-after i before [] (x ∷ xs) e d =
       ap (λ (k : ℕ). eqb k 6)
-      (kind-at i before (Close (x .figures .close) ∷ Volume (x .figures .volume) ∷ seriesWords 0 (x .series) (classesWords xs []))
-      (Class (number x) (x .figures .dollar) (x .figures .half)) e d)
+      (kind-at i before
+      (Close (x .figures .close) ∷ Volume (x .figures .volume) ∷ seriesWords 0 (x .series) (classesWords xs []))
+      (classWord (x .figures)) e d)
   kind-after i before (s ∷ ss) xs e d =
       ap (λ (k : ℕ). eqb k 6)
-      (kind-at i before (strikeWord s ∷ (seriesWords (suc (s .month)) ss [] ++ classesWords xs [])) (Expiration (s .month))
-      (rw (eqb·zero-suc (s .month)) at e) d)
+      (kind-at i before (strikeWord s ∷ (seriesWords (suc (s .month)) ss [] ++ classesWords xs []))
+      (Expiration (s .month)) (rw (eqb·zero-suc (s .month)) at e) d)
 
 -- ---- the words beside the strikes of an expiration
 
@@ -151,10 +157,12 @@ module _ (w : List ℕ) (book : T (isBook w)) (c m : ℕ) (o : T (isOpen c (fact
       let b : j < to - from = omega arith in
       let size : length (take (to - from) (drop from w)) ≡ to - from =
       length-take-le (to - from) (drop from w)
-      (simp length-drop (omega (arith, strikes-within (length w) (factsOf w) c m (book-good w book) o, book-room w book))) in
+      (simp length-drop
+      (omega (arith, strikes-within (length w) (factsOf w) c m (book-good w book) o, book-room w book))) in
       let e : getD (take (to - from) (drop from w)) j 0 ≡ getD w i 0 =
       getD-take (to - from) (drop from w) j 0 b ∙ getD-drop from w j 0 ∙ ap (λ (n : ℕ). getD w n 0) a in
-      sym (ap (isOfKind 6) e) ∙ T-true _ (every-at (isOfKind 6) 0 (take (to - from) (drop from w)) j (omega arith) strikes-kind)
+      sym (ap (isOfKind 6) e)
+      ∙ T-true _ (every-at (isOfKind 6) 0 (take (to - from) (drop from w)) j (omega arith) strikes-kind)
 
   kind-end : isOfKind 6 (getD w to 0) ≡ false
   kind-end =
@@ -162,7 +170,13 @@ module _ (w : List ℕ) (book : T (isBook w)) (c m : ℕ) (o : T (isOpen c (fact
       kind-after w book to (before ++ (word ++ map strikeWord here))
       (only (isOver monthOf m) (class (factsOf w) c .series)) (only (isOver number c) (factsOf w .classes))
       (around ∙ regrouped before word (map strikeWord here) after)
-      (simp length-append (omega (arith, before-length, expiration-length (hasExpiration c m (factsOf w)) m, length-map here strikeWord)))
+      (simp length-append
+      (omega (
+        arith,
+        before-length,
+        expiration-length (hasExpiration c m (factsOf w)) m,
+        length-map here strikeWord,
+      )))
 
   -- a place among the strikes of the expiration, or after them, has a strike exactly where they have not ended
   pub strike-there : (i : ℕ) → from ≤ i → i ≤ to → isStrikeAt w i ≡ ltb i to
@@ -171,11 +185,13 @@ module _ (w : List ℕ) (book : T (isBook w)) (c m : ℕ) (o : T (isOpen c (fact
       go : (b : Bool) → ltb i to ≡ b → isStrikeAt w i ≡ b
       go true e =
           let inside = ltb-true i to e in
-          let room : i < used (factsOf w) = omega (arith, strikes-within (length w) (factsOf w) c m (book-good w book) o) in
+          let room : i < used (factsOf w) =
+          omega (arith, strikes-within (length w) (factsOf w) c m (book-good w book) o) in
           ap₂ _&&_ (lt-ltb i (used (factsOf w)) room) (kind-inside i l inside)
       go false e =
           let end : to ≡ i = omega (arith, ltb-false i to e) in
-          ap (λ (b : Bool). ltb i (used (factsOf w)) && b) (ap (λ (n : ℕ). isOfKind 6 (getD w n 0)) (sym end) ∙ kind-end)
+          ap (λ (b : Bool). ltb i (used (factsOf w)) && b)
+          (ap (λ (n : ℕ). isOfKind 6 (getD w n 0)) (sym end) ∙ kind-end)
           ∙ and-false (ltb i (used (factsOf w)))
 
   -- where the expiration has strikes, the word before such a place is one exactly where the place is not the first
@@ -196,7 +212,8 @@ module _ (w : List ℕ) (book : T (isBook w)) (c m : ℕ) (o : T (isOpen c (fact
           strike-there (i - 1) (omega arith) (omega arith) ∙ lt-ltb (i - 1) to inside
       go false e =
           let begin : from ≡ i = omega (arith, ltb-false from i e) in
-          ap (λ (b : Bool). ltb (i - 1) (used (factsOf w)) && b) (ap (λ (n : ℕ). isOfKind 6 (getD w (n - 1) 0)) (sym begin) ∙ first)
+          ap (λ (b : Bool). ltb (i - 1) (used (factsOf w)) && b)
+          (ap (λ (n : ℕ). isOfKind 6 (getD w (n - 1) 0)) (sym begin) ∙ first)
           ∙ and-false (ltb (i - 1) (used (factsOf w)))
 
   -- a place has a strike of its expiration before it exactly where it is not the first
@@ -210,10 +227,14 @@ module _ (w : List ℕ) (book : T (isBook w)) (c m : ℕ) (o : T (isOpen c (fact
           sym (le-ltb from i (omega arith))
 
   -- a strike that stands is the only one of its expiration exactly where neither word next to it is one
-  pub strike-alone : (i : ℕ) → from ≤ i → i < to → (not (isStrikeAt w (i - 1)) && not (isStrikeAt w (i + 1))) ≡ eqb to (from + 1)
+  pub strike-alone :
+      (i : ℕ) → from ≤ i → i < to
+      → (not (isStrikeAt w (i - 1)) && not (isStrikeAt w (i + 1))) ≡ eqb to (from + 1)
   strike-alone i l k =
-      let has : hasExpiration c m (factsOf w) ≡ true = expiration-strikes c m (factsOf w) ∙ lt-ltb from to (omega arith) in
-      ap₂ (λ (x y : Bool). not x && not y) (strike-before has i l (omega arith)) (strike-there (i + 1) (omega arith) (omega arith))
+      let has : hasExpiration c m (factsOf w) ≡ true =
+      expiration-strikes c m (factsOf w) ∙ lt-ltb from to (omega arith) in
+      ap₂ (λ (x y : Bool). not x && not y) (strike-before has i l (omega arith))
+      (strike-there (i + 1) (omega arith) (omega arith))
       ∙ go (ltb from i) refl (ltb (i + 1) to) refl
     where
       go : (x : Bool) → ltb from i ≡ x → (y : Bool) → ltb (i + 1) to ≡ y → (not x && not y) ≡ eqb to (from + 1)

@@ -1,4 +1,5 @@
--- The words of an expiration's strikes read as those that stand, which rise; and a judgement beside the words next to a strike's place that are strikes is one beside all. Assumes nothing.
+-- The words of an expiration's strikes read as those that stand, which rise; and a judgement beside the words next to a
+-- strike's place that are strikes is one beside all: by the strikes below and above it. Assumes nothing.
 use Prim.Native.Nat.{ℕ, zero, suc, _+_, _-_, _≤_, _<_, min}
 use mathlib.Core.Path.{_≡_, refl, sym, ap, _∙_}
 use mathlib.Core.Bool.{Bool, true, false, cond, _&&_}
@@ -19,7 +20,7 @@ use Rattle.permitted.specs.Listing.{strikeIn}
 use Rattle.book.specs.Facts.{Series, isOpen, isAt, inMonth}
 use Rattle.book.specs.Layout.{factsOf}
 use Rattle.book.specs.Books.{isBook}
-use Rattle.book.specs.Calls.{class, isStanding, standingIn}
+use Rattle.book.specs.Views.{class, viewOf, isStanding, standingIn}
 use Rattle.book.specs.Places.{hasExpiration, strikesPlace, strikesEnd, strikePlace}
 use Rattle.book.proofs.Layouts.{book-facts}
 use Rattle.book.proofs.Parts.{only-absent, only-both, every-kept, isUnder, isEqual, isOver}
@@ -36,14 +37,22 @@ drop-take (suc n) k (x ∷ xs) = rw suc-add (drop-take n k xs)
 
 -- a part of a part
 part-part : {A : Type 0} (xs : List A) (from start stop to : ℕ) → from ≤ start → start ≤ stop → stop ≤ to →
-    take ((stop - from) - (start - from)) (drop (start - from) (take (to - from) (drop from xs))) ≡ take (stop - start) (drop start xs)
+    take ((stop - from) - (start - from)) (drop (start - from) (take (to - from) (drop from xs)))
+    ≡ take (stop - start) (drop start xs)
 part-part xs from start stop to a b c =
     let n : ℕ = start - from in
     let k : ℕ = to - start in
     let size : (stop - from) - (start - from) ≡ stop - start = omega arith in
     let whole : to - from ≡ n + k = omega arith in
     let here : from + n ≡ start = omega arith in
-    rw (size, whole, drop-take n k (drop from xs), take-take (stop - start) k (drop n (drop from xs)) (omega arith), drop-drop n from xs, here)
+    rw (
+      size,
+      whole,
+      drop-take n k (drop from xs),
+      take-take (stop - start) k (drop n (drop from xs)) (omega arith),
+      drop-drop n from xs,
+      here,
+    )
 
 -- of the words from `from` to `to`, those from `start` to `stop` have the one before `at` and the one there
 record Lent (from at to start stop : ℕ) : Type 0 where
@@ -71,7 +80,9 @@ lent {from} {at} {to} {start} {stop} a b x y =
     stops false e z = let f = ltb-false at to e in (omega arith, (omega arith, omega arith))
 
 -- the indices among the words from `from` on
-above-from : (from at to stop k n : ℕ) → at - from ≡ k → n ≡ to - from → from ≤ at → min (at + 1) to ≤ stop → min (k + 1) n ≤ stop - from
+above-from :
+    (from at to stop k n : ℕ) → at - from ≡ k → n ≡ to - from → from ≤ at → min (at + 1) to ≤ stop
+    → min (k + 1) n ≤ stop - from
 above-from from at to stop k n a b c d = omega arith
 
 module _
@@ -83,7 +94,7 @@ module _
   abbrev here : List Series
   here = inMonth m (class (factsOf w) c .series)
 
-  pub standing-words : map standingOf lentWords ≡ standingIn (factsOf w) c m
+  pub standing-words : map standingOf lentWords ≡ standingIn (viewOf c (factsOf w)) m
   standing-words =
       let b = book-facts w book in
       (λ i. map standingOf (take (ends i - begins i) (drop (begins i) (sym (b .1) i))))
@@ -97,11 +108,12 @@ module _
 
   pub strikes-rising : Rising (map strikeIn lentWords)
   strikes-rising =
-      rw strikes-are (strikes-rise (class (factsOf w) c .series) m 0 (factsOf w .now) (series-good (length w) (factsOf w) c (book-facts w book .0) o))
+      let good = series-good (length w) (factsOf w) c (book-facts w book .0) o in
+      rw strikes-are (strikes-rise (class (factsOf w) c .series) m 0 (factsOf w .now) good)
 
 module _
     (w : List ℕ) (book : T (isBook w)) (c m : ℕ) (o : T (isOpen c (factsOf w .classes))) (h : ℕ)
-    (absent : isStanding (factsOf w) c m h ≡ false) where
+    (absent : isStanding (viewOf c (factsOf w)) m h ≡ false) where
   abbrev from : ℕ
   from = strikesPlace c m (factsOf w)
 
@@ -156,17 +168,26 @@ module _
   pub judged-beside : (s : Setting) (at start stop : ℕ) → at ≡ strikePlace c m h (factsOf w) →
       start ≡ cond {A = ℕ} (hasExpiration c m (factsOf w) && isStrikeAt w (at - 1)) (at - 1) at →
       stop ≡ cond {A = ℕ} (isStrikeAt w at) (at + 1) at →
-      judgement s (map standingOf (take (stop - start) (drop start w))) h ≡ judgement s (standingIn (factsOf w) c m) h
+      judgement s (map standingOf (take (stop - start) (drop start w))) h
+      ≡ judgement s (standingIn (viewOf c (factsOf w)) m) h
   judged-beside s at start stop place first last =
-      let size : length words ≡ to - from = omega (arith, length-map words strikeIn, ap length (strikes-are w book c m o from to refl refl), length-map (inMonth m series) strikeOf) in
+      let size : length words ≡ to - from =
+      omega (
+        arith,
+        length-map words strikeIn,
+        ap length (strikes-are w book c m o from to refl refl),
+        length-map (inMonth m series) strikeOf,
+      ) in
       let behind : at - from ≡ length lower = omega (arith, length-map (low series m h) strikeOf) in
       let least : from ≤ at = omega arith in
       let most : at ≤ to = omega (arith, all) in
       let part : Lent from at to start stop =
       lent least most (first ∙ ap (λ (b : Bool). cond {A = ℕ} b (at - 1) at) (strike-below w book c m o at least most))
       (last ∙ ap (λ (b : Bool). cond {A = ℕ} b (at + 1) at) (strike-there w book c m o at least most)) in
-      ap (λ (l : List ℕ). judgement s (map standingOf l) h) (sym (part-part w from start stop to (part .begins) (part .order) (part .ends)))
-      ∙ nearest-judged s h words (length lower) (start - from) (stop - from) (strikes-rising w book c m o from to refl refl) (omega (arith, all)) under over
+      ap (λ (l : List ℕ). judgement s (map standingOf l) h)
+      (sym (part-part w from start stop to (part .begins) (part .order) (part .ends)))
+      ∙ nearest-judged s h words (length lower) (start - from) (stop - from)
+      (strikes-rising w book c m o from to refl refl) (omega (arith, all)) under over
       (rw behind at (part .below))
       (above-from from at to stop (length lower) (length words) behind size least (part .above))
       ∙ ap (λ (standing : List Standing). judgement s standing h) (standing-words w book c m o from to refl refl)

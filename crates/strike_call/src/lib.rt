@@ -4,13 +4,14 @@ ghost use mathlib.Core.Bool.{_&&_};
 ghost use mathlib.Core.List.{[]};
 ghost use mathlib.Core.Path.{_≡_};
 ghost use lib.Dec.{T, ltb};
-ghost use lib.ListN.{getD, length};
+ghost use lib.ListN.{getD};
 ghost use Rattle.place.specs.Search.{isOfKind};
 ghost use Rattle.book.specs.Books.{isBook};
-ghost use Rattle.book.specs.Calls.{callA, callI, callJ, callL, callX, isWritten};
+ghost use Rattle.book.specs.Calls.{on, callA, callI, callJ, callL, callX, isPlace};
 ghost use Rattle.book.specs.Layout.{factsOf, used};
 ghost use Rattle.book.specs.Made.{Made};
-ghost use Rattle.strike_call.specs.Judging.{Sought, foundAnswer};
+ghost use Rattle.book.specs.Views.{viewOf};
+ghost use Rattle.strike_call.specs.Judging.{Sought, judged};
 use edit::insert_strike;
 use edit::store_marks;
 use place::head;
@@ -35,8 +36,8 @@ use word::limits::is_strike;
 use word::strike::Strike;
 
 // Whether the numbers that name a strike are within their limits.
-fn is_written(c: u32, m: u32, h: u32) -> bool
-    ensures { λ r. ⌜ r ≡ isWritten (callJ c m h) ⌝ }
+fn is_place(c: u32, m: u32, h: u32) -> bool
+    ensures { λ r. ⌜ r ≡ isPlace c m h ⌝ }
 {
     is_class_number(c) & (is_month(m) & is_strike(h))
 }
@@ -58,7 +59,7 @@ fn is_strike_at(run: &[u32], at: usize) -> bool
 fn judge_found(run: &[u32], class: usize, found: StrikeSearch, m: u32, h: u32) -> Answer
     requires { ⌜ Sought (now run) class found m h ⌝ }
     ensures { λ r. ⌜ ((x : Sought (now (run .entry)) class found m h)
-        → r ≡ foundAnswer (x .begins .number) m h (factsOf (now (run .entry)))) ⌝ }
+        → r ≡ judged m h (viewOf (x .begins .number) (factsOf (now (run .entry))))) ⌝ }
 {
     let figures = figures_at(run, class);
     let setting = Setting {
@@ -88,10 +89,10 @@ fn judge_found(run: &[u32], class: usize, found: StrikeSearch, m: u32, h: u32) -
 // `J`: the judgement of a strike.
 pub fn judge_strike(run: &[u32], near: usize, c: u32, m: u32, h: u32) -> Answer
     requires { ⌜ T (isBook (now run)) ⌝ }
-    ensures { λ r. ⌜ Made (callJ c m h) (now (run .entry)) [] r (now (run .entry)) [] ⌝ }
+    ensures { λ r. ⌜ Made (on c (callJ m h)) (now (run .entry)) [] r (now (run .entry)) [] ⌝ }
 {
     let words = &run[..];
-    if !is_written(c, m, h) {
+    if !is_place(c, m, h) {
         return Answer::Refused(Refusal::BeyondLimits);
     }
     let class = class_at(words, near, c);
@@ -105,9 +106,9 @@ pub fn judge_strike(run: &[u32], near: usize, c: u32, m: u32, h: u32) -> Answer
 // `L`: adds a strike.
 pub fn list_strike(run: &mut [u32], near: usize, c: u32, m: u32, h: u32) -> Answer
     requires { ⌜ T (isBook (now run)) ⌝ }
-    ensures { λ r. ⌜ Made (callL c m h) (now (run .entry)) [] r (now (run .exit)) [] ⌝ }
+    ensures { λ r. ⌜ Made (on c (callL m h)) (now (run .entry)) [] r (now (run .exit)) [] ⌝ }
 {
-    if !is_written(c, m, h) {
+    if !is_place(c, m, h) {
         return Answer::Refused(Refusal::BeyondLimits);
     }
     let class = class_at(run, near, c);
@@ -130,9 +131,9 @@ pub fn list_strike(run: &mut [u32], near: usize, c: u32, m: u32, h: u32) -> Answ
 // `X`: delists a strike.
 pub fn delist_strike(run: &mut [u32], near: usize, c: u32, m: u32, h: u32) -> Answer
     requires { ⌜ T (isBook (now run)) ⌝ }
-    ensures { λ r. ⌜ Made (callX c m h) (now (run .entry)) [] r (now (run .exit)) [] ⌝ }
+    ensures { λ r. ⌜ Made (on c (callX m h)) (now (run .entry)) [] r (now (run .exit)) [] ⌝ }
 {
-    if !is_written(c, m, h) {
+    if !is_place(c, m, h) {
         return Answer::Refused(Refusal::BeyondLimits);
     }
     let class = class_at(run, near, c);
@@ -155,9 +156,9 @@ pub fn delist_strike(run: &mut [u32], near: usize, c: u32, m: u32, h: u32) -> An
 // `I`: sets the marks of open interest.
 pub fn mark_strike(run: &mut [u32], near: usize, c: u32, m: u32, h: u32, a: u32, b: u32) -> Answer
     requires { ⌜ T (isBook (now run)) ⌝ }
-    ensures { λ r. ⌜ Made (callI c m h a b) (now (run .entry)) [] r (now (run .exit)) [] ⌝ }
+    ensures { λ r. ⌜ Made (on c (callI m h a b)) (now (run .entry)) [] r (now (run .exit)) [] ⌝ }
 {
-    if !(is_written(c, m, h) & (is_mark(a) & is_mark(b))) {
+    if !(is_place(c, m, h) & (is_mark(a) & is_mark(b))) {
         return Answer::Refused(Refusal::BeyondLimits);
     }
     let class = class_at(run, near, c);
@@ -175,7 +176,8 @@ pub fn mark_strike(run: &mut [u32], near: usize, c: u32, m: u32, h: u32, a: u32,
 // `A`: writes the permitted strikes to the second run.
 pub fn list_permitted(run: &[u32], second: &mut [u32], near: usize, c: u32, m: u32) -> Answer
     requires { ⌜ T (isBook (now run)) ⌝ }
-    ensures { λ r. ⌜ Made (callA c m (length (now (second .entry)))) (now (run .entry)) (now (second .entry)) r (now (run .entry)) (now (second .exit)) ⌝ }
+    ensures { λ r. ⌜ Made (on c (callA m)) (now (run .entry)) (now (second .entry))
+        r (now (run .entry)) (now (second .exit)) ⌝ }
 {
     let words = &run[..];
     if !(is_class_number(c) & is_month(m)) {

@@ -1,7 +1,7 @@
 -- `designate` keeps its contract over any words: a run that is no book is refused, and a book is handed on.
 use mathlib.Core.List.{[]}
 use borrow.Author.Needs.{needs}
-use Rattle.book.specs.Calls.{callD}
+use Rattle.book.specs.Calls.{on, callD}
 use Rattle.book.proofs.Answered.{made-no-book}
 use Rattle.call.proofs.Tested.{no-book, is-a-book}
 use Rattle.call.proofs.designate.Statement.{statement}
@@ -16,7 +16,8 @@ same-length c = search needs
 returns : tie.Need-returns
 returns c =
     let s = c .before .before .before .before in
-    made-no-book (callD (s .args .c) (s .args .p) (s .args .d)) (s .args .run .now) [] (no-book (c .before .is-book .ensures) (c .if1 .taken))
+    made-no-book (on (s .args .c) (callD (s .args .p) (s .args .d))) (s .args .run .now) []
+    (no-book (c .before .is-book .ensures) (c .if1 .taken))
 
 designate-requires : tie.Need-designate-requires
 designate-requires c κs = is-a-book (c .before .before .is-book .ensures) (c .before .if1 .left)

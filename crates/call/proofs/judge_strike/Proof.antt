@@ -1,7 +1,7 @@
 -- `judge_strike` keeps its contract over any words: a run that is no book is refused, and a book is handed on.
 use mathlib.Core.List.{[]}
 use borrow.Author.Needs.{needs}
-use Rattle.book.specs.Calls.{callJ}
+use Rattle.book.specs.Calls.{on, callJ}
 use Rattle.book.proofs.Answered.{made-no-book}
 use Rattle.call.proofs.Tested.{no-book, is-a-book}
 use Rattle.call.proofs.judge_strike.Statement.{statement}
@@ -13,7 +13,8 @@ is-book-requires c κs = search needs
 returns : tie.Need-returns
 returns c =
     let s = c .before .before .before in
-    made-no-book (callJ (s .args .c) (s .args .m) (s .args .h)) (s .args .run .now) [] (no-book (c .before .is-book .ensures) (c .if1 .taken))
+    made-no-book (on (s .args .c) (callJ (s .args .m) (s .args .h))) (s .args .run .now) []
+    (no-book (c .before .is-book .ensures) (c .if1 .taken))
 
 judge-strike-requires : tie.Need-judge-strike-requires
 judge-strike-requires c κs = is-a-book (c .before .is-book .ensures) (c .if1 .left)

@@ -1,7 +1,6 @@
 -- `list_permitted` keeps its contract over any words: a run that is no book is refused, and a book is handed on.
-use lib.ListN.{length}
 use borrow.Author.Needs.{needs}
-use Rattle.book.specs.Calls.{callA}
+use Rattle.book.specs.Calls.{on, callA}
 use Rattle.book.proofs.Answered.{made-no-book}
 use Rattle.call.proofs.Tested.{no-book, is-a-book}
 use Rattle.call.proofs.list_permitted.Statement.{statement}
@@ -13,7 +12,7 @@ is-book-requires c κs = search needs
 returns : tie.Need-returns
 returns c =
     let a = c .before .before .before .before .args in
-    made-no-book (callA (a .c) (a .m) (length (a .second .now))) (a .run .now) (a .second .now)
+    made-no-book (on (a .c) (callA (a .m))) (a .run .now) (a .second .now)
     (no-book (c .before .is-book .ensures) (c .if1 .taken))
 
 list-permitted-requires : tie.Need-list-permitted-requires

@@ -1,7 +1,7 @@
 -- `mark_strike` keeps its contract over any words: a run that is no book is refused, and a book is handed on.
 use mathlib.Core.List.{[]}
 use borrow.Author.Needs.{needs}
-use Rattle.book.specs.Calls.{callI}
+use Rattle.book.specs.Calls.{on, callI}
 use Rattle.book.proofs.Answered.{made-no-book}
 use Rattle.call.proofs.Tested.{no-book, is-a-book}
 use Rattle.call.proofs.mark_strike.Statement.{statement}
@@ -16,7 +16,8 @@ same-length c = search needs
 returns : tie.Need-returns
 returns c =
     let s = c .before .before .before .before in
-    made-no-book (callI (s .args .c) (s .args .m) (s .args .h) (s .args .a) (s .args .b)) (s .args .run .now) [] (no-book (c .before .is-book .ensures) (c .if1 .taken))
+    made-no-book (on (s .args .c) (callI (s .args .m) (s .args .h) (s .args .a) (s .args .b))) (s .args .run .now) []
+    (no-book (c .before .is-book .ensures) (c .if1 .taken))
 
 mark-strike-requires : tie.Need-mark-strike-requires
 mark-strike-requires c κs = is-a-book (c .before .before .is-book .ensures) (c .before .if1 .left)

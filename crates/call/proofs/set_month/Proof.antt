@@ -16,7 +16,8 @@ same-length c = search needs
 returns : tie.Need-returns
 returns c =
     let s = c .before .before .before .before in
-    made-no-book (callM (s .args .m)) (s .args .run .now) [] (no-book (c .before .is-book .ensures) (c .if1 .taken))
+    made-no-book (callM (s .args .m)) (s .args .run .now) []
+    (no-book (c .before .is-book .ensures) (c .if1 .taken))
 
 set-month-requires : tie.Need-set-month-requires
 set-month-requires c κs = is-a-book (c .before .before .is-book .ensures) (c .before .if1 .left)

@@ -1,12 +1,16 @@
 -- `designate` keeps the contract of `D`: each way out by its law. Assumes nothing.
-use mathlib.Core.Path.{_≡_}
-use mathlib.Core.Bool.{false, not}
+use mathlib.Core.Path.{_≡_, refl}
+use mathlib.Core.Bool.{false, not, _&&_}
 use native.Mathlib.Omega.{arith}
+use borrow.Author.Tests.{not-true, not-false}
 use borrow.Author.Needs.{needs}
-use Rattle.book.specs.Calls.{callD, isWritten}
+use Rattle.word.specs.Limits.{isClassNumber, isDesignation}
+use Rattle.word.specs.Programs.{isProgram}
+use Rattle.book.specs.Calls.{on, callD, effectOn}
 use Rattle.book.proofs.Tests.{ands}
-use Rattle.class_call.proofs.Ways.{beyond-limits, within-limits, open-room, Found}
-use Rattle.class_call.proofs.DesignationWays.{designation-not-open, designation-refused, designation-storable, designation-set}
+use Rattle.book.proofs.Answered.{made-beyond, made-not-open}
+use Rattle.class_call.proofs.Ways.{passed, open-room, Found}
+use Rattle.class_call.proofs.DesignationWays.{designation-program, designation-refused, designation-storable, designation-set}
 use Rattle.class_call.proofs.designate.Statement.{statement}
 use Rattle.class_call.proofs.designate.Tie as tie
 
@@ -24,7 +28,7 @@ start p = p .before .before .before .before
 within :
     (p : tie.Else1)
     → let a = start (p .before) .args in
-    not (isWritten (callD (a .c) (a .p) (a .d))) ≡ false
+    not (isClassNumber (a .c) && (isProgram (a .p) && isDesignation (a .d))) ≡ false
 within p =
     let q = p .before in
     rw (q .before .before .is-class-number .ensures, q .before .is-program .ensures, q .is-designation .ensures)
@@ -43,6 +47,10 @@ found p =
       said = p .figures-at .ensures;
     }
 
+-- before the place where the claim is granted: that where it was asked for
+abbrev granted : tie.Else3 → tie.After-claim-of
+granted p = p .before .before
+
 is-class-number-requires : tie.Need-is-class-number-requires
 is-class-number-requires c κs = search needs
 
@@ -53,9 +61,10 @@ is-designation-requires : tie.Need-is-designation-requires
 is-designation-requires c κs = search needs
 
 returns : tie.Need-returns
+unfolding effectOn
 returns c =
     let p = c .before in
-    beyond-limits (callD _ _ _) _ (start p .pre)
+    made-beyond (on _ (callD _ _)) _ _ (start p .pre)
     (rw (p .before .before .is-class-number .ensures, p .before .is-program .ensures, p .is-designation .ensures)
     at (c .if1 .taken))
 
@@ -63,7 +72,7 @@ class-at-requires : tie.Need-class-at-requires
 class-at-requires c κs =
     let p = c .before in
     let s = start (p .before) in
-    let t = within-limits (callD (s .args .c) (s .args .p) (s .args .d)) (within p) in
+    let t = passed (isClassNumber (s .args .c) && (isProgram (s .args .p) && isDesignation (s .args .d))) (within p) in
     (s .pre, search ands)
 
 is-open-at-requires : tie.Need-is-open-at-requires
@@ -73,10 +82,11 @@ same-length : tie.Need-same-length
 same-length c = search needs
 
 returns-2 : tie.Need-returns-2
+unfolding effectOn
 returns-2 c =
     let asked = c .before in
     let p = asked .before .before .before .before in
-    designation-not-open _ _ _ _ (start (p .before) .pre) (within p)
+    made-not-open _ (callD _ _) _ _ (start (p .before) .pre) _ refl (within p)
     (rw (asked .is-open-at .ensures) at (c .if2 .taken))
 
 figures-at-requires : tie.Need-figures-at-requires
@@ -89,36 +99,41 @@ figures-at-requires c κs =
     )
 
 claim-of-requires : tie.Need-claim-of-requires
-claim-of-requires c κs = search needs
+claim-of-requires c κs =
+    let p = limited (c .before .before .before) in
+    let s = start (p .before) in
+    (s .pre, designation-program (s .args .c) (s .args .p) (s .args .d) _ (s .pre) (within p))
 
-enum-known-claim : tie.Need-enum-known-claim
-enum-known-claim c = search needs
+is-accepted-requires : tie.Need-is-accepted-requires
+is-accepted-requires c κs = search needs
 
 same-length-2 : tie.Need-same-length-2
 same-length-2 c = search needs
 
 returns-3 : tie.Need-returns-3
 returns-3 c =
-    let claimed = c .before .before .before in
+    let told = c .before in
+    let claimed = told .before in
     let read = claimed .before .before in
     let p = limited (read .before .before) in
-    designation-refused _ _ _ _ (start (p .before) .pre) (within p) _ _ (found read) _ _ (claimed .claim-of .ensures)
-    (c .before .claim .given .1)
-
-enum-told : tie.Need-enum-told
-enum-told c = search needs
+    designation-refused _ _ _ _ (start (p .before) .pre) (within p) _ _ (found read) _ (claimed .claim-of .ensures)
+    (not-true _ (rw (told .is-accepted .ensures) at (c .if3 .taken)))
 
 with-designation-requires : tie.Need-with-designation-requires
-with-designation-requires c κs = search needs
+with-designation-requires c κs =
+    let claimed = granted (c .before) in
+    let p = limited (claimed .before .before .before .before) in
+    let s = start (p .before) in
+    designation-program (s .args .c) (s .args .p) (s .args .d) _ (s .pre) (within p)
 
 store-figures-requires : tie.Need-store-figures-requires
 store-figures-requires c κs =
-    let claimed = c .before .before .before .before in
+    let claimed = granted (c .before .before) in
     let read = claimed .before .before in
     let p = limited (read .before .before) in
     let s = start (p .before) in
     designation-storable _ (s .args .p) (s .args .d) _ (s .pre) (within p) _ _ (found read) _
-    (c .with-designation .ensures)
+    (claimed .claim-of .ensures) _ (c .with-designation .ensures)
 
 same-length-3 : tie.Need-same-length-3
 same-length-3 c = search needs
@@ -127,12 +142,13 @@ returns-4 : tie.Need-returns-4
 returns-4 c =
     let stored = c .before .before in
     let made = stored .before in
-    let granted = made .before .before in
-    let claimed = granted .before .before in
+    let told = made .before .before in
+    let claimed = granted told in
     let read = claimed .before .before in
     let p = limited (read .before .before) in
-    designation-set _ _ _ _ (start (p .before) .pre) (within p) _ _ (found read) _ (made .with-designation .ensures) _ _
-    (claimed .claim-of .ensures) (granted .enum-told .given .1) (stored .store-figures .ensures)
+    designation-set _ _ _ _ (start (p .before) .pre) (within p) _ _ (found read) _ (claimed .claim-of .ensures) _
+    (made .with-designation .ensures) _ (not-false _ (rw (told .before .is-accepted .ensures) at (told .if3 .left)))
+    (stored .store-figures .ensures)
 
 pub designate-spec : {M : Type 1} → statement M
 designate-spec =
@@ -148,10 +164,9 @@ designate-spec =
     returns-2
     figures-at-requires
     claim-of-requires
-    enum-known-claim
+    is-accepted-requires
     same-length-2
     returns-3
-    enum-told
     with-designation-requires
     store-figures-requires
     same-length-3

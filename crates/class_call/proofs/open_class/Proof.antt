@@ -3,11 +3,13 @@ use mathlib.Core.Path.{_≡_}
 use mathlib.Core.Bool.{false, not}
 use native.Mathlib.Omega.{arith}
 use borrow.Author.Needs.{needs}
+use Rattle.word.specs.Limits.{isClassNumber}
 use Rattle.book.specs.Facts.{isOpen}
 use Rattle.book.specs.Layout.{factsOf}
-use Rattle.book.specs.Calls.{callO, isWritten}
+use Rattle.book.specs.Calls.{on, callO, effectOn}
+use Rattle.book.proofs.Answered.{made-beyond}
 use Rattle.place.proofs.Heads.{book-room, book-long}
-use Rattle.class_call.proofs.Ways.{beyond-limits, within-limits, already-open, out-of-words, class-openable, class-opened}
+use Rattle.class_call.proofs.Ways.{passed, already-open, out-of-words, class-openable, class-opened}
 use Rattle.class_call.proofs.open_class.Statement.{statement}
 use Rattle.class_call.proofs.open_class.Tie as tie
 
@@ -21,7 +23,7 @@ limited p = sought p .before .before
 abbrev start : tie.Else1 → tie.Start
 start p = p .before .before .before
 
-within : (p : tie.Else1) → not (isWritten (callO (start p .args .c))) ≡ false
+within : (p : tie.Else1) → not (isClassNumber (start p .args .c)) ≡ false
 within p = rw (p .before .is-class-number .ensures) at (p .if1 .left)
 
 is-closed : (p : tie.Else2) → let a = start (limited p) .args in isOpen (a .c) (factsOf (a .run .now) .classes) ≡ false
@@ -31,12 +33,14 @@ is-class-number-requires : tie.Need-is-class-number-requires
 is-class-number-requires c κs = search needs
 
 returns : tie.Need-returns
+unfolding effectOn
 returns c =
     let tested = c .before in
-    beyond-limits (callO _) _ (tested .before .before .pre) (rw (tested .is-class-number .ensures) at (c .if1 .taken))
+    made-beyond (on _ callO) _ _ (tested .before .before .pre)
+    (rw (tested .is-class-number .ensures) at (c .if1 .taken))
 
 class-at-requires : tie.Need-class-at-requires
-class-at-requires c κs = let p = c .before in (start p .pre, within-limits (callO (start p .args .c)) (within p))
+class-at-requires c κs = let p = c .before in (start p .pre, passed (isClassNumber (start p .args .c)) (within p))
 
 is-open-at-requires : tie.Need-is-open-at-requires
 is-open-at-requires c κs = search needs

@@ -1,14 +1,17 @@
 -- `review_class` keeps the contract of `R`: each way out by its law. Assumes nothing.
 use Prim.Native.Nat.{_+_}
-use mathlib.Core.Path.{_≡_}
+use mathlib.Core.Path.{_≡_, refl}
 use mathlib.Core.Bool.{false, not}
 use native.Mathlib.Omega.{arith}
 use borrow.Author.Needs.{needs}
+use Rattle.word.specs.Limits.{isClassNumber}
 use Rattle.book.specs.Layout.{factsOf}
-use Rattle.book.specs.Calls.{callR, isWritten, isNotOpen}
+use Rattle.book.specs.Views.{viewOf, isNotOpen}
+use Rattle.book.specs.Calls.{on, callR, effectOn}
+use Rattle.book.proofs.Answered.{made-beyond, made-not-open}
 use Rattle.place.proofs.Heads.{book-long}
 use Rattle.removal.specs.Asked.{Reviewable}
-use Rattle.class_call.proofs.Ways.{beyond-limits, within-limits, open-within, open-room, Found, review-not-open, review-no-close, class-reviewable, review-count, review-made}
+use Rattle.class_call.proofs.Ways.{passed, open-within, open-room, Found, review-no-close, class-reviewable, review-count, review-made}
 use Rattle.class_call.proofs.review_class.Statement.{statement}
 use Rattle.class_call.proofs.review_class.Tie as tie
 
@@ -22,10 +25,10 @@ limited p = sought p .before .before
 abbrev start : tie.Else1 → tie.Start
 start p = p .before .before .before
 
-within : (p : tie.Else1) → not (isWritten (callR (start p .args .c))) ≡ false
+within : (p : tie.Else1) → not (isClassNumber (start p .args .c)) ≡ false
 within p = rw (p .before .is-class-number .ensures) at (p .if1 .left)
 
-is-open : (p : tie.Else2) → let a = start (limited p) .args in isNotOpen (factsOf (a .run .now)) (a .c) ≡ false
+is-open : (p : tie.Else2) → let a = start (limited p) .args in isNotOpen (viewOf (a .c) (factsOf (a .run .now))) ≡ false
 is-open p = rw (p .before .is-open-at .ensures) at (p .if2 .left)
 
 found :
@@ -54,12 +57,14 @@ is-class-number-requires : tie.Need-is-class-number-requires
 is-class-number-requires c κs = search needs
 
 returns : tie.Need-returns
+unfolding effectOn
 returns c =
     let tested = c .before in
-    beyond-limits (callR _) _ (tested .before .before .pre) (rw (tested .is-class-number .ensures) at (c .if1 .taken))
+    made-beyond (on _ callR) _ _ (tested .before .before .pre)
+    (rw (tested .is-class-number .ensures) at (c .if1 .taken))
 
 class-at-requires : tie.Need-class-at-requires
-class-at-requires c κs = let p = c .before in (start p .pre, within-limits (callR (start p .args .c)) (within p))
+class-at-requires c κs = let p = c .before in (start p .pre, passed (isClassNumber (start p .args .c)) (within p))
 
 is-open-at-requires : tie.Need-is-open-at-requires
 is-open-at-requires c κs = search needs
@@ -68,10 +73,11 @@ same-length : tie.Need-same-length
 same-length c = search needs
 
 returns-2 : tie.Need-returns-2
+unfolding effectOn
 returns-2 c =
     let asked = c .before in
     let p = asked .before .before .before .before in
-    review-not-open _ _ (start p .pre) (within p) (rw (asked .is-open-at .ensures) at (c .if2 .taken))
+    made-not-open _ callR _ _ (start p .pre) _ refl (within p) (rw (asked .is-open-at .ensures) at (c .if2 .taken))
 
 figures-at-requires : tie.Need-figures-at-requires
 figures-at-requires c κs =

@@ -2,8 +2,10 @@
 use mathlib.Core.Path.{_≡_}
 use mathlib.Core.Bool.{false, not}
 use borrow.Author.Needs.{needs}
-use Rattle.book.specs.Calls.{callM, isWritten}
-use Rattle.class_call.proofs.Ways.{beyond-limits, month-limit, month-outside, month-set, month-kept}
+use Rattle.word.specs.Limits.{isMonth}
+use Rattle.book.specs.Calls.{callM}
+use Rattle.book.proofs.Answered.{made-beyond}
+use Rattle.class_call.proofs.Ways.{month-limit, month-outside, month-set, month-kept}
 use Rattle.class_call.proofs.set_month.Statement.{statement}
 use Rattle.class_call.proofs.set_month.Tie as tie
 
@@ -14,7 +16,7 @@ limited p = p .before .before .before
 abbrev start : tie.Else1 → tie.Start
 start p = p .before .before .before
 
-within : (p : tie.Else1) → not (isWritten (callM (start p .args .m))) ≡ false
+within : (p : tie.Else1) → not (isMonth (start p .args .m)) ≡ false
 within p = rw (p .before .is-month .ensures) at (p .if1 .left)
 
 is-month-requires : tie.Need-is-month-requires
@@ -22,7 +24,7 @@ is-month-requires c κs = search needs
 
 returns : tie.Need-returns
 returns c =
-    beyond-limits (callM _) _ (c .before .before .before .pre) (rw (c .before .is-month .ensures) at (c .if1 .taken))
+    made-beyond (callM _) _ _ (c .before .before .before .pre) (rw (c .before .is-month .ensures) at (c .if1 .taken))
 
 current-requires : tie.Need-current-requires
 current-requires c κs = search needs

@@ -1,12 +1,14 @@
 -- `set_volume` keeps the contract of `V`: each way out by its law. Assumes nothing.
-use mathlib.Core.Path.{_≡_}
-use mathlib.Core.Bool.{false, not}
+use mathlib.Core.Path.{_≡_, refl}
+use mathlib.Core.Bool.{false, not, _&&_}
 use native.Mathlib.Omega.{arith}
 use borrow.Author.Needs.{needs}
-use Rattle.book.specs.Calls.{callV, isWritten}
+use Rattle.word.specs.Limits.{isClassNumber, isVolume}
+use Rattle.book.specs.Calls.{on, callV, effectOn}
 use Rattle.book.proofs.Tests.{ands}
-use Rattle.class_call.proofs.Ways.{beyond-limits, within-limits, open-room, Found}
-use Rattle.class_call.proofs.FigureWays.{volume-not-open, volume-storable, volume-set}
+use Rattle.book.proofs.Answered.{made-beyond, made-not-open}
+use Rattle.class_call.proofs.Ways.{passed, open-room, Found}
+use Rattle.class_call.proofs.FigureWays.{volume-storable, volume-set}
 use Rattle.class_call.proofs.set_volume.Statement.{statement}
 use Rattle.class_call.proofs.set_volume.Tie as tie
 
@@ -20,7 +22,7 @@ limited p = sought p .before .before
 abbrev start : tie.Else1 → tie.Start
 start p = p .before .before .before .before
 
-within : (p : tie.Else1) → not (isWritten (callV (start p .args .c) (start p .args .n))) ≡ false
+within : (p : tie.Else1) → not (isClassNumber (start p .args .c) && isVolume (start p .args .n)) ≡ false
 within p = rw (p .before .before .is-class-number .ensures, p .before .is-volume .ensures) at (p .if1 .left)
 
 found :
@@ -43,15 +45,16 @@ is-volume-requires : tie.Need-is-volume-requires
 is-volume-requires c κs = search needs
 
 returns : tie.Need-returns
+unfolding effectOn
 returns c =
     let tested = c .before in
-    beyond-limits (callV _ _) _ (tested .before .before .before .pre)
+    made-beyond (on _ (callV _)) _ _ (tested .before .before .before .pre)
     (rw (tested .before .is-class-number .ensures, tested .is-volume .ensures) at (c .if1 .taken))
 
 class-at-requires : tie.Need-class-at-requires
 class-at-requires c κs =
     let p = c .before in
-    let t = within-limits (callV (start p .args .c) (start p .args .n)) (within p) in
+    let t = passed (isClassNumber (start p .args .c) && isVolume (start p .args .n)) (within p) in
     (start p .pre, search ands)
 
 is-open-at-requires : tie.Need-is-open-at-requires
@@ -61,10 +64,11 @@ same-length : tie.Need-same-length
 same-length c = search needs
 
 returns-2 : tie.Need-returns-2
+unfolding effectOn
 returns-2 c =
     let asked = c .before in
     let p = asked .before .before .before .before in
-    volume-not-open _ _ _ (start p .pre) (within p) (rw (asked .is-open-at .ensures) at (c .if2 .taken))
+    made-not-open _ (callV _) _ _ (start p .pre) _ refl (within p) (rw (asked .is-open-at .ensures) at (c .if2 .taken))
 
 figures-at-requires : tie.Need-figures-at-requires
 figures-at-requires c κs =

@@ -1,6 +1,6 @@
 -- `make_call` keeps the contract of the call that the letter and the numbers name: by how many numbers there are. Assumes nothing.
 use Rattle.book.specs.Letters.{callOf}
-use Rattle.dispatch.proofs.Letters.{any-second, malformed-refused, one-lists-none, three-list-none, five-list-none, all-five}
+use Rattle.dispatch.proofs.Letters.{malformed-refused, all-five}
 use borrow.Author.Needs.{needs}
 use Rattle.dispatch.proofs.make_call.Statement.{statement}
 use Rattle.dispatch.proofs.make_call.Tie as tie
@@ -28,9 +28,7 @@ same-length c = search needs
 
 returns-2 : tie.Need-returns-2
 unfolding callOf
-returns-2 c =
-    let s = c .before .before .before .before .before .before .before .args in
-    rw (c .before .before .before .before .match .keys2) (any-second _ (one-lists-none (s .letter) (s .a)) (c .before .before .make-of-one .ensures))
+returns-2 c = rw (c .before .before .before .before .match .keys2) (c .before .before .make-of-one .ensures _)
 
 same-length-2 : tie.Need-same-length-2
 same-length-2 c = search needs
@@ -40,16 +38,16 @@ same-length-3 c = search needs
 
 returns-3 : tie.Need-returns-3
 unfolding callOf
-returns-3 c = rw (c .before .before .before .before .before .before .before .match .keys3) (c .before .before .before .before .make-of-two .ensures)
+returns-3 c =
+    let made = c .before .before .before .before in
+    rw (made .before .before .before .match .keys3) (made .make-of-two .ensures)
 
 same-length-4 : tie.Need-same-length-4
 same-length-4 c = search needs
 
 returns-4 : tie.Need-returns-4
 unfolding callOf
-returns-4 c =
-    let s = c .before .before .before .before .before .before .before .args in
-    rw (c .before .before .before .before .match .keys4) (any-second _ (three-list-none (s .letter) (s .a) (s .b) (s .c)) (c .before .before .make-of-three .ensures))
+returns-4 c = rw (c .before .before .before .before .match .keys4) (c .before .before .make-of-three .ensures _)
 
 returns-5 : tie.Need-returns-5
 unfolding callOf
@@ -64,8 +62,8 @@ returns-6 : tie.Need-returns-6
 unfolding callOf
 returns-6 c =
     let rest = c .before .before .before .before .match .rest in
-    let s = c .before .before .before .before .before .before .before .args in
-    rw (all-five _ _ _ _ _ _ (rest .0 .0 .0 .0 .1) (rest .0 .0 .0 .1) (rest .0 .0 .1) (rest .0 .1) (rest .1)) (any-second _ (five-list-none (s .letter) (s .a) (s .b) (s .c) (s .d) (s .e)) (c .before .before .make-of-five .ensures))
+    rw (all-five _ _ _ _ _ _ (rest .0 .0 .0 .0 .1) (rest .0 .0 .0 .1) (rest .0 .0 .1) (rest .0 .1) (rest .1))
+    (c .before .before .make-of-five .ensures _)
 
 pub make-call-spec : {M : Type 1} → statement M
 make-call-spec =

@@ -1,7 +1,9 @@
 -- `make_of_three` keeps the contract of the call that the letter names: the letter decides the call, whose own contract is the answer. Assumes nothing.
-use mathlib.Core.List.{[]}
+use mathlib.Core.Path.{refl}
 use borrow.Author.Tests.{ne-eqb}
 use Rattle.dispatch.proofs.Letters.{malformed-refused}
+use Rattle.book.specs.Calls.{on, callD, callL, callJ, callX, effectOn}
+use Rattle.book.proofs.Answered.{made-anyhow}
 use borrow.Author.Needs.{needs}
 use Rattle.dispatch.proofs.make_of_three.Statement.{statement}
 use Rattle.dispatch.proofs.make_of_three.Tie as tie
@@ -22,31 +24,59 @@ same-length : tie.Need-same-length
 same-length c = search needs
 
 returns : tie.Need-returns
-returns c = rw (c .before .before .before .before .match .keys1) (c .before .before .designate .ensures)
+unfolding effectOn
+returns c =
+    let chosen = c .before .before .before .before in
+    let start = chosen .before .before in
+    rw (chosen .match .keys1)
+    (λ v.
+    made-anyhow (on (start .args .a) (callD (start .args .b) (start .args .c))) _ v (start .pre) refl
+    (c .before .before .designate .ensures))
 
 same-length-2 : tie.Need-same-length-2
 same-length-2 c = search needs
 
 returns-2 : tie.Need-returns-2
-returns-2 c = rw (c .before .before .before .before .match .keys2) (c .before .before .list-strike .ensures)
+unfolding effectOn
+returns-2 c =
+    let chosen = c .before .before .before .before in
+    let start = chosen .before .before in
+    rw (chosen .match .keys2)
+    (λ v.
+    made-anyhow (on (start .args .a) (callL (start .args .b) (start .args .c))) _ v (start .pre) refl
+    (c .before .before .list-strike .ensures))
 
 same-length-3 : tie.Need-same-length-3
 same-length-3 c = search needs
 
 returns-3 : tie.Need-returns-3
-returns-3 c = rw (c .before .before .match .keys3) (c .judge-strike .ensures)
+unfolding effectOn
+returns-3 c =
+    let chosen = c .before .before in
+    let start = chosen .before .before in
+    rw (chosen .match .keys3)
+    (λ v.
+    made-anyhow (on (start .args .a) (callJ (start .args .b) (start .args .c))) _ v (start .pre) refl
+    (c .judge-strike .ensures))
 
 same-length-4 : tie.Need-same-length-4
 same-length-4 c = search needs
 
 returns-4 : tie.Need-returns-4
-returns-4 c = rw (c .before .before .before .before .match .keys4) (c .before .before .delist-strike .ensures)
+unfolding effectOn
+returns-4 c =
+    let chosen = c .before .before .before .before in
+    let start = chosen .before .before in
+    rw (chosen .match .keys4)
+    (λ v.
+    made-anyhow (on (start .args .a) (callX (start .args .b) (start .args .c))) _ v (start .pre) refl
+    (c .before .before .delist-strike .ensures))
 
 returns-5 : tie.Need-returns-5
 returns-5 c =
     let rest = c .match .rest in
     simp (ne-eqb _ _ (rest .0 .0 .0 .1), ne-eqb _ _ (rest .0 .0 .1), ne-eqb _ _ (rest .0 .1), ne-eqb _ _ (rest .1))
-    (malformed-refused (c .before .before .args .run .now) [] (c .before .before .pre))
+    (λ v. malformed-refused (c .before .before .args .run .now) v (c .before .before .pre))
 
 pub make-of-three-spec : {M : Type 1} → statement M
 make-of-three-spec =

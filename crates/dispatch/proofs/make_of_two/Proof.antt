@@ -1,8 +1,9 @@
 -- `make_of_two` keeps the contract of the call that the letter names: the letter decides the call, whose own contract is the answer. Assumes nothing.
 use mathlib.Core.Path.{refl}
 use borrow.Author.Tests.{ne-eqb}
-use Rattle.book.specs.Calls.{listed}
-use Rattle.dispatch.proofs.Letters.{any-second, malformed-refused}
+use Rattle.book.specs.Calls.{on, callC, callV, effectOn}
+use Rattle.book.proofs.Answered.{made-anyhow}
+use Rattle.dispatch.proofs.Letters.{malformed-refused}
 use borrow.Author.Needs.{needs}
 use Rattle.dispatch.proofs.make_of_two.Statement.{statement}
 use Rattle.dispatch.proofs.make_of_two.Tie as tie
@@ -20,15 +21,25 @@ same-length : tie.Need-same-length
 same-length c = search needs
 
 returns : tie.Need-returns
-unfolding listed
-returns c = rw (c .before .before .before .before .match .keys1) (any-second _ (λ f. refl) (c .before .before .set-close .ensures))
+unfolding effectOn
+returns c =
+    let chosen = c .before .before .before .before in
+    let start = chosen .before .before .before in
+    rw (chosen .match .keys1)
+    (made-anyhow (on (start .args .a) (callC (start .args .b))) _ _ (start .pre) refl
+    (c .before .before .set-close .ensures))
 
 same-length-2 : tie.Need-same-length-2
 same-length-2 c = search needs
 
 returns-2 : tie.Need-returns-2
-unfolding listed
-returns-2 c = rw (c .before .before .before .before .match .keys2) (any-second _ (λ f. refl) (c .before .before .set-volume .ensures))
+unfolding effectOn
+returns-2 c =
+    let chosen = c .before .before .before .before in
+    let start = chosen .before .before .before in
+    rw (chosen .match .keys2)
+    (made-anyhow (on (start .args .a) (callV (start .args .b))) _ _ (start .pre) refl
+    (c .before .before .set-volume .ensures))
 
 same-length-3 : tie.Need-same-length-3
 same-length-3 c = search needs
@@ -37,7 +48,9 @@ same-length-4 : tie.Need-same-length-4
 same-length-4 c = search needs
 
 returns-3 : tie.Need-returns-3
-returns-3 c = rw (c .before .before .before .before .before .match .keys3) (c .before .before .list-permitted .ensures)
+returns-3 c =
+    let listed = c .before .before in
+    rw (listed .before .before .before .match .keys3) (listed .list-permitted .ensures)
 
 returns-4 : tie.Need-returns-4
 returns-4 c =

@@ -1,20 +1,22 @@
 -- `delist_strike` is the call `X`: the limits, the class, the lookup and the marks of the strike's word refuse as the
 -- model does, else the strike goes. Assumes nothing.
 use Prim.Native.Nat.{_<_, _≤_}
-use mathlib.Core.Path.{_≡_, sym, ap, _∙_}
+use mathlib.Core.Path.{_≡_, refl, sym, ap, _∙_}
 use mathlib.Core.Bool.{false, not, _&&_}
+use mathlib.Core.List.{[]}
 use native.Mathlib.Omega.{arith}
 use lib.ListN.{length}
 use borrow.Author.Needs.{needs}
 use Rattle.book.specs.Facts.{isOpen}
 use Rattle.book.specs.Layout.{factsOf}
-use Rattle.book.specs.Calls.{callX, isWritten}
+use Rattle.book.specs.Calls.{on, callX, isPlace, effectOn}
 use Rattle.book.specs.Places.{ClassBegins}
 use Rattle.book.proofs.Tests.{ands}
+use Rattle.book.proofs.Answered.{made-beyond, made-not-open}
 use Rattle.place.specs.Lookups.{strikeSearchOf}
 use Rattle.place.proofs.Heads.{book-long}
 use Rattle.removal.specs.Asked.{Delistable}
-use Rattle.strike_call.proofs.Standing.{passed, found-place, found-alone, strike-standing, place-within, beyond, not-open, not-standing, delist-number, delist-marked, delist-done}
+use Rattle.strike_call.proofs.Standing.{passed, found-place, found-alone, strike-standing, place-within, delist-not-standing, delist-marked, delist-done}
 use Rattle.strike_call.proofs.delist_strike.Statement.{statement}
 use Rattle.strike_call.proofs.delist_strike.Tie as tie
 
@@ -49,8 +51,8 @@ unmarked c = c .before .before
 
 -- ---- what is known there
 
-limits : (c : tie.Else1) → let a = start c .args in not (isWritten (callX (a .c) (a .m) (a .h))) ≡ false
-limits c = ap not (sym (c .before .is-written .ensures)) ∙ c .if1 .left
+limits : (c : tie.Else1) → let a = start c .args in not (isPlace (a .c) (a .m) (a .h)) ≡ false
+limits c = ap not (sym (c .before .is-place .ensures)) ∙ c .if1 .left
 
 abbrev begins : (c : tie.Else2) → ClassBegins (factsOf (start (within c) .args .run .now)) (class c .class-at .result)
 begins c =
@@ -104,22 +106,23 @@ delistable c =
 
 -- ---- what is to be shown there
 
-is-written-requires : tie.Need-is-written-requires
-is-written-requires c κs = search needs
+is-place-requires : tie.Need-is-place-requires
+is-place-requires c κs = search needs
 
 returns : tie.Need-returns
+unfolding effectOn
 returns c =
     let k = c .before in
     let s = k .before .before in
     let a = s .args in
-    beyond (a .run .now) (s .pre) (a .c) (a .m) (a .h) (callX (a .c) (a .m) (a .h)) _
-    (delist-number (a .run .now) (s .pre) (a .c) (a .m) (a .h)) (ap not (sym (k .is-written .ensures)) ∙ c .if1 .taken)
+    made-beyond (on (a .c) (callX (a .m) (a .h))) (a .run .now) [] (s .pre)
+    (ap not (sym (k .is-place .ensures)) ∙ c .if1 .taken)
 
 class-at-requires : tie.Need-class-at-requires
 class-at-requires c κs =
     let s = start (c .before) in
     let a = s .args in
-    let written = passed (isWritten (callX (a .c) (a .m) (a .h))) (limits (c .before)) in
+    let numbers = passed (isPlace (a .c) (a .m) (a .h)) (limits (c .before)) in
     (s .pre, search ands)
 
 is-open-at-requires : tie.Need-is-open-at-requires
@@ -131,13 +134,13 @@ same-length : tie.Need-same-length
 same-length c = search needs
 
 returns-2 : tie.Need-returns-2
+unfolding effectOn
 returns-2 c =
     let asked = c .before .before .before in
     let l = asked .before .before in
     let s = start l in
     let a = s .args in
-    not-open (a .run .now) (s .pre) (a .c) (a .m) (a .h) (callX (a .c) (a .m) (a .h)) _
-    (delist-number (a .run .now) (s .pre) (a .c) (a .m) (a .h)) (limits l)
+    made-not-open (a .c) (callX (a .m) (a .h)) (a .run .now) [] (s .pre) _ refl (limits l)
     (ap not (sym (c .before .is-open-at .ensures)) ∙ c .if2 .taken)
 
 look-up-strike-requires : tie.Need-look-up-strike-requires
@@ -145,7 +148,7 @@ look-up-strike-requires c κs =
     let o = c .before in
     let s = start (within o) in
     let a = s .args in
-    let written = passed (isWritten (callX (a .c) (a .m) (a .h))) (limits (within o)) in
+    let numbers = passed (isPlace (a .c) (a .m) (a .h)) (limits (within o)) in
     (record { book = s .pre; month = search ands; begins = begins o }, search ands)
 
 same-length-2 : tie.Need-same-length-2
@@ -156,9 +159,8 @@ returns-3 c =
     let l = c .before .before in
     let s = called l in
     let a = s .args in
-    not-standing (a .run .now) (s .pre) (a .c) (a .m) (a .h) (callX (a .c) (a .m) (a .h)) _
-    (delist-number (a .run .now) (s .pre) (a .c) (a .m) (a .h)) (limits (within (opened l)))
-    (begins (opened l) .is-open) _ (searched l) (c .if3 .taken)
+    delist-not-standing (a .run .now) (s .pre) (a .c) (a .m) (a .h) (begins (opened l) .is-open) _ (searched l)
+    (limits (within (opened l))) (c .if3 .taken)
 
 mul-field-of : tie.Need-mul-field-of
 mul-field-of c =
@@ -181,8 +183,8 @@ returns-4 c =
     let l = found t in
     let s = called l in
     let a = s .args in
-    delist-marked (a .run .now) (s .pre) (a .c) (a .m) (a .h) (begins (opened l) .is-open) _ (searched l) (t .if3 .left)
-    (limits (within (opened l))) (λ z. c .if4 .taken (i .field-of .ensures ∙ z))
+    delist-marked (a .run .now) (s .pre) (a .c) (a .m) (a .h) (begins (opened l) .is-open) _ (searched l)
+    (limits (within (opened l))) (t .if3 .left) (λ z. c .if4 .taken (i .field-of .ensures ∙ z))
 
 sub-is-strike-at : tie.Need-sub-is-strike-at
 sub-is-strike-at c = place-inside (stands (c .before)) .0
@@ -214,15 +216,15 @@ returns-5 c =
     let l = found t in
     let s = called l in
     let a = s .args in
-    delist-done (a .run .now) (s .pre) (a .c) (a .m) (a .h) (begins (opened l) .is-open) _ (searched l) (t .if3 .left)
-    (limits (within (opened l))) (sym (u .before .field-of .ensures) ∙ u .if4 .left) _
+    delist-done (a .run .now) (s .pre) (a .c) (a .m) (a .h) (begins (opened l) .is-open) _ (searched l)
+    (limits (within (opened l))) (t .if3 .left) (sym (u .before .field-of .ensures) ∙ u .if4 .left) _
     (d .delist .ensures (delistable n))
 
 pub delist-strike-spec : {M : Type 1} → statement M
 delist-strike-spec =
     tie.close
     (tie.spec
-    is-written-requires
+    is-place-requires
     returns
     class-at-requires
     is-open-at-requires

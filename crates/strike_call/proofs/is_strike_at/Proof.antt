@@ -1,4 +1,5 @@
--- `is_strike_at` meets its contract: from the count of the words used on there is none, and before it the word's kind is read. Assumes nothing.
+-- `is_strike_at` meets its contract: from the count of the words used on there is none, and before it the word's kind
+-- is read. Assumes nothing.
 use mathlib.Core.Path.{ap, _∙_}
 use Prim.Native.Nat.{ℕ}
 use native.Mathlib.Omega.{arith}
@@ -22,7 +23,8 @@ returns c =
 mul-kind : tie.Need-mul-kind
 mul-kind c =
     let s = c .before .before .before in
-    omega (arith, c .before .used .ensures, book-room (s .args .run .now) (s .pre), book-long (s .args .run .now) (s .pre))
+    let w = s .args .run .now in
+    omega (arith, c .before .used .ensures, book-room w (s .pre), book-long w (s .pre))
 
 shared-slice-read-kind : tie.Need-shared-slice-read-kind
 shared-slice-read-kind c =

@@ -140,7 +140,7 @@ judge-requires c κs =
     let q = tested (j .before .before .before) in
     let s = start q in
     record {
-      close = rw (q .before .before .figures-at .ensures) (class-close (s .pre));
+      close = class-close (s .pre) _ (q .before .before .figures-at .ensures);
       current = omega (arith, book-month (s .args .run .now) (s .pre .book), q .before .current .ensures);
       strike = strike-most (s .pre);
     }

@@ -1,17 +1,18 @@
 -- `judge_strike` is the call `J`: the limits and the class refuse first, and a strike that was looked up is judged. It
 -- changes nothing. Assumes nothing.
-use mathlib.Core.Path.{_≡_, sym, ap, _∙_}
+use mathlib.Core.Path.{_≡_, refl, sym, ap, _∙_}
 use mathlib.Core.Bool.{false, not}
+use mathlib.Core.List.{[]}
 use borrow.Author.Needs.{needs}
 use Rattle.book.specs.Facts.{isOpen}
 use Rattle.book.specs.Layout.{factsOf}
-use Rattle.book.specs.Calls.{callJ, isWritten}
+use Rattle.book.specs.Calls.{on, callJ, isPlace, effectOn}
 use Rattle.book.specs.Places.{ClassBegins}
 use Rattle.book.proofs.Tests.{ands}
+use Rattle.book.proofs.Answered.{made-beyond, made-not-open}
 use Rattle.strike_call.specs.Judging.{Sought}
 use Rattle.strike_call.proofs.Standing.{passed}
-use Rattle.strike_call.proofs.Judgements.{judged-beyond, judged-not-open, judged-found}
-use Rattle.strike_call.proofs.Listing.{judged}
+use Rattle.strike_call.proofs.Listing.{judge-done}
 use Rattle.strike_call.proofs.judge_strike.Statement.{statement}
 use Rattle.strike_call.proofs.judge_strike.Tie as tie
 
@@ -28,8 +29,8 @@ within c = class c .before
 
 -- ---- what is known there
 
-limits : (c : tie.Else1) → let a = start c .args in not (isWritten (callJ (a .c) (a .m) (a .h))) ≡ false
-limits c = ap not (sym (c .before .is-written .ensures)) ∙ c .if1 .left
+limits : (c : tie.Else1) → let a = start c .args in not (isPlace (a .c) (a .m) (a .h)) ≡ false
+limits c = ap not (sym (c .before .is-place .ensures)) ∙ c .if1 .left
 
 abbrev begins : (c : tie.Else2) → ClassBegins (factsOf (start (within c) .args .run .now)) (class c .class-at .result)
 begins c =
@@ -49,7 +50,7 @@ sought c =
     let opened = c .before in
     let s = start (within opened) in
     let a = s .args in
-    let written = passed (isWritten (callJ (a .c) (a .m) (a .h))) (limits (within opened)) in
+    let numbers = passed (isPlace (a .c) (a .m) (a .h)) (limits (within opened)) in
     record {
       book = s .pre;
       month = search ands;
@@ -60,41 +61,42 @@ sought c =
 
 -- ---- what is to be shown there
 
-is-written-requires : tie.Need-is-written-requires
-is-written-requires c κs = search needs
+is-place-requires : tie.Need-is-place-requires
+is-place-requires c κs = search needs
 
 returns : tie.Need-returns
+unfolding effectOn
 returns c =
     let k = c .before in
     let s = k .before .before in
     let a = s .args in
-    judged (a .run .now) (s .pre) (a .c) (a .m) (a .h) _
-    (judged-beyond (a .c) (a .m) (a .h) (factsOf (a .run .now)) (ap not (sym (k .is-written .ensures)) ∙ c .if1 .taken))
+    made-beyond (on (a .c) (callJ (a .m) (a .h))) (a .run .now) [] (s .pre)
+    (ap not (sym (k .is-place .ensures)) ∙ c .if1 .taken)
 
 class-at-requires : tie.Need-class-at-requires
 class-at-requires c κs =
     let a = start c .args in
-    let written = passed (isWritten (callJ (a .c) (a .m) (a .h))) (limits c) in
+    let numbers = passed (isPlace (a .c) (a .m) (a .h)) (limits c) in
     (start c .pre, search ands)
 
 is-open-at-requires : tie.Need-is-open-at-requires
 is-open-at-requires c κs = (start (c .before) .pre, c .class-at .ensures)
 
 returns-2 : tie.Need-returns-2
+unfolding effectOn
 returns-2 c =
     let k = c .before in
     let asked = k .before .before in
     let s = start asked in
     let a = s .args in
-    judged (a .run .now) (s .pre) (a .c) (a .m) (a .h) _
-    (judged-not-open (a .c) (a .m) (a .h) (factsOf (a .run .now)) (limits asked)
-    (ap not (sym (k .is-open-at .ensures)) ∙ c .if2 .taken))
+    made-not-open (a .c) (callJ (a .m) (a .h)) (a .run .now) [] (s .pre) _ refl (limits asked)
+    (ap not (sym (k .is-open-at .ensures)) ∙ c .if2 .taken)
 
 look-up-strike-requires : tie.Need-look-up-strike-requires
 look-up-strike-requires c κs =
     let s = start (within c) in
     let a = s .args in
-    let written = passed (isWritten (callJ (a .c) (a .m) (a .h))) (limits (within c)) in
+    let numbers = passed (isPlace (a .c) (a .m) (a .h)) (limits (within c)) in
     (record { book = s .pre; month = search ands; begins = begins c }, search ands)
 
 judge-found-requires : tie.Need-judge-found-requires
@@ -106,15 +108,14 @@ returns-3 c =
     let opened = found .before in
     let s = start (within opened) in
     let a = s .args in
-    judged (a .run .now) (s .pre) (a .c) (a .m) (a .h) _
-    (judged-found (a .c) (a .m) (a .h) (factsOf (a .run .now)) (limits (within opened)) (begins opened .is-open) _
-    (c .judge-found .ensures (sought found)))
+    judge-done (a .run .now) (s .pre) (a .c) (a .m) (a .h) (limits (within opened)) _
+    (c .judge-found .ensures (sought found))
 
 pub judge-strike-spec : {M : Type 1} → statement M
 judge-strike-spec =
     tie.close
     (tie.spec
-    is-written-requires
+    is-place-requires
     returns
     class-at-requires
     is-open-at-requires

@@ -1,7 +1,7 @@
 -- `list_permitted` is the call `A`: each test is the condition of the facts in its turn, and the strikes are listed
 -- beside the words of the expiration's strikes. Assumes nothing.
 use Prim.Native.Nat.{_≤_}
-use mathlib.Core.Path.{_≡_, sym, ap, ap₂, _∙_}
+use mathlib.Core.Path.{_≡_, refl, sym, ap, ap₂, _∙_}
 use mathlib.Core.Bool.{Bool, false, not, _&&_}
 use native.Mathlib.Omega.{arith}
 use lib.ListN.{length}
@@ -9,13 +9,15 @@ use borrow.Author.Needs.{needs}
 use Rattle.word.specs.Limits.{isMonth, isClassNumber}
 use Rattle.book.specs.Facts.{isOpen}
 use Rattle.book.specs.Layout.{factsOf}
+use Rattle.book.specs.Calls.{on, callA, effectOn}
 use Rattle.book.specs.Places.{ClassBegins}
 use Rattle.book.proofs.Tests.{ands}
+use Rattle.book.proofs.Answered.{made-beyond, made-not-open}
 use Rattle.place.specs.Lookups.{expirationOf}
 use Rattle.place.proofs.Found.{begins-room}
 use Rattle.place.proofs.Heads.{book-long, book-month, book-room}
 use Rattle.strike_call.proofs.Standing.{passed}
-use Rattle.strike_call.proofs.Permitting.{part-within, permitting-beyond, permitting-not-open, permitting-outside, permitting-no-close, permitting-listable, permitting-filled}
+use Rattle.strike_call.proofs.Permitting.{part-within, permitting-outside, permitting-no-close, permitting-listable, permitting-filled}
 use Rattle.strike_call.proofs.list_permitted.Statement.{statement}
 use Rattle.strike_call.proofs.list_permitted.Tie as tie
 
@@ -86,16 +88,17 @@ is-month-requires : tie.Need-is-month-requires
 is-month-requires c κs = search needs
 
 returns : tie.Need-returns
+unfolding effectOn
 returns c =
     let s = start (c .before) in
     let a = s .args in
-    permitting-beyond (a .run .now) (a .second .now) (s .pre) (a .c) (a .m) (joined (c .before) ∙ c .if1 .taken)
+    made-beyond (on (a .c) (callA (a .m))) (a .run .now) (a .second .now) (s .pre) (joined (c .before) ∙ c .if1 .taken)
 
 class-at-requires : tie.Need-class-at-requires
 class-at-requires c κs =
     let s = start (c .before) in
     let a = s .args in
-    let written = passed (isClassNumber (a .c) && isMonth (a .m)) (limits c) in
+    let numbers = passed (isClassNumber (a .c) && isMonth (a .m)) (limits c) in
     (s .pre, search ands)
 
 is-open-at-requires : tie.Need-is-open-at-requires
@@ -104,11 +107,12 @@ is-open-at-requires c κs =
     (start (l .before) .pre, c .class-at .ensures)
 
 returns-2 : tie.Need-returns-2
+unfolding effectOn
 returns-2 c =
     let l = c .before .before .before in
     let s = start (l .before) in
     let a = s .args in
-    permitting-not-open (a .run .now) (a .second .now) (s .pre) (a .c) (a .m) (limits l)
+    made-not-open (a .c) (callA (a .m)) (a .run .now) (a .second .now) (s .pre) _ refl (limits l)
     (ap not (sym (c .before .is-open-at .ensures)) ∙ c .if2 .taken)
 
 figures-at-requires : tie.Need-figures-at-requires
@@ -150,7 +154,7 @@ look-up-expiration-requires : tie.Need-look-up-expiration-requires
 look-up-expiration-requires c κs =
     let o = opened (c .before .before) in
     let a = called o .args in
-    let written = passed (isClassNumber (a .c) && isMonth (a .m)) (limits (within o)) in
+    let numbers = passed (isClassNumber (a .c) && isMonth (a .m)) (limits (within o)) in
     record { book = called o .pre; month = search ands; begins = begins o }
 
 mul-list-permitted : tie.Need-mul-list-permitted

@@ -1,26 +1,25 @@
 -- `list_strike` is the call `L`: refused as `J` refuses, then where the words needed exceed the run; else the strike is
 -- put at its place. Assumes nothing.
 use Prim.Native.Nat.{ℕ, _≤_}
-use mathlib.Core.Path.{_≡_, sym, ap, _∙_}
+use mathlib.Core.Path.{_≡_, refl, sym, ap, _∙_}
 use mathlib.Core.Bool.{Bool, false, cond, not}
+use mathlib.Core.List.{[]}
 use mathlib.Core.Logic.{⊎-elim}
 use native.Mathlib.Omega.{arith}
 use borrow.Author.Needs.{needs}
-use Rattle.word.specs.declared.answer.Answer.the-variants.{Ground}
-use Rattle.word.specs.declared.answer.Refusal.the-variants.{BeyondLimits, NotOpen}
 use Rattle.book.specs.Facts.{isOpen}
 use Rattle.book.specs.Layout.{factsOf}
-use Rattle.book.specs.Calls.{callJ, isWritten}
+use Rattle.book.specs.Views.{viewOf}
+use Rattle.book.specs.Calls.{on, callL, isPlace, effectOn}
 use Rattle.book.specs.Places.{ClassBegins, hasExpiration}
 use Rattle.book.proofs.Tests.{ands}
+use Rattle.book.proofs.Answered.{made-beyond, made-not-open}
 use Rattle.place.specs.declared.lookup.StrikeSearch.{StrikeSearch}
 use Rattle.place.proofs.Heads.{book-room, book-long}
 use Rattle.edit.specs.Asked.{Insertable}
-use Rattle.strike_call.specs.Judging.{Sought}
-use Rattle.strike_call.proofs.Outcomes.{judgedAnswer}
+use Rattle.strike_call.specs.Judging.{Sought, judged}
 use Rattle.strike_call.proofs.Standing.{passed}
-use Rattle.strike_call.proofs.Judgements.{judged-beyond, judged-not-open, judged-found}
-use Rattle.strike_call.proofs.Listing.{no-ground, refused-no-ground, permits, list-refused, out-of-words, list-done}
+use Rattle.strike_call.proofs.Listing.{Permits, permits, no-ground, list-refused, out-of-words, list-done}
 use Rattle.strike_call.proofs.list_strike.Statement.{statement}
 use Rattle.strike_call.proofs.list_strike.Tie as tie
 
@@ -55,8 +54,8 @@ called c = start (within (opened (found c)))
 
 -- ---- what is known up to the judgement
 
-limits : (c : tie.Else1) → let a = start c .args in not (isWritten (callJ (a .c) (a .m) (a .h))) ≡ false
-limits c = ap not (sym (c .before .is-written .ensures)) ∙ c .if1 .left
+limits : (c : tie.Else1) → let a = start c .args in not (isPlace (a .c) (a .m) (a .h)) ≡ false
+limits c = ap not (sym (c .before .is-place .ensures)) ∙ c .if1 .left
 
 abbrev begins : (c : tie.Else2) → ClassBegins (factsOf (start (within c) .args .run .now)) (class c .class-at .result)
 begins c =
@@ -75,7 +74,7 @@ abbrev sought :
 sought c =
     let s = start (within (opened c)) in
     let a = s .args in
-    let written = passed (isWritten (callJ (a .c) (a .m) (a .h))) (limits (within (opened c))) in
+    let numbers = passed (isPlace (a .c) (a .m) (a .h)) (limits (within (opened c))) in
     record {
       book = s .pre;
       month = search ands;
@@ -84,35 +83,31 @@ sought c =
       place = c .look-up-strike .ensures (begins (opened c));
     }
 
-judged :
+answered :
     (c : tie.After-judge-found)
     → let a = called c .args in
-    c .judge-found .result ≡ judgedAnswer (a .c) (a .m) (a .h) (factsOf (a .run .now))
-judged c =
-    let a = called c .args in
-    let o = opened (found c) in
-    judged-found (a .c) (a .m) (a .h) (factsOf (a .run .now)) (limits (within o)) (begins o .is-open) _
-    (c .judge-found .ensures (sought (found c)))
+    c .judge-found .result ≡ judged (a .m) (a .h) (viewOf (a .c) (factsOf (a .run .now)))
+answered c = c .judge-found .ensures (sought (found c))
 
 -- ---- what is to be shown up to the judgement
 
-is-written-requires : tie.Need-is-written-requires
-is-written-requires c κs = search needs
+is-place-requires : tie.Need-is-place-requires
+is-place-requires c κs = search needs
 
 returns : tie.Need-returns
+unfolding effectOn
 returns c =
     let k = c .before in
     let s = k .before .before in
     let a = s .args in
-    list-refused (a .run .now) (s .pre) (a .c) (a .m) (a .h) _
-    (judged-beyond (a .c) (a .m) (a .h) (factsOf (a .run .now)) (ap not (sym (k .is-written .ensures)) ∙ c .if1 .taken))
-    (refused-no-ground BeyondLimits)
+    made-beyond (on (a .c) (callL (a .m) (a .h))) (a .run .now) [] (s .pre)
+    (ap not (sym (k .is-place .ensures)) ∙ c .if1 .taken)
 
 class-at-requires : tie.Need-class-at-requires
 class-at-requires c κs =
     let s = start (c .before) in
     let a = s .args in
-    let written = passed (isWritten (callJ (a .c) (a .m) (a .h))) (limits (c .before)) in
+    let numbers = passed (isPlace (a .c) (a .m) (a .h)) (limits (c .before)) in
     (s .pre, search ands)
 
 is-open-at-requires : tie.Need-is-open-at-requires
@@ -124,23 +119,22 @@ same-length : tie.Need-same-length
 same-length c = search needs
 
 returns-2 : tie.Need-returns-2
+unfolding effectOn
 returns-2 c =
     let k = c .before in
     let asked = k .before .before in
     let l = asked .before .before in
     let s = start l in
     let a = s .args in
-    list-refused (a .run .now) (s .pre) (a .c) (a .m) (a .h) _
-    (judged-not-open (a .c) (a .m) (a .h) (factsOf (a .run .now)) (limits l)
-    (ap not (sym (k .is-open-at .ensures)) ∙ c .if2 .taken))
-    (refused-no-ground NotOpen)
+    made-not-open (a .c) (callL (a .m) (a .h)) (a .run .now) [] (s .pre) _ refl (limits l)
+    (ap not (sym (k .is-open-at .ensures)) ∙ c .if2 .taken)
 
 look-up-strike-requires : tie.Need-look-up-strike-requires
 look-up-strike-requires c κs =
     let o = c .before in
     let s = start (within o) in
     let a = s .args in
-    let written = passed (isWritten (callJ (a .c) (a .m) (a .h))) (limits (within o)) in
+    let numbers = passed (isPlace (a .c) (a .m) (a .h)) (limits (within o)) in
     (record { book = s .pre; month = search ands; begins = begins o }, search ands)
 
 judge-found-requires : tie.Need-judge-found-requires
@@ -157,15 +151,19 @@ returns-3 c =
     let g = c .before in
     let s = called g in
     let a = s .args in
-    list-refused (a .run .now) (s .pre) (a .c) (a .m) (a .h) _ (judged g) (no-ground _ (c .match .keys2))
+    list-refused (a .run .now) (s .pre) (a .c) (a .m) (a .h) (limits (within (opened (found g)))) _ (answered g)
+    (no-ground _ (c .match .keys2))
 
 -- ---- what is known where a ground was answered
 
-ground :
+permit :
     (c : tie.Joined3)
     → let a = called (ruled c) .args in
-    judgedAnswer (a .c) (a .m) (a .h) (factsOf (a .run .now)) ≡ Ground (permitted c .answer .given .0 .0)
-ground c = sym (judged (ruled c)) ∙ permitted c .answer .given .1
+    Permits (a .m) (a .h) (viewOf (a .c) (factsOf (a .run .now))) (permitted c .answer .given .0 .0)
+permit c =
+    let a = called (ruled c) .args in
+    permits (a .m) (a .h) (viewOf (a .c) (factsOf (a .run .now))) _
+    (sym (answered (ruled c)) ∙ permitted c .answer .given .1)
 
 has-strikes :
     (c : tie.After-judge-found)
@@ -195,16 +193,16 @@ insertable c =
     let g = ruled j in
     let s = called g in
     let a = s .args in
-    let p = permits (a .c) (a .m) (a .h) (factsOf (a .run .now)) _ (ground j) in
-    let written = p .limits in
+    let o = opened (found g) in
+    let numbers = passed (isPlace (a .c) (a .m) (a .h)) (limits (within o)) in
     record {
       book = s .pre;
       month = search ands;
       strike = search ands;
-      on = p .known;
+      on = permit j .known;
       class = a .c;
-      is-open = p .opened;
-      absent = p .absent;
+      is-open = begins o .is-open;
+      absent = permit j .absent;
       place = ap (λ (r : StrikeSearch). r .at) (sought (found g) .place);
       expiration = has-strikes g;
       room = omega (arith, c .if4 .left, c .before .before .used .ensures, needed-words j);
@@ -220,7 +218,8 @@ add-if4 c =
     let j = c .before .before .before in
     let s = called (ruled j) in
     let few : j .if3 .needed ≤ 2 = ⊎-elim (λ x. omega arith) (λ x. omega arith) (j .if3 .came) in
-    omega (arith, book-room (s .args .run .now) (s .pre), book-long (s .args .run .now) (s .pre), c .before .used .ensures)
+    let w = s .args .run .now in
+    omega (arith, book-room w (s .pre), book-long w (s .pre), c .before .used .ensures)
 
 same-length-3 : tie.Need-same-length-3
 same-length-3 c = search needs
@@ -228,10 +227,12 @@ same-length-3 c = search needs
 returns-4 : tie.Need-returns-4
 returns-4 c =
     let j = c .before .before .before .before in
-    let s = called (ruled j) in
+    let g = ruled j in
+    let o = opened (found g) in
+    let s = called g in
     let a = s .args in
-    out-of-words (a .run .now) (s .pre) (a .c) (a .m) (a .h) _ (ground j) _ (needed j)
-    (omega (arith, c .before .before .used .ensures))
+    out-of-words (a .run .now) (s .pre) (a .c) (a .m) (a .h) (limits (within o)) (begins o .is-open) _ (permit j) _
+    (needed j) (omega (arith, c .before .before .used .ensures))
 
 insert-strike-requires : tie.Need-insert-strike-requires
 insert-strike-requires c κs = insertable (c .before)
@@ -244,17 +245,19 @@ returns-5 c =
     let i = c .before .before in
     let e = i .before .before in
     let j = counted e in
-    let s = called (ruled j) in
+    let g = ruled j in
+    let o = opened (found g) in
+    let s = called g in
     let a = s .args in
-    list-done (a .run .now) (s .pre) (a .c) (a .m) (a .h) _ (ground j) _ (needed j)
-    (omega (arith, e .if4 .left, e .before .before .used .ensures)) _
+    list-done (a .run .now) (s .pre) (a .c) (a .m) (a .h) (limits (within o)) (begins o .is-open) _ (permit j) _
+    (needed j) (omega (arith, e .if4 .left, e .before .before .used .ensures)) _
     (i .insert-strike .ensures (insertable e))
 
 pub list-strike-spec : {M : Type 1} → statement M
 list-strike-spec =
     tie.close
     (tie.spec
-    is-written-requires
+    is-place-requires
     returns
     class-at-requires
     is-open-at-requires

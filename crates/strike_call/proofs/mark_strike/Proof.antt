@@ -1,15 +1,18 @@
 -- `mark_strike` is the call `I`: the limits, the class and the lookup refuse as the model does, and the marks are
 -- stored where the strike stands. Assumes nothing.
-use mathlib.Core.Path.{_≡_, sym, ap, _∙_}
+use mathlib.Core.Path.{_≡_, refl, sym, ap, ap₂, _∙_}
 use mathlib.Core.Bool.{false, not, _&&_}
+use mathlib.Core.List.{[]}
 use borrow.Author.Needs.{needs}
+use Rattle.word.specs.Limits.{isMark}
 use Rattle.book.specs.Facts.{isOpen}
 use Rattle.book.specs.Layout.{factsOf}
-use Rattle.book.specs.Calls.{callI, isWritten}
+use Rattle.book.specs.Calls.{on, callI, isPlace, effectOn}
 use Rattle.book.specs.Places.{ClassBegins, StrikeStands}
 use Rattle.book.proofs.Tests.{ands}
+use Rattle.book.proofs.Answered.{made-beyond, made-not-open}
 use Rattle.place.specs.Lookups.{strikeSearchOf}
-use Rattle.strike_call.proofs.Standing.{passed, found-place, strike-standing, beyond, not-open, not-standing, mark-number, mark-limits, mark-done}
+use Rattle.strike_call.proofs.Standing.{passed, found-place, strike-standing, mark-not-standing, mark-done}
 use Rattle.strike_call.proofs.mark_strike.Statement.{statement}
 use Rattle.strike_call.proofs.mark_strike.Tie as tie
 
@@ -40,17 +43,16 @@ joined :
     (c : tie.After-is-mark2)
     → let a = start c .args in
     let marks = c .before .is-mark .result && c .is-mark2 .result in
-    not (isWritten (callI (a .c) (a .m) (a .h) (a .a) (a .b))) ≡ not (c .before .before .is-written .result && marks)
+    not (isPlace (a .c) (a .m) (a .h) && (isMark (a .a) && isMark (a .b)))
+    ≡ not (c .before .before .is-place .result && marks)
 joined c =
-    let s = start c in
-    let a = s .args in
-    mark-limits (a .run .now) (s .pre) (a .c) (a .m) (a .h) (a .a) (a .b) _ _ _ (c .before .before .is-written .ensures)
-    (c .before .is-mark .ensures) (c .is-mark2 .ensures)
+    let marks = ap₂ _&&_ (c .before .is-mark .ensures) (c .is-mark2 .ensures) in
+    sym (ap not (ap₂ _&&_ (c .before .before .is-place .ensures) marks))
 
 limits :
     (c : tie.Else1)
     → let a = start (c .before) .args in
-    not (isWritten (callI (a .c) (a .m) (a .h) (a .a) (a .b))) ≡ false
+    not (isPlace (a .c) (a .m) (a .h) && (isMark (a .a) && isMark (a .b))) ≡ false
 limits c = joined (c .before) ∙ c .if1 .left
 
 abbrev begins : (c : tie.Else2) → ClassBegins (factsOf (called c .args .run .now)) (class c .class-at .result)
@@ -90,8 +92,8 @@ stands c =
 
 -- ---- what is to be shown there
 
-is-written-requires : tie.Need-is-written-requires
-is-written-requires c κs = search needs
+is-place-requires : tie.Need-is-place-requires
+is-place-requires c κs = search needs
 
 is-mark-requires : tie.Need-is-mark-requires
 is-mark-requires c κs = search needs
@@ -100,18 +102,19 @@ is-mark-requires-2 : tie.Need-is-mark-requires-2
 is-mark-requires-2 c κs = search needs
 
 returns : tie.Need-returns
+unfolding effectOn
 returns c =
     let s = start (c .before) in
     let a = s .args in
-    beyond (a .run .now) (s .pre) (a .c) (a .m) (a .h) (callI (a .c) (a .m) (a .h) (a .a) (a .b)) 0
-    (mark-number (a .run .now) (s .pre) (a .c) (a .m) (a .h) (a .a) (a .b)) (joined (c .before) ∙ c .if1 .taken)
+    made-beyond (on (a .c) (callI (a .m) (a .h) (a .a) (a .b))) (a .run .now) [] (s .pre)
+    (joined (c .before) ∙ c .if1 .taken)
 
 class-at-requires : tie.Need-class-at-requires
 class-at-requires c κs =
     let l = c .before in
     let s = start (l .before) in
     let a = s .args in
-    let written = passed (isWritten (callI (a .c) (a .m) (a .h) (a .a) (a .b))) (limits l) in
+    let numbers = passed (isPlace (a .c) (a .m) (a .h) && (isMark (a .a) && isMark (a .b))) (limits l) in
     (s .pre, search ands)
 
 is-open-at-requires : tie.Need-is-open-at-requires
@@ -124,13 +127,13 @@ same-length : tie.Need-same-length
 same-length c = search needs
 
 returns-2 : tie.Need-returns-2
+unfolding effectOn
 returns-2 c =
     let asked = c .before .before .before in
     let l = asked .before .before in
     let s = start (l .before) in
     let a = s .args in
-    not-open (a .run .now) (s .pre) (a .c) (a .m) (a .h) (callI (a .c) (a .m) (a .h) (a .a) (a .b)) 0
-    (mark-number (a .run .now) (s .pre) (a .c) (a .m) (a .h) (a .a) (a .b)) (limits l)
+    made-not-open (a .c) (callI (a .m) (a .h) (a .a) (a .b)) (a .run .now) [] (s .pre) _ refl (limits l)
     (ap not (sym (c .before .is-open-at .ensures)) ∙ c .if2 .taken)
 
 look-up-strike-requires : tie.Need-look-up-strike-requires
@@ -138,7 +141,7 @@ look-up-strike-requires c κs =
     let o = c .before in
     let s = called o in
     let a = s .args in
-    let written = passed (isWritten (callI (a .c) (a .m) (a .h) (a .a) (a .b))) (limits (within o)) in
+    let numbers = passed (isPlace (a .c) (a .m) (a .h) && (isMark (a .a) && isMark (a .b))) (limits (within o)) in
     (record { book = s .pre; month = search ands; begins = begins o }, search ands)
 
 same-length-2 : tie.Need-same-length-2
@@ -149,16 +152,15 @@ returns-3 c =
     let l = c .before .before in
     let s = called (opened l) in
     let a = s .args in
-    not-standing (a .run .now) (s .pre) (a .c) (a .m) (a .h) (callI (a .c) (a .m) (a .h) (a .a) (a .b)) 0
-    (mark-number (a .run .now) (s .pre) (a .c) (a .m) (a .h) (a .a) (a .b)) (limits (within (opened l)))
-    (begins (opened l) .is-open) _ (searched l) (c .if3 .taken)
+    mark-not-standing (a .run .now) (s .pre) (a .c) (a .m) (a .h) (begins (opened l) .is-open) _ (searched l)
+    (a .a) (a .b) (limits (within (opened l))) (c .if3 .taken)
 
 store-marks-requires : tie.Need-store-marks-requires
 store-marks-requires c κs =
     let t = c .before in
     let o = opened (found t) in
     let a = called o .args in
-    let written = passed (isWritten (callI (a .c) (a .m) (a .h) (a .a) (a .b))) (limits (within o)) in
+    let numbers = passed (isPlace (a .c) (a .m) (a .h) && (isMark (a .a) && isMark (a .b))) (limits (within o)) in
     record { book = called o .pre; put = search ands; call = search ands; strike = stands t }
 
 same-length-3 : tie.Need-same-length-3
@@ -171,14 +173,14 @@ returns-4 c =
     let l = found t in
     let s = called (opened l) in
     let a = s .args in
-    mark-done (a .run .now) (s .pre) (a .c) (a .m) (a .h) (begins (opened l) .is-open) _ (searched l) (t .if3 .left)
-    (a .a) (a .b) (limits (within (opened l))) _ (i .store-marks .ensures (stands t))
+    mark-done (a .run .now) (s .pre) (a .c) (a .m) (a .h) (begins (opened l) .is-open) _ (searched l)
+    (a .a) (a .b) (limits (within (opened l))) (t .if3 .left) _ (i .store-marks .ensures (stands t))
 
 pub mark-strike-spec : {M : Type 1} → statement M
 mark-strike-spec =
     tie.close
     (tie.spec
-    is-written-requires
+    is-place-requires
     is-mark-requires
     is-mark-requires-2
     returns

@@ -2,7 +2,10 @@
 use mathlib.Core.Path.{_≡_}
 use mathlib.Core.Bool.{false, not}
 use borrow.Author.Needs.{needs}
-use Rattle.book.specs.Calls.{isNew, isQualified}
+use Rattle.word.specs.Programs.{program}
+use Rattle.book.specs.Facts.{Facts}
+use Rattle.book.specs.Layout.{factsOf}
+use Rattle.book.specs.Views.{isNew}
 use Rattle.class_call.proofs.DesignationWays.{claim-untested, claim-no-close, claim-not-qualified, claim-capped, claim-granted}
 use Rattle.class_call.proofs.programs.claim_of.Statement.{statement}
 use Rattle.class_call.proofs.programs.claim_of.Tie as tie
@@ -18,20 +21,32 @@ abbrev start : tie.Else1 → tie.Start
 start p = p .before .before .before
 
 new : (p : tie.Else1) → let a = start p .args in not (isNew (a .p) (a .d) (a .figures)) ≡ false
-new p = rw (p .before .designation-of .ensures) at (p .if1 .left)
+new p = rw (p .before .designation .ensures) at (p .if1 .left)
 
 qualified :
-    (p : tie.Else3) → let a = start (tested (priced p)) .args in not (isQualified (a .p) (a .figures)) ≡ false
+    (p : tie.Else3) → let a = start (tested (priced p)) .args in not (program (a .p) .qualifies (a .figures)) ≡ false
 qualified p = rw (p .before .is-qualified .ensures) at (p .if3 .left)
 
-designation-of-requires : tie.Need-designation-of-requires
-designation-of-requires c κs = search needs
+-- the facts that the claim is made over
+abbrev facts : tie.Start → Facts
+facts s = factsOf (s .args .run .now)
+
+designation-requires : tie.Need-designation-requires
+designation-requires c κs = search needs
 
 returns : tie.Need-returns
-returns c = claim-untested _ _ _ _ (rw (c .before .designation-of .ensures) at (c .if1 .taken))
+returns c =
+    let asked = c .before in
+    let s = asked .before .before in
+    let a = s .args in
+    claim-untested (facts s) (a .figures) (a .p) (a .d) (rw (asked .designation .ensures) at (c .if1 .taken))
 
 returns-2 : tie.Need-returns-2
-returns-2 c = claim-no-close _ _ _ _ (new (c .before .before)) (c .if2 .taken)
+returns-2 c =
+    let p = c .before .before in
+    let s = start p in
+    let a = s .args in
+    claim-no-close (facts s) (a .figures) (a .p) (a .d) (s .pre .1) (new p) (c .if2 .taken)
 
 is-qualified-requires : tie.Need-is-qualified-requires
 is-qualified-requires c κs = search needs
@@ -40,7 +55,10 @@ returns-3 : tie.Need-returns-3
 returns-3 c =
     let asked = c .before in
     let p = asked .before in
-    claim-not-qualified _ _ _ _ (new (tested p)) (p .if2 .left) (rw (asked .is-qualified .ensures) at (c .if3 .taken))
+    let s = start (tested p) in
+    let a = s .args in
+    claim-not-qualified (facts s) (a .figures) (a .p) (a .d) (s .pre .1) (new (tested p)) (p .if2 .left)
+    (rw (asked .is-qualified .ensures) at (c .if3 .taken))
 
 is-cap-reached-requires : tie.Need-is-cap-reached-requires
 is-cap-reached-requires c κs = search needs
@@ -48,22 +66,26 @@ is-cap-reached-requires c κs = search needs
 returns-4 : tie.Need-returns-4
 returns-4 c =
     let asked = c .before in
-    let p = asked .before in
-    claim-capped _ _ _ _ (new (tested (priced p))) (priced p .if2 .left) (qualified p)
-    (rw (asked .is-cap-reached .ensures) at (c .if4 .taken))
+    let p = priced (asked .before) in
+    let s = start (tested p) in
+    let a = s .args in
+    claim-capped (facts s) (a .figures) (a .p) (a .d) (s .pre .1) (new (tested p)) (p .if2 .left)
+    (qualified (asked .before)) (rw (asked .is-cap-reached .ensures) at (c .if4 .taken))
 
 returns-5 : tie.Need-returns-5
 returns-5 c =
     let asked = c .before in
-    let p = asked .before in
-    claim-granted _ _ _ _ (new (tested (priced p))) (priced p .if2 .left) (qualified p)
-    (rw (asked .is-cap-reached .ensures) at (c .if4 .left))
+    let p = priced (asked .before) in
+    let s = start (tested p) in
+    let a = s .args in
+    claim-granted (facts s) (a .figures) (a .p) (a .d) (s .pre .1) (new (tested p)) (p .if2 .left)
+    (qualified (asked .before)) (rw (asked .is-cap-reached .ensures) at (c .if4 .left))
 
 pub claim-of-spec : {M : Type 1} → statement M
 claim-of-spec =
     tie.close
     (tie.spec
-    designation-of-requires
+    designation-requires
     returns
     returns-2
     is-qualified-requires

@@ -1,5 +1,6 @@
--- `is_cap_reached` tells whether the cap of the program is reached: each counter is that of its program. Assumes nothing.
-use borrow.Author.Tests.{eq-eqb, ne-eqb}
+-- `is_cap_reached` tells whether the program's cap is reached: each counter is that of its program. Assumes nothing.
+use mathlib.Core.Path.{_≡_}
+use native.Mathlib.Omega.{arith}
 use borrow.Author.Needs.{needs}
 use Rattle.class_call.proofs.programs.is_cap_reached.Statement.{statement}
 use Rattle.class_call.proofs.programs.is_cap_reached.Tie as tie
@@ -11,7 +12,7 @@ is-full-requires : tie.Need-is-full-requires
 is-full-requires c κs = search needs
 
 returns : tie.Need-returns
-returns c = rw (eq-eqb _ _ (c .before .before .if1 .taken), ← c .before .own-dollars .ensures, c .is-full .ensures)
+returns c = rw (c .before .before .if1 .taken, ← c .before .own-dollars .ensures, c .is-full .ensures)
 
 own-halves-requires : tie.Need-own-halves-requires
 own-halves-requires c κs = search needs
@@ -20,7 +21,10 @@ is-full-requires-2 : tie.Need-is-full-requires-2
 is-full-requires-2 c κs = search needs
 
 returns-2 : tie.Need-returns-2
-returns-2 c = rw (ne-eqb _ _ (c .before .before .if1 .left), ← c .before .own-halves .ensures, c .is-full2 .ensures)
+returns-2 c =
+    let counted = c .before in
+    let e : counted .before .before .before .args .p ≡ 2 = omega arith in
+    rw (e, ← counted .own-halves .ensures, c .is-full2 .ensures)
 
 pub is-cap-reached-spec : {M : Type 1} → statement M
 is-cap-reached-spec =
