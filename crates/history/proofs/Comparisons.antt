@@ -1,4 +1,5 @@
--- Two runs compared: word by word from the front; and the answer says of the facts what two whole lists say of them. Assumes nothing.
+-- Two runs compared: word by word from the front; and the answer says of the facts what two whole lists say of them.
+-- Assumes nothing.
 use Prim.Native.Nat.{ℕ, _+_, _<_, _≤_}
 use mathlib.Core.Path.{_≡_, refl, sym, _∙_}
 use mathlib.Core.Bool.{Bool, true, false, cond, _&&_, false≢true}
@@ -12,6 +13,7 @@ use Rattle.word.specs.declared.answer.Answer.{Answer}
 use Rattle.word.specs.declared.answer.Answer.the-variants.{Done}
 use Rattle.word.specs.Limits.{isLength}
 use Rattle.book.specs.Books.{sameWords}
+use Rattle.book.specs.CallLists.{callsAlone}
 use Rattle.book.proofs.Tests.{T-true, true-T}
 use Rattle.book.proofs.Layouts.{same-words, words-equal}
 use Rattle.history.specs.declared.Comparison.{Comparison}
@@ -67,18 +69,19 @@ compared-words v w false e = (
 
 -- ---- both lists run
 
-module _ {left right pool calls others left′ right′ pool′ pool″ : List ℕ} {a b : Answer} (size : length left ≡ length right)
-    (first : Ran left pool calls a left′ pool′) (second : Ran right pool′ others b right′ pool″) (done : a ≡ Done) where
+module _ {left right pool calls others left′ right′ pool′ pool″ : List ℕ} {a b : Answer}
+    (size : length left ≡ length right) (first : Ran left pool calls a left′ pool′)
+    (second : Ran right pool′ others b right′ pool″) (done : a ≡ Done) where
   good : isLength (length left) ≡ true
   good = done-good (isLength (length left)) (first .answer) done
 
   long : T (isLength (length left))
   long = true-T (isLength (length left)) good
 
-  left-whole : Whole (length left) (callsOf calls) left′
+  left-whole : Whole (length left) (callsAlone (callsOf calls)) left′
   left-whole = run-whole long first left′ .1 refl
 
-  right-whole : Whole (length left) (callsOf others) right′
+  right-whole : Whole (length left) (callsAlone (callsOf others)) right′
   right-whole = rw size (run-whole (rw size at long) second right′ .1 refl)
 
   pub compared :
@@ -116,7 +119,9 @@ other-lengths {left} {right} ne = refused-lengths (rw (ne-eqb (length left) (len
 
 pub bad-length :
     {left right pool calls others left′ pool′ : List ℕ} {a : Answer} → length left ≡ length right
-    → Ran left pool calls a left′ pool′ → (a ≡ Done → ⊥) → Compared left right pool calls others BadLength left′ right pool′
+    → Ran left pool calls a left′ pool′ → (a ≡ Done → ⊥)
+    → Compared left right pool calls others BadLength left′ right pool′
 bad-length {left} {right} size first refused =
     let bad = refused-bad (isLength (length left)) (first .answer) refused in
-    refused-lengths (rw (eq-eqb (length left) (length right) size, bad)) (rw bad at (first .words)) (rw bad at (first .second))
+    refused-lengths (rw (eq-eqb (length left) (length right) size, bad)) (rw bad at (first .words))
+    (rw bad at (first .second))

@@ -1,4 +1,3 @@
-pub mod Answers
 pub mod Made
 pub mod Lent
 pub mod Lists

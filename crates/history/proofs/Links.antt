@@ -1,8 +1,8 @@
--- What the checker hands a caller of `fresh` and of each call is the `Begun` or the `Made` that `Whole` and `Turns` are built from: the same type, so that nothing is left to show. Assumes nothing.
+-- What the checker hands a caller of `fresh` and of each call is the `Begun` or the `Made` that `Whole` and `Turns` are
+-- built from: the same type, so that nothing is left to show. Assumes nothing.
 use mathlib.Core.List.{[]}
 use denote.Ref.{now}
-use lib.ListN.{length}
-use Rattle.book.specs.Calls.{callM, callO, callC, callV, callD, callL, callJ, callX, callI, callR, callA}
+use Rattle.book.specs.Calls.{callM, on, callO, callC, callV, callD, callL, callJ, callX, callI, callR, callA}
 use Rattle.book.specs.Made.{Made, Begun}
 use Rattle.scan.proofs.fresh.Reads as fresh-reads
 use Rattle.call.proofs.set_month.Reads as set-month-reads
@@ -28,50 +28,51 @@ set-month-learnt κs a r x p = p
 
 pub open-class-learnt :
     (κs : _) (a : _) (r : _) (x : _) → open-class-reads.Learnt κs a r x
-    → Made (callO (a .1 .0)) (now (a .0)) [] r (now (x .0)) []
+    → Made (on (a .1 .0) callO) (now (a .0)) [] r (now (x .0)) []
 open-class-learnt κs a r x p = p
 
 pub set-close-learnt :
     (κs : _) (a : _) (r : _) (x : _) → set-close-reads.Learnt κs a r x
-    → Made (callC (a .1 .0) (a .1 .1 .0)) (now (a .0)) [] r (now (x .0)) []
+    → Made (on (a .1 .0) (callC (a .1 .1 .0))) (now (a .0)) [] r (now (x .0)) []
 set-close-learnt κs a r x p = p
 
 pub set-volume-learnt :
     (κs : _) (a : _) (r : _) (x : _) → set-volume-reads.Learnt κs a r x
-    → Made (callV (a .1 .0) (a .1 .1 .0)) (now (a .0)) [] r (now (x .0)) []
+    → Made (on (a .1 .0) (callV (a .1 .1 .0))) (now (a .0)) [] r (now (x .0)) []
 set-volume-learnt κs a r x p = p
 
 pub designate-learnt :
     (κs : _) (a : _) (r : _) (x : _) → designate-reads.Learnt κs a r x
-    → Made (callD (a .1 .0) (a .1 .1 .0) (a .1 .1 .1 .0)) (now (a .0)) [] r (now (x .0)) []
+    → Made (on (a .1 .0) (callD (a .1 .1 .0) (a .1 .1 .1 .0))) (now (a .0)) [] r (now (x .0)) []
 designate-learnt κs a r x p = p
 
 pub list-strike-learnt :
     (κs : _) (a : _) (r : _) (x : _) → list-strike-reads.Learnt κs a r x
-    → Made (callL (a .1 .0) (a .1 .1 .0) (a .1 .1 .1 .0)) (now (a .0)) [] r (now (x .0)) []
+    → Made (on (a .1 .0) (callL (a .1 .1 .0) (a .1 .1 .1 .0))) (now (a .0)) [] r (now (x .0)) []
 list-strike-learnt κs a r x p = p
 
 pub judge-strike-learnt :
     (κs : _) (a : _) (r : _) (x : _) → judge-strike-reads.Learnt κs a r x
-    → Made (callJ (a .1 .0) (a .1 .1 .0) (a .1 .1 .1 .0)) (now (a .0)) [] r (now (a .0)) []
+    → Made (on (a .1 .0) (callJ (a .1 .1 .0) (a .1 .1 .1 .0))) (now (a .0)) [] r (now (a .0)) []
 judge-strike-learnt κs a r x p = p
 
 pub delist-strike-learnt :
     (κs : _) (a : _) (r : _) (x : _) → delist-strike-reads.Learnt κs a r x
-    → Made (callX (a .1 .0) (a .1 .1 .0) (a .1 .1 .1 .0)) (now (a .0)) [] r (now (x .0)) []
+    → Made (on (a .1 .0) (callX (a .1 .1 .0) (a .1 .1 .1 .0))) (now (a .0)) [] r (now (x .0)) []
 delist-strike-learnt κs a r x p = p
 
 pub mark-strike-learnt :
     (κs : _) (a : _) (r : _) (x : _) → mark-strike-reads.Learnt κs a r x
-    → Made (callI (a .1 .0) (a .1 .1 .0) (a .1 .1 .1 .0) (a .1 .1 .1 .1 .0) (a .1 .1 .1 .1 .1 .0)) (now (a .0)) [] r (now (x .0)) []
+    → Made (on (a .1 .0) (callI (a .1 .1 .0) (a .1 .1 .1 .0) (a .1 .1 .1 .1 .0) (a .1 .1 .1 .1 .1 .0)))
+    (now (a .0)) [] r (now (x .0)) []
 mark-strike-learnt κs a r x p = p
 
 pub review-class-learnt :
     (κs : _) (a : _) (r : _) (x : _) → review-class-reads.Learnt κs a r x
-    → Made (callR (a .1 .0)) (now (a .0)) [] r (now (x .0)) []
+    → Made (on (a .1 .0) callR) (now (a .0)) [] r (now (x .0)) []
 review-class-learnt κs a r x p = p
 
 pub list-permitted-learnt :
     (κs : _) (a : _) (r : _) (x : _) → list-permitted-reads.Learnt κs a r x
-    → Made (callA (a .1 .1 .0) (a .1 .1 .1 .0) (length (now (a .1 .0)))) (now (a .0)) (now (a .1 .0)) r (now (a .0)) (now (x .1 .0))
+    → Made (on (a .1 .1 .0) (callA (a .1 .1 .1 .0))) (now (a .0)) (now (a .1 .0)) r (now (a .0)) (now (x .1 .0))
 list-permitted-learnt κs a r x p = p

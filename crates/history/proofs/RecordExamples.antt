@@ -1,9 +1,14 @@
 -- Records read as the calls that they say, computed. Assumes nothing.
+use Prim.Native.Nat.{ℕ}
 use mathlib.Core.Path.{_≡_, refl}
 use mathlib.Core.List.{[], _∷_}
-use Rattle.book.specs.Calls.{callM, callO, callC, callV, callD, callL, callJ, callX, callI, callR, callA, malformed}
+use Rattle.book.specs.Calls.{Call, callM, on, callO, callC, callV, callD, callL, callJ, callX, callI, callR, callA, malformed}
 use Rattle.book.specs.Letters.{callOf}
+use Rattle.book.specs.CallLists.{LentCall}
 use Rattle.history.specs.Records.{callsOf}
+
+abbrev lent : Call → ℕ → LentCall
+lent x room = record { call = x; room = room }
 
 -- document 01's sample calls, `A` with a second run of 512 words; any numbers in the words that a call does not take
 sample :
@@ -17,7 +22,15 @@ sample :
     ∷ 76 ∷ 3 ∷ 7 ∷ 5 ∷ 16 ∷ 0 ∷ 0 ∷ 0
     ∷ 76 ∷ 3 ∷ 7 ∷ 5 ∷ 14 ∷ 0 ∷ 0 ∷ 0
     ∷ [])
-    ≡ callM 4 ∷ callO 7 ∷ callC 7 200 ∷ callD 7 1 1 ∷ callA 7 5 512 ∷ callL 7 5 14 ∷ callL 7 5 16 ∷ callL 7 5 14 ∷ []
+    ≡ lent (callM 4) 0
+    ∷ lent (on 7 callO) 0
+    ∷ lent (on 7 (callC 200)) 0
+    ∷ lent (on 7 (callD 1 1)) 8
+    ∷ lent (on 7 (callA 5)) 512
+    ∷ lent (on 7 (callL 5 14)) 0
+    ∷ lent (on 7 (callL 5 16)) 0
+    ∷ lent (on 7 (callL 5 14)) 0
+    ∷ []
 unfolding callOf callsOf
 sample = refl
 
@@ -29,13 +42,19 @@ other-letters :
     ∷ 73 ∷ 5 ∷ 1 ∷ 2 ∷ 3 ∷ 4 ∷ 5 ∷ 6
     ∷ 82 ∷ 1 ∷ 1 ∷ 2 ∷ 3 ∷ 4 ∷ 5 ∷ 6
     ∷ [])
-    ≡ callV 1 2 ∷ callJ 1 2 3 ∷ callX 1 2 3 ∷ callI 1 2 3 4 5 ∷ callR 1 ∷ []
+    ≡ lent (on 1 (callV 2)) 6
+    ∷ lent (on 1 (callJ 2 3)) 6
+    ∷ lent (on 1 (callX 2 3)) 6
+    ∷ lent (on 1 (callI 2 3 4 5)) 6
+    ∷ lent (on 1 callR) 6
+    ∷ []
 unfolding callOf callsOf
 other-letters = refl
 
 -- a small letter, and 0
 no-letter :
-    callsOf (109 ∷ 1 ∷ 4 ∷ 0 ∷ 0 ∷ 0 ∷ 0 ∷ 0 ∷ 0 ∷ 3 ∷ 7 ∷ 5 ∷ 14 ∷ 0 ∷ 0 ∷ 0 ∷ []) ≡ malformed ∷ malformed ∷ []
+    callsOf (109 ∷ 1 ∷ 4 ∷ 0 ∷ 0 ∷ 0 ∷ 0 ∷ 0 ∷ 0 ∷ 3 ∷ 7 ∷ 5 ∷ 14 ∷ 0 ∷ 0 ∷ 0 ∷ [])
+    ≡ lent malformed 0 ∷ lent malformed 0 ∷ []
 unfolding callOf callsOf
 no-letter = refl
 
@@ -47,11 +66,11 @@ wrong-count :
     ∷ 73 ∷ 4 ∷ 7 ∷ 5 ∷ 14 ∷ 0 ∷ 0 ∷ 0
     ∷ 73 ∷ 6 ∷ 7 ∷ 5 ∷ 14 ∷ 0 ∷ 0 ∷ 0
     ∷ [])
-    ≡ malformed ∷ malformed ∷ malformed ∷ callI 7 5 14 0 0 ∷ []
+    ≡ lent malformed 0 ∷ lent malformed 0 ∷ lent malformed 0 ∷ lent (on 7 (callI 5 14 0 0)) 0 ∷ []
 unfolding callOf callsOf
 wrong-count = refl
 
 left-over :
-    callsOf (82 ∷ 1 ∷ 7 ∷ 0 ∷ 0 ∷ 0 ∷ 0 ∷ 0 ∷ 77 ∷ 1 ∷ 4 ∷ 0 ∷ 0 ∷ 0 ∷ 0 ∷ []) ≡ callR 7 ∷ []
+    callsOf (82 ∷ 1 ∷ 7 ∷ 0 ∷ 0 ∷ 0 ∷ 0 ∷ 0 ∷ 77 ∷ 1 ∷ 4 ∷ 0 ∷ 0 ∷ 0 ∷ 0 ∷ []) ≡ lent (on 7 callR) 0 ∷ []
 unfolding callOf callsOf
 left-over = refl

@@ -1,4 +1,5 @@
--- A list of calls run from its words: what the rest of the list makes of the book and the pool so far is what the whole list makes of the first ones, eight words a turn. Assumes nothing.
+-- A list of calls run from its words: what the rest of the list makes of the book and the pool so far is what the whole
+-- list makes of the first ones, eight words a turn. Assumes nothing.
 use Prim.Native.Nat.{ℕ, suc, _+_, _<_, _≤_, zero-le}
 use mathlib.Core.Path.{_≡_, refl, sym, _∙_}
 use mathlib.Core.Bool.{Bool, true, false, cond}
@@ -20,14 +21,12 @@ use Rattle.book.specs.Layout.{layout, factsOf}
 use Rattle.book.specs.Books.{isWellFormed, isBook}
 use Rattle.book.specs.Calls.{steps}
 use Rattle.book.specs.Made.{Begun}
-use Rattle.book.specs.CallLists.{secondAfter, lentWithin}
-use Rattle.book.proofs.Tests.{T-true, true-T}
+use Rattle.book.specs.CallLists.{callsAlone, secondAfter}
+use Rattle.book.proofs.Tests.{true-T}
 use Rattle.book.proofs.Layouts.{factsOf-layout, book-layout, book-facts, fresh-well-formed}
-use Rattle.book.proofs.Followed.{made-book, layout-size}
+use Rattle.book.proofs.Followed.{next-book, layout-size}
 use Rattle.history.specs.Records.{callAt, callsOf}
-use Rattle.history.specs.Runs.{Lent, Continued, Ran}
-use Rattle.history.proofs.Made.{made-second}
-use Rattle.history.proofs.Lent.{lent-step}
+use Rattle.history.specs.Runs.{lentWithin, Lent, Continued, Ran}
 
 -- ---- the records of a list
 
@@ -65,14 +64,16 @@ no-record (letter ∷ count ∷ a ∷ b ∷ c ∷ d ∷ e ∷ room ∷ rest) h =
 
 -- ---- the loop
 
--- the words of `calls` before i are made: `held` and `start` are the book and the pool before the first of them, `run` and `pool` those now
+-- the words of `calls` before i are made: `held` and `start` are the book and the pool before the first of them, `run`
+-- and `pool` those now
 pub record Going (held start calls run pool : List ℕ) (i : ℕ) : Type 0 where
   pub within : i ≤ length calls
   pub book : T (isBook run)
   pub size : length run ≡ length held
   pub pool-size : length pool ≡ length start
   pub facts :
-      steps (length held) (callsOf (drop i calls)) (factsOf run) ≡ steps (length held) (callsOf calls) (factsOf held)
+      steps (length held) (callsAlone (callsOf (drop i calls))) (factsOf run)
+      ≡ steps (length held) (callsAlone (callsOf calls)) (factsOf held)
   pub second :
       secondAfter (length held) (map (lentWithin (length start)) (callsOf (drop i calls))) (factsOf run) pool
       ≡ secondAfter (length held) (map (lentWithin (length start)) (callsOf calls)) (factsOf held) start
@@ -87,17 +88,15 @@ pub going-step :
     → Going held start calls run′ pool′ (i + 8)
 unfolding steps secondAfter
 going-step {held} {start} {calls} {run} {pool} {run′} {pool′} {i} g h m long =
-    let next = made-book (g .book) m in
+    let next = next-book (callAt i calls .call) run (g .book) (m .words) in
     let record-next = next-record calls i h in
-    let changed = lent-step (length held) (length start) (callAt i calls) (factsOf run) in
     record {
       within = omega arith;
       book = next .0;
       size = next .1 ∙ g .size;
       pool-size = long ∙ g .pool-size;
-      facts = rw (next .2, g .size, g .pool-size, changed) (rw record-next at (g .facts));
-      second =
-          rw (next .2, made-second (T-true (isBook run) (g .book)) m, g .size, g .pool-size) (rw record-next at (g .second));
+      facts = rw (next .2, g .size) (rw record-next at (g .facts));
+      second = rw (next .2, m .second, g .size, g .pool-size) (rw record-next at (g .second));
     }
 
 pub going-end :

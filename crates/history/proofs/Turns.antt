@@ -1,54 +1,54 @@
 -- The answers of a whole list are the plain book's, and none is 1: every call of it gets a book. By induction on the
 -- calls made in turn. Assumes nothing.
 use Prim.Native.Nat.{ℕ}
-use mathlib.Core.Path.{_≡_, refl, sym, _∙_}
+use mathlib.Core.Path.{_≡_, refl, sym, ap, _∙_}
 use mathlib.Core.Bool.{not}
 use mathlib.Core.List.{List}
 use lib.ListN.{length}
 use lib.Dec.{T, eqb}
 use borrow.Author.Tests.{ne-eqb}
 use Rattle.word.specs.declared.answer.Answer.{Answer}
-use Rattle.word.specs.Answers.{answerNumber, answerValue}
+use Rattle.word.specs.Answers.{answerNumber}
 use Rattle.word.specs.Limits.{isLength}
 use Rattle.book.specs.Facts.{fresh}
 use Rattle.book.specs.Layout.{factsOf}
 use Rattle.book.specs.Books.{isBook}
-use Rattle.book.specs.Calls.{Call, numberOf, valueOf}
+use Rattle.book.specs.Calls.{Call, answerTo}
 use Rattle.book.specs.CallLists.{answersTo}
 use Rattle.book.specs.Made.{Made}
 use Rattle.book.proofs.Tests.{T-true, and-intro}
 use Rattle.book.proofs.Layouts.{factsOf-layout, book-layout, fresh-well-formed}
 use Rattle.book.proofs.Order.{never-one}
 use Rattle.book.proofs.Followed.{made-book, layout-size}
-use Rattle.history.specs.Turns.{Turns, done, turn, answersOf, told, neverDrawOne, Whole}
+use Rattle.history.specs.Turns.{Turns, done, turn, lentIn, answersOf, neverDrawOne, Whole}
 use Rattle.history.proofs.Lists.{whole-begins}
 
 -- ---- one call, on a book
 
 module _ {x : Call} {w v w′ v′ : List ℕ} {r : Answer} (book : T (isBook w)) (m : Made x w v r w′ v′) where
-  number-made : answerNumber r ≡ numberOf (length w) x (factsOf w)
-  number-made = rw (T-true (isBook w) book) at (m .number)
-
-  value-made : answerValue r ≡ valueOf (length w) x (factsOf w)
-  value-made = rw (T-true (isBook w) book) at (m .value)
+  answer-made : r ≡ answerTo (length w) (length v) x (factsOf w)
+  answer-made = rw (T-true (isBook w) book) at (m .answer)
 
   not-one : T (not (eqb (answerNumber r) 1))
-  not-one = rw (ne-eqb (answerNumber r) 1 (λ e. never-one (length w) x (factsOf w) (sym number-made ∙ e))) tt
+  not-one =
+      let other : answerNumber r ≡ 1 → ⊥ =
+      λ e. never-one (length w) (length v) x (factsOf w) (sym (ap answerNumber answer-made) ∙ e) in
+      rw (ne-eqb (answerNumber r) 1 other) tt
 
 -- ---- calls in turn
 
-turns-told :
+turns-answers :
     {xs : List Call} {w w″ : List ℕ} → T (isBook w) → (t : Turns xs w w″)
-    → told (answersOf t) ≡ answersTo (length w) xs (factsOf w)
+    → answersOf t ≡ answersTo (length w) (lentIn t) (factsOf w)
 unfolding answersTo
-turns-told book done = refl
-turns-told book (turn long m later) =
+turns-answers book done = refl
+turns-answers book (turn m later) =
     let next = made-book book m in
-    rw (number-made book m, value-made book m, turns-told (next .0) later, next .1, next .2)
+    rw (answer-made book m, turns-answers (next .0) later, next .1, next .2)
 
 turns-never-one : {xs : List Call} {w w″ : List ℕ} → T (isBook w) → (t : Turns xs w w″) → T (neverDrawOne (answersOf t))
 turns-never-one book done = tt
-turns-never-one book (turn {r} long m later) =
+turns-never-one book (turn {r} m later) =
     and-intro (not (eqb (answerNumber r) 1)) (neverDrawOne (answersOf later)) (not-one book m)
     (turns-never-one (made-book book m .0) later)
 
@@ -58,13 +58,12 @@ module _ {n : ℕ} {xs : List Call} {w : List ℕ} (long : T (isLength n)) (whol
   first-book : T (isBook (whole .book))
   first-book = rw (whole-begins long whole) (book-layout n fresh (fresh-well-formed n long))
 
-  first-answers : answersTo (length (whole .book)) xs (factsOf (whole .book)) ≡ answersTo n xs fresh
-  first-answers =
+  pub whole-answers : answersOf (whole .turns) ≡ answersTo n (lentIn (whole .turns)) fresh
+  whole-answers =
       let good = fresh-well-formed n long in
-      rw (whole-begins long whole, layout-size n fresh good, factsOf-layout n fresh good)
-
-  pub whole-told : told (answersOf (whole .turns)) ≡ answersTo n xs fresh
-  whole-told = turns-told first-book (whole .turns) ∙ first-answers
+      let size : length (whole .book) ≡ n = ap length (whole-begins long whole) ∙ layout-size n fresh good in
+      let facts : factsOf (whole .book) ≡ fresh = ap factsOf (whole-begins long whole) ∙ factsOf-layout n fresh good in
+      rw (size, facts) at (turns-answers first-book (whole .turns))
 
   -- "from a fresh book, 1 is never drawn"
   pub whole-never-one : T (neverDrawOne (answersOf (whole .turns)))

@@ -1,4 +1,5 @@
--- Demand 3, executed: "run from a fresh book, each list leaves the words that the layout gives to its facts, and the two books are equal in every word exactly when the same facts stand." Assumes nothing.
+-- Demand 3, executed: "run from a fresh book, each list leaves the words that the layout gives to its facts, and the
+-- two books are equal in every word exactly when the same facts stand." Assumes nothing.
 use Prim.Native.Nat.{ℕ}
 use mathlib.Core.Path.{_≡_}
 use mathlib.Core.Bool.{Bool, true, false, _&&_}
@@ -10,15 +11,16 @@ use Rattle.word.specs.Limits.{isLength}
 use Rattle.book.specs.Facts.{Facts, fresh}
 use Rattle.book.specs.Layout.{layout}
 use Rattle.book.specs.Calls.{after}
-use Rattle.book.specs.CallLists.{secondAfter, lentWithin}
+use Rattle.book.specs.CallLists.{callsAlone, secondAfter}
 use Rattle.book.specs.Points.{SameFacts}
 use Rattle.history.specs.declared.Comparison.{Comparison}
 use Rattle.history.specs.declared.Comparison.the-variants.{Equal, BadLength}
 use Rattle.history.specs.Records.{callsOf}
+use Rattle.history.specs.Runs.{lentWithin}
 
 -- "the facts that the plain book reads" from the length and the list alone
 abbrev pub factsAfter : ℕ → List ℕ → Facts
-factsAfter n calls = after n (callsOf calls)
+factsAfter n calls = after n (callsAlone (callsOf calls))
 
 -- the pool after a list of calls on a fresh book
 abbrev pub poolAfter : ℕ → List ℕ → List ℕ → List ℕ
@@ -38,7 +40,10 @@ pub record Both (n : ℕ) (pool calls others : List ℕ) (r : Comparison) (left�
 abbrev pub areLengths : ℕ → ℕ → Bool
 areLengths n k = eqb n k && isLength n
 
-pub record Compared (left right pool calls others : List ℕ) (r : Comparison) (left′ right′ pool′ : List ℕ) : Type 0 where
+pub record Compared (left right pool calls others : List ℕ) (r : Comparison)
+    (left′ right′ pool′ : List ℕ) : Type 0 where
   pub refused :
-      areLengths (length left) (length right) ≡ false → (r ≡ BadLength) × ((left′ ≡ left) × ((right′ ≡ right) × (pool′ ≡ pool)))
-  pub accepted : areLengths (length left) (length right) ≡ true → Both (length left) pool calls others r left′ right′ pool′
+      areLengths (length left) (length right) ≡ false
+      → (r ≡ BadLength) × ((left′ ≡ left) × ((right′ ≡ right) × (pool′ ≡ pool)))
+  pub accepted :
+      areLengths (length left) (length right) ≡ true → Both (length left) pool calls others r left′ right′ pool′

@@ -1,4 +1,5 @@
--- `are_same` compares the runs from the front: what is left of them holds the same words exactly when they do. Assumes nothing.
+-- `are_same` compares the runs from the front: what is left of them holds the same words exactly when they do. Assumes
+-- nothing.
 use Prim.Native.Nat.{_≤_, _-_, zero-le}
 use mathlib.Core.Path.{_≡_, refl, _∙_}
 use native.Mathlib.Omega.{arith}

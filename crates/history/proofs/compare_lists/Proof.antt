@@ -1,4 +1,5 @@
--- `compare_lists` runs both lists and compares the words that they leave: its ways out by the lengths, the answer of the first run, and the words. Assumes nothing.
+-- `compare_lists` runs both lists and compares the words that they leave: its ways out by the lengths, the answer of
+-- the first run, and the words. Assumes nothing.
 use mathlib.Core.Path.{sym, _∙_}
 use mathlib.Core.Bool.{true, false}
 use Rattle.history.proofs.Runs.{not-done}
@@ -6,6 +7,17 @@ use Rattle.history.proofs.Comparisons.{compared, other-lengths, bad-len
 use borrow.Author.Needs.{needs}
 use Rattle.history.proofs.compare_lists.Statement.{statement}
 use Rattle.history.proofs.compare_lists.Tie as tie
+
+-- the place where each list is run, from where its words are known
+abbrev first-run : tie.After-slice-known5 → tie.After-run-calls
+first-run c = c .before .before .before .before
+
+abbrev second-run : tie.After-slice-known7 → tie.After-run-calls2
+second-run c = c .before .before .before .before
+
+-- the lengths are equal
+abbrev lengths : tie.After-run-calls → tie.Else1
+lengths c = c .before .before .before
 
 returns : tie.Need-returns
 returns c = other-lengths (c .if1 .taken)
@@ -24,8 +36,8 @@ same-length-2 c = search needs
 
 returns-2 : tie.Need-returns-2
 returns-2 c =
-    let first = c .before .before .before .before .before in
-    bad-length (first .before .before .before .if1 .left) (first .run-calls .ensures) (not-done _ (c .match .keys2))
+    let first = first-run (c .before) in
+    bad-length (lengths first .if1 .left) (first .run-calls .ensures) (not-done _ (c .match .keys2))
 
 run-calls-requires-2 : tie.Need-run-calls-requires-2
 run-calls-requires-2 c κs = search needs
@@ -44,10 +56,11 @@ same-length-5 c = search needs
 
 returns-3 : tie.Need-returns-3
 returns-3 c =
-    let second = c .before .before .before .before .before .before .before .before in
+    let second = second-run (c .before .before .before .before) in
     let told = second .before .before .before in
-    let first = told .before .before .before .before .before .before in
-    compared (first .before .before .before .if1 .left) (first .run-calls .ensures) (second .run-calls2 .ensures) (told .enum-told .given .1)
+    let first = first-run (told .before .before) in
+    compared (lengths first .if1 .left) (first .run-calls .ensures) (second .run-calls2 .ensures)
+    (told .enum-told .given .1)
     true (sym (c .before .are-same .ensures) ∙ c .if2 .taken)
 
 same-length-6 : tie.Need-same-length-6
@@ -61,10 +74,11 @@ same-length-8 c = search needs
 
 returns-4 : tie.Need-returns-4
 returns-4 c =
-    let second = c .before .before .before .before .before .before .before .before in
+    let second = second-run (c .before .before .before .before) in
     let told = second .before .before .before in
-    let first = told .before .before .before .before .before .before in
-    compared (first .before .before .before .if1 .left) (first .run-calls .ensures) (second .run-calls2 .ensures) (told .enum-told .given .1)
+    let first = first-run (told .before .before) in
+    compared (lengths first .if1 .left) (first .run-calls .ensures) (second .run-calls2 .ensures)
+    (told .enum-told .given .1)
     false (sym (c .before .are-same .ensures) ∙ c .if2 .left)
 
 pub compare-lists-spec : {M : Type 1} → statement M

@@ -1,4 +1,5 @@
--- `make_calls` makes each record of the list in turn: `Going` holds at each turn, and at its end the run and the pool are those after all the calls. Assumes nothing.
+-- `make_calls` makes each record of the list in turn: `Going` holds at each turn, and at its end the run and the pool
+-- are those after all the calls. Assumes nothing.
 use Prim.Native.Nat.{_-_}
 use native.Mathlib.Omega.{arith}
 use lib.ListN.{length}
@@ -20,7 +21,9 @@ sub-loop : tie.Need-sub-loop Inv-loop μ-loop
 sub-loop c = search needs
 
 make-record-requires : tie.Need-make-record-requires Inv-loop μ-loop
-make-record-requires c κs = let inside = c .before .before in (inside .before .loop .inv .book, omega (arith, inside .loop-test .taken))
+make-record-requires c κs =
+    let inside = c .before .before in
+    (inside .before .loop .inv .book, omega (arith, inside .loop-test .taken))
 
 add-i : tie.Need-add-i Inv-loop μ-loop
 add-i c = search needs

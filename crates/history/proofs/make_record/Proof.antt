@@ -1,7 +1,7 @@
--- `make_record` lends the call of a record the front of the pool, as long as it asks for, and keeps the rest. Assumes nothing.
-use Prim.Native.Nat.{_+_, _-_}
+-- `make_record` lends the call of a record the front of the pool, as long as it asks for, and keeps the rest. Assumes
+-- nothing.
+use Prim.Native.Nat.{_-_}
 use native.Mathlib.Omega.{arith}
-use lib.ListN.{getD}
 use Rattle.history.proofs.Lent.{lent-front}
 use mir.Facts.{fits-widen}
 use borrow.Author.Needs.{needs}
@@ -106,10 +106,13 @@ same-length-2 c = search needs
 
 returns : tie.Need-returns
 returns c =
-    let s = c .before .before .before .before .before .before .before .before .before .before .before .before .before .before .before .before .before .before .before in
-    let room = c .before .before .before .before .before .before .before .before .before .before .before .before .before .before .lower in
-    lent-front (getD (s .args .calls .now) (s .args .at + 7) 0) _ _ (room .result - 0) (omega (arith, room .ensures)) (s .pre .0)
-    (c .before .before .before .before .make-call .ensures)
+    let made = c .before .before .before .before in
+    let read = made .before .before .before .before in
+    let lent = read .before .before .before .before in
+    let room = lent .before .before in
+    let entered = room .before .before .before in
+    lent-front _ (room .lower .result - 0) (omega (arith, room .lower .ensures)) (entered .before .before .pre .0)
+    (made .make-call .ensures)
 
 pub make-record-spec : {M : Type 1} → statement M
 make-record-spec =

@@ -1,4 +1,5 @@
--- `run_calls` makes a fresh book and then the calls of the list: its two ways out by the answer of `fresh`. Assumes nothing.
+-- `run_calls` makes a fresh book and then the calls of the list: its two ways out by the answer of `fresh`. Assumes
+-- nothing.
 use Rattle.history.proofs.Runs.{not-done, begun-book, ran-done, ran-refused}
 use borrow.Author.Needs.{needs}
 use Rattle.history.proofs.run_calls.Statement.{statement}
@@ -23,8 +24,10 @@ same-length-2 c = search needs
 
 returns : tie.Need-returns
 returns c =
-    let told = c .before .before .before .before .before .before .before in
-    ran-done (told .before .before .before .before .fresh .ensures) (told .enum-told .given .1) (c .before .before .before .before .make-calls .ensures)
+    let made = c .before .before .before .before in
+    let told = made .before .before .before in
+    ran-done (told .before .before .before .before .fresh .ensures) (told .enum-told .given .1)
+    (made .make-calls .ensures)
 
 same-length-3 : tie.Need-same-length-3
 same-length-3 c = search needs
