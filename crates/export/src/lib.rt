@@ -1,12 +1,10 @@
 // The proved functions under C names, for programs in C and Rust. include/strikebook.h says what each means in plain words.
 ghost use mathlib.Core.List.{[]};
 ghost use mathlib.Core.Path.{_≡_};
-ghost use lib.ListN.{length};
-ghost use Rattle.word.specs.Answers.{answerNumber, answerValue};
 ghost use Rattle.book.specs.Books.{isBook};
-ghost use Rattle.book.specs.Calls.{callM, callO, callC, callV, callD, callL, callJ, callX, callI, callR, callA};
+ghost use Rattle.book.specs.Calls.{callM, on, callO, callC, callV, callD, callL, callJ, callX, callI, callR, callA};
 ghost use Rattle.text.specs.Sheets.{SheetRun};
-ghost use Rattle.export.specs.Answered.{Answered, Started};
+ghost use Rattle.export.specs.Answered.{Answered, Carries, Started};
 use word::answer::Answer;
 
 // The number and the value of an answer, document 01's.
@@ -17,7 +15,7 @@ pub struct Reply {
 }
 
 fn reply_of(answer: Answer) -> Reply
-    ensures { λ r. ⌜ (r .number ≡ answerNumber answer) × (r .value ≡ answerValue answer) ⌝ }
+    ensures { λ r. ⌜ Carries r answer ⌝ }
 {
     Reply {
         number: answer.number(),
@@ -52,7 +50,7 @@ pub extern "C" fn strike_book_set_month(run: &mut [u32], m: u32) -> Reply
 // `O`.
 #[no_mangle]
 pub extern "C" fn strike_book_open_class(run: &mut [u32], c: u32) -> Reply
-    ensures { λ r. ⌜ Answered (callO c) (now (run .entry)) [] r (now (run .exit)) [] ⌝ }
+    ensures { λ r. ⌜ Answered (on c callO) (now (run .entry)) [] r (now (run .exit)) [] ⌝ }
 {
     reply_of(call::open_class(run, c))
 }
@@ -60,7 +58,7 @@ pub extern "C" fn strike_book_open_class(run: &mut [u32], c: u32) -> Reply
 // `C`.
 #[no_mangle]
 pub extern "C" fn strike_book_set_close(run: &mut [u32], c: u32, p: u32) -> Reply
-    ensures { λ r. ⌜ Answered (callC c p) (now (run .entry)) [] r (now (run .exit)) [] ⌝ }
+    ensures { λ r. ⌜ Answered (on c (callC p)) (now (run .entry)) [] r (now (run .exit)) [] ⌝ }
 {
     reply_of(call::set_close(run, c, p))
 }
@@ -68,7 +66,7 @@ pub extern "C" fn strike_book_set_close(run: &mut [u32], c: u32, p: u32) -> Repl
 // `V`.
 #[no_mangle]
 pub extern "C" fn strike_book_set_volume(run: &mut [u32], c: u32, n: u32) -> Reply
-    ensures { λ r. ⌜ Answered (callV c n) (now (run .entry)) [] r (now (run .exit)) [] ⌝ }
+    ensures { λ r. ⌜ Answered (on c (callV n)) (now (run .entry)) [] r (now (run .exit)) [] ⌝ }
 {
     reply_of(call::set_volume(run, c, n))
 }
@@ -76,7 +74,7 @@ pub extern "C" fn strike_book_set_volume(run: &mut [u32], c: u32, n: u32) -> Rep
 // `D`.
 #[no_mangle]
 pub extern "C" fn strike_book_designate(run: &mut [u32], c: u32, p: u32, d: u32) -> Reply
-    ensures { λ r. ⌜ Answered (callD c p d) (now (run .entry)) [] r (now (run .exit)) [] ⌝ }
+    ensures { λ r. ⌜ Answered (on c (callD p d)) (now (run .entry)) [] r (now (run .exit)) [] ⌝ }
 {
     reply_of(call::designate(run, c, p, d))
 }
@@ -84,7 +82,7 @@ pub extern "C" fn strike_book_designate(run: &mut [u32], c: u32, p: u32, d: u32)
 // `L`.
 #[no_mangle]
 pub extern "C" fn strike_book_list_strike(run: &mut [u32], c: u32, m: u32, h: u32) -> Reply
-    ensures { λ r. ⌜ Answered (callL c m h) (now (run .entry)) [] r (now (run .exit)) [] ⌝ }
+    ensures { λ r. ⌜ Answered (on c (callL m h)) (now (run .entry)) [] r (now (run .exit)) [] ⌝ }
 {
     reply_of(call::list_strike(run, c, m, h))
 }
@@ -92,7 +90,7 @@ pub extern "C" fn strike_book_list_strike(run: &mut [u32], c: u32, m: u32, h: u3
 // `J`.
 #[no_mangle]
 pub extern "C" fn strike_book_judge_strike(run: &[u32], c: u32, m: u32, h: u32) -> Reply
-    ensures { λ r. ⌜ Answered (callJ c m h) (now (run .entry)) [] r (now (run .entry)) [] ⌝ }
+    ensures { λ r. ⌜ Answered (on c (callJ m h)) (now (run .entry)) [] r (now (run .entry)) [] ⌝ }
 {
     reply_of(call::judge_strike(run, c, m, h))
 }
@@ -100,7 +98,7 @@ pub extern "C" fn strike_book_judge_strike(run: &[u32], c: u32, m: u32, h: u32) 
 // `X`.
 #[no_mangle]
 pub extern "C" fn strike_book_delist_strike(run: &mut [u32], c: u32, m: u32, h: u32) -> Reply
-    ensures { λ r. ⌜ Answered (callX c m h) (now (run .entry)) [] r (now (run .exit)) [] ⌝ }
+    ensures { λ r. ⌜ Answered (on c (callX m h)) (now (run .entry)) [] r (now (run .exit)) [] ⌝ }
 {
     reply_of(call::delist_strike(run, c, m, h))
 }
@@ -115,7 +113,7 @@ pub extern "C" fn strike_book_mark_strike(
     a: u32,
     b: u32,
 ) -> Reply
-    ensures { λ r. ⌜ Answered (callI c m h a b) (now (run .entry)) [] r (now (run .exit)) [] ⌝ }
+    ensures { λ r. ⌜ Answered (on c (callI m h a b)) (now (run .entry)) [] r (now (run .exit)) [] ⌝ }
 {
     reply_of(call::mark_strike(run, c, m, h, a, b))
 }
@@ -123,7 +121,7 @@ pub extern "C" fn strike_book_mark_strike(
 // `R`.
 #[no_mangle]
 pub extern "C" fn strike_book_review_class(run: &mut [u32], c: u32) -> Reply
-    ensures { λ r. ⌜ Answered (callR c) (now (run .entry)) [] r (now (run .exit)) [] ⌝ }
+    ensures { λ r. ⌜ Answered (on c callR) (now (run .entry)) [] r (now (run .exit)) [] ⌝ }
 {
     reply_of(call::review_class(run, c))
 }
@@ -136,7 +134,8 @@ pub extern "C" fn strike_book_list_permitted(
     c: u32,
     m: u32,
 ) -> Reply
-    ensures { λ r. ⌜ Answered (callA c m (length (now (second .entry)))) (now (run .entry)) (now (second .entry)) r (now (run .entry)) (now (second .exit)) ⌝ }
+    ensures { λ r. ⌜ Answered (on c (callA m)) (now (run .entry)) (now (second .entry))
+        r (now (run .entry)) (now (second .exit)) ⌝ }
 {
     reply_of(call::list_permitted(run, second, c, m))
 }

@@ -212,7 +212,7 @@ last-none {w} {v} line book is =
 
 -- one that has begun
 pub last-made : {w v out w′ v′ out′ : List ℕ} {at r : ℕ} (line : Line) → hasBegun (line .phase) ≡ true
-    → Ended (callHeld (length v) (endOf line)) w v out at r w′ v′ out′
+    → Ended (callHeld (endOf line)) w v out at r w′ v′ out′
     → Left (length w) (lastEnded (length w) (length v) (begun w v line)) w′ v′
 unfolding lastEnded callMade
 last-made line begins ended = rw begins (record { words = ended .words; second = ended .second })
@@ -234,5 +234,5 @@ sheet-left {w} {v} {w₁} {w₂} {v₂} {w₃} {v₃} {line} e is long all size 
     left-same (last-unprinted n m (begun w₂ v₂ line) now (begun-same carried)) ended in
     let calls = sheet-read n m (all .bytes) start refl in
     let facts : factsOf w₁ ≡ fresh = ap factsOf is ∙ factsOf-layout n fresh (fresh-well-formed n (good-length e)) in
-    let done : Left n (callsMade n (callsIn m (all .bytes)) start) w₃ v₃ = rw calls at made in
+    let done : Left n (callsMade n m (callsIn (all .bytes)) start) w₃ v₃ = rw calls at made in
     record { bytes = all .bytes; words = rw facts at (done .words); second = rw facts at (done .second) }

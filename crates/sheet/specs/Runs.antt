@@ -9,7 +9,7 @@ use Rattle.book.specs.Facts.{fresh}
 use Rattle.book.specs.Layout.{layout, factsOf}
 use Rattle.book.specs.Books.{isBook}
 use Rattle.book.specs.Calls.{after}
-use Rattle.book.specs.CallLists.{secondAfter}
+use Rattle.book.specs.CallLists.{lentEach, secondAfter}
 use Rattle.text.specs.declared.line.Line.{Line}
 use Rattle.text.specs.Reading.{emptyLine}
 use Rattle.text.specs.Sheets.{callsIn}
@@ -46,5 +46,5 @@ pub record AllRead (w v : List ℕ) (r : Line) (w′ v′ : List ℕ) : Type 0 w
 -- a whole sheet over words w that are made a fresh book, with the second run v, and the bytes that were read
 pub record SheetRead (w v w′ v′ : List ℕ) : Type 0 where
   pub bytes : List ℕ
-  pub words : w′ ≡ layout (length w) (after (length w) (callsIn (length v) bytes))
-  pub second : v′ ≡ secondAfter (length w) (callsIn (length v) bytes) fresh v
+  pub words : w′ ≡ layout (length w) (after (length w) (callsIn bytes))
+  pub second : v′ ≡ secondAfter (length w) (lentEach (length v) (callsIn bytes)) fresh v

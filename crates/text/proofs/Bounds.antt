@@ -1,47 +1,63 @@
--- How long a printed line can be: a number that 32 bits hold has at most ten digits, and an answer's number at most two; by whether the call is accepted, and whether its value is printed. Assumes nothing.
+-- How long a printed line can be: a number that 32 bits hold has at most ten digits, and an answer's number at most
+-- two; by the cases of the answer. Assumes nothing.
 use Prim.Native.Nat.{ℕ, suc, _+_, _*_, _≤_, _<_}
 use mathlib.Core.Logic.{⊎-elim}
 use mathlib.Core.Path.{_≡_, ap}
-use mathlib.Core.Bool.{Bool, true, false}
+use mathlib.Core.Bool.{true, false}
 use mathlib.Core.List.{List, [], _∷_}
 use native.Mathlib.Omega.{arith}
 use lib.Dec.{eqb}
 use lib.ListN.{length, getD, length-append}
+use mir.Val.{Val}
+use denote.Laws.{Is}
+use denote.Enum.Declared.{row}
 use Rattle.word.specs.declared.answer.Refusal.{Refusal}
 use Rattle.word.specs.declared.answer.Refusal.the-variants.{NotABook, BeyondLimits, AlreadyOpen, NotOpen, MonthOutside, AlreadyStanding, NotStanding, NoClose, NotQualified, CapReached, OffGrid, OutOfRange, TooClose, OpenInterest, OutOfWords}
 use Rattle.word.specs.declared.answer.Answer.{Answer}
 use Rattle.word.specs.declared.answer.Answer.the-variants.{Done, Ground, Removed, Listed, Refused}
-use Rattle.word.specs.Answers.{refusalNumber, answerNumber}
+use Rattle.word.specs.Answers.{refusalNumber, refusalValue, answerNumber, answerValue}
+use Rattle.word.proofs.answer.Answer.{the-type as answer-type}
+use Rattle.word.proofs.answer.Refusal.{the-type as refusal-type}
 use Rattle.text.specs.Printing.{spacedNumber, spacedNumbers, valueOrNone, afterNumber, answerText}
 use Rattle.text.specs.Pieces.{lineRoom}
-use Rattle.text.proofs.Cases.{bool-cases, eq-or-not}
+use Rattle.text.proofs.Cases.{bool-cases}
 use Rattle.text.proofs.Decimals.{length-decimal}
 use Rattle.text.proofs.SpacedNumbers.{one-number}
-use Rattle.text.proofs.AnswerTexts.{refused-text, unshown-text, length-shown, length-whole}
+use Rattle.text.proofs.AnswerTexts.{length-whole}
 
-refusal-below : (why : Refusal) → refusalNumber why < 100
-refusal-below NotABook = omega arith
-refusal-below BeyondLimits = omega arith
-refusal-below AlreadyOpen = omega arith
-refusal-below NotOpen = omega arith
-refusal-below MonthOutside = omega arith
-refusal-below AlreadyStanding = omega arith
-refusal-below NotStanding = omega arith
-refusal-below NoClose = omega arith
-refusal-below NotQualified = omega arith
-refusal-below CapReached = omega arith
-refusal-below OffGrid = omega arith
-refusal-below OutOfRange = omega arith
-refusal-below TooClose = omega arith
-refusal-below OpenInterest = omega arith
-refusal-below (OutOfWords count) = omega arith
+-- ---- a value of the type holds a number below 100 and a value of 32 bits
 
-pub number-below : (answer : Answer) → answerNumber answer < 100
-number-below Done = omega arith
-number-below (Ground g) = omega arith
-number-below (Removed count) = omega arith
-number-below (Listed count) = omega arith
-number-below (Refused why) = refusal-below why
+refusal-below :
+    (why : Refusal) (vs : List Val) → Is (row refusal-type) why vs
+    → (refusalNumber why < 100) × (refusalValue why < 4294967296)
+refusal-below NotABook vs ok = (omega arith, omega arith)
+refusal-below BeyondLimits vs ok = (omega arith, omega arith)
+refusal-below AlreadyOpen vs ok = (omega arith, omega arith)
+refusal-below NotOpen vs ok = (omega arith, omega arith)
+refusal-below MonthOutside vs ok = (omega arith, omega arith)
+refusal-below AlreadyStanding vs ok = (omega arith, omega arith)
+refusal-below NotStanding vs ok = (omega arith, omega arith)
+refusal-below NoClose vs ok = (omega arith, omega arith)
+refusal-below NotQualified vs ok = (omega arith, omega arith)
+refusal-below CapReached vs ok = (omega arith, omega arith)
+refusal-below OffGrid vs ok = (omega arith, omega arith)
+refusal-below OutOfRange vs ok = (omega arith, omega arith)
+refusal-below TooClose vs ok = (omega arith, omega arith)
+refusal-below OpenInterest vs ok = (omega arith, omega arith)
+refusal-below (OutOfWords count) vs ok = (omega arith, omega arith)
+
+answer-below :
+    (answer : Answer) (vs : List Val) → Is (row answer-type) answer vs
+    → (answerNumber answer < 100) × (answerValue answer < 4294967296)
+answer-below Done vs ok = (omega arith, omega arith)
+answer-below (Ground g) vs ok = (omega arith, omega arith)
+answer-below (Removed count) vs ok = (omega arith, omega arith)
+answer-below (Listed count) vs ok = (omega arith, omega arith)
+answer-below (Refused why) vs ok =
+    let fields = ok .1 .1 in
+    refusal-below why _ (fields .1 .1 .0)
+
+-- ---- what is printed of it
 
 -- a number of 32 bits, after a space
 number-bound : (v : ℕ) → v < 4294967296 → length (spacedNumber v) ≤ 11
@@ -51,7 +67,12 @@ numbers-bound : (vs : List ℕ) → ((k : ℕ) → getD vs k 0 < 4294967296) →
 unfolding spacedNumbers
 numbers-bound [] small = omega arith
 numbers-bound (v ∷ vs) small =
-    omega (arith, length-append (spacedNumber v) (spacedNumbers vs), number-bound v (small 0), numbers-bound vs (λ k. small (suc k)))
+    omega (
+      arith,
+      length-append (spacedNumber v) (spacedNumbers vs),
+      number-bound v (small 0),
+      numbers-bound vs (λ k. small (suc k)),
+    )
 
 value-bound : (v : ℕ) → v < 4294967296 → length (spacedNumbers (valueOrNone v)) ≤ 11
 unfolding valueOrNone spacedNumbers
@@ -61,18 +82,27 @@ value-bound v h =
     (λ (e : eqb v 0 ≡ false). simp e (omega (arith, ap length (one-number v), number-bound v h)))
     (bool-cases (eqb v 0))
 
-module _ (shown : Bool) (number value : ℕ) (strikes : List ℕ) (low : number < 100) (small : value < 4294967296) (each : (k : ℕ) → getD strikes k 0 < 4294967296) where
-  after-bound : length (spacedNumbers (afterNumber shown number value strikes)) ≤ 11 + 11 * length strikes
-  after-bound =
-      ⊎-elim
-      (λ (accepted : number ≡ 0).
-      ⊎-elim
-      (λ (s : shown ≡ true). omega (arith, length-shown shown number value strikes accepted s, number-bound value small, numbers-bound strikes each))
-      (λ (s : shown ≡ false). omega (arith, ap length (unshown-text shown number value strikes accepted s)))
-      (bool-cases shown))
-      (λ refused. omega (arith, ap length (refused-text shown number value strikes refused), value-bound value small))
-      (eq-or-not number 0)
+module _ (strikes : List ℕ) (each : (k : ℕ) → getD strikes k 0 < 4294967296) where
+  after-bound :
+      (answer : Answer) → answerValue answer < 4294967296
+      → length (spacedNumbers (afterNumber answer strikes)) ≤ 11 + 11 * length strikes
+  unfolding afterNumber spacedNumbers
+  after-bound Done small = omega arith
+  after-bound (Ground g) small = omega (arith, ap length (one-number g), number-bound g small)
+  after-bound (Removed count) small = omega (arith, ap length (one-number count), number-bound count small)
+  after-bound (Listed count) small =
+      omega (
+        arith,
+        length-append (spacedNumber count) (spacedNumbers strikes),
+        number-bound count small,
+        numbers-bound strikes each,
+      )
+  after-bound (Refused why) small = omega (arith, value-bound (refusalValue why) small)
 
-  -- an answer's line with a number below 100, and a value and strikes of 32 bits
-  pub answer-bound : length (answerText shown number value strikes) ≤ lineRoom (length strikes)
-  answer-bound = omega (arith, length-whole shown number value strikes, length-decimal 1 number (omega arith), after-bound)
+  pub answer-bound :
+      (answer : Answer) (vs : List Val) → Is (row answer-type) answer vs
+      → length (answerText answer strikes) ≤ lineRoom (length strikes)
+  answer-bound answer vs ok =
+      let below = answer-below answer vs ok in
+      let few = length-decimal 1 (answerNumber answer) (omega arith) in
+      omega (arith, length-whole answer strikes, few, after-bound answer (below .1))

@@ -1,157 +1,104 @@
--- "a number beyond its limits" is exact though numbers are capped: the cap is above every limit, so that a call is written exactly where the capped one is, and is then the same call.
+-- "a number beyond its limits" is exact though numbers are capped: every limit is below the cap, so that a call with a
+-- number that is not is beyond its limits, and so is the call with the cap in its place. Assumes nothing.
 use mathlib.Core.Path.{_≡_, refl, sym, ap, _∙_}
 use mathlib.Core.Logic.{⊎-elim}
-use mathlib.Core.Bool.{true, false, _&&_}
-use Prim.Native.Nat.{ℕ, _≤_, _<_}
+use mathlib.Core.Bool.{Bool, true, false, cond, _&&_}
+use mathlib.Core.List.{List, [], _∷_, map}
+use Prim.Native.Nat.{ℕ}
 use native.Mathlib.Omega.{arith}
-use lib.Dec.{leb}
+use lib.Dec.{T, eqb, leb, leb→le, le→leb}
 use borrow.Author.Tests.{leb-true}
-use Rattle.word.specs.Limits.{between, isPrice, isStrike, isMonth, isClassNumber, isVolume, isDesignation, isMark}
-use Rattle.word.proofs.Tests.{and-both, between-high}
+use Rattle.word.specs.declared.answer.Answer.{Answer}
+use Rattle.word.specs.declared.answer.Answer.the-variants.{Refused}
+use Rattle.word.specs.declared.answer.Refusal.the-variants.{BeyondLimits}
+use Rattle.word.proofs.Tests.{and-both}
+use Rattle.rule.specs.Lists.{every}
 use Rattle.rule.proofs.Tests.{same-leb}
 use Rattle.book.specs.Facts.{Facts}
-use Rattle.book.specs.Calls.{Call, callM, callO, callC, callV, callD, callL, callJ, callX, callI, callR, callA, malformed, isProgram, isWritten, numberOf, valueOf, written, step}
+use Rattle.book.specs.Calls.{Call, callM, on, callO, callC, callV, callD, callL, callJ, callX, callI, callR, callA, effectOn, effect, answerTo, written, step}
+use Rattle.book.specs.Letters.{callOf}
+use Rattle.book.proofs.Tests.{and-intro, ands, same-bool}
 use Rattle.text.specs.Reading.{capped}
-use Rattle.text.specs.Grammar.{cappedCall}
 use Rattle.text.proofs.Cases.{bool-cases}
 
-below : (limit v : ℕ) → limit < 99999999 → leb (capped v) limit ≡ leb v limit
-below limit v h = same-leb (capped v) limit v limit (λ k. omega arith) (λ k. omega arith)
+-- ---- numbers below the cap
 
-within : (low high v : ℕ) → low ≤ 99999999 → high < 99999999 → between low high (capped v) ≡ between low high v
-within low high v least most =
-    let above : leb low (capped v) ≡ leb low v = same-leb low (capped v) low v (λ k. omega arith) (λ k. omega arith) in
-    simp (above, below high v most)
+abbrev areSmall : List ℕ → Bool
+areSmall ns = every (λ k. leb k 99999998) ns
 
-class-number : (v : ℕ) → isClassNumber (capped v) ≡ isClassNumber v
-class-number v = within 1 16383 v (omega arith) (omega arith)
+capped-small : (ns : List ℕ) → areSmall (map capped ns) ≡ areSmall ns
+capped-small [] = refl
+capped-small (k ∷ ns) =
+    rw (capped-small ns, same-leb (capped k) 99999998 k 99999998 (λ l. omega arith) (λ l. omega arith))
 
-price : (v : ℕ) → isPrice (capped v) ≡ isPrice v
-price v = within 1 999999 v (omega arith) (omega arith)
+small-kept : (ns : List ℕ) → areSmall ns ≡ true → map capped ns ≡ ns
+small-kept [] e = refl
+small-kept (k ∷ ns) e =
+    let both = and-both (leb k 99999998) (areSmall ns) e in
+    let kept : capped k ≡ k = omega (arith, leb-true k 99999998 (both .0)) in
+    rw (kept, small-kept ns (both .1))
 
-strike : (v : ℕ) → isStrike (capped v) ≡ isStrike v
-strike v = within 1 19999 v (omega arith) (omega arith)
+-- a number within a limit
+under : (limit v : ℕ) → T (leb v limit) → T (leb limit 99999998) → T (leb v 99999998)
+under limit v t low = le→leb v 99999998 (omega (arith, leb→le v limit t, leb→le limit 99999998 low))
 
-program : (v : ℕ) → isProgram (capped v) ≡ isProgram v
-program v = within 1 2 v (omega arith) (omega arith)
+-- ---- the numbers of a call within its limits, by its letter
 
-month : (v : ℕ) → isMonth (capped v) ≡ isMonth v
-month v = below 1023 v (omega arith)
+module _ (f : Facts) where
+  either :
+      {P : Type 0} (b : Bool) (x y : Call) → (T (effect x f .limits) → P) → (T (effect y f .limits) → P)
+      → T (effect (cond b x y) f .limits) → P
+  either true x y this other t = this t
+  either false x y this other t = other t
 
-volume : (v : ℕ) → isVolume (capped v) ≡ isVolume v
-volume v = below 9999999 v (omega arith)
+  numbers-small : (c : ℕ) (ns : List ℕ) → T (effect (callOf c ns) f .limits) → T (areSmall ns)
+  unfolding callOf effectOn
+  numbers-small c [] t = tt
+  numbers-small c (a ∷ []) t =
+      either (eqb c 77) (callM a) _ (λ t. search (ands, and-intro, under))
+      (either (eqb c 79) (on a callO) _ (λ t. search (ands, and-intro, under))
+      (either (eqb c 82) (on a callR) _ (λ t. search (ands, and-intro, under)) (λ t. absurd t))) t
+  numbers-small c (a ∷ b ∷ []) t =
+      either (eqb c 67) (on a (callC b)) _ (λ t. search (ands, and-intro, under))
+      (either (eqb c 86) (on a (callV b)) _ (λ t. search (ands, and-intro, under))
+      (either (eqb c 65) (on a (callA b)) _ (λ t. search (ands, and-intro, under)) (λ t. absurd t))) t
+  numbers-small c (a ∷ b ∷ d ∷ []) t =
+      either (eqb c 68) (on a (callD b d)) _ (λ t. search (ands, and-intro, under))
+      (either (eqb c 76) (on a (callL b d)) _ (λ t. search (ands, and-intro, under))
+      (either (eqb c 74) (on a (callJ b d)) _ (λ t. search (ands, and-intro, under))
+      (either (eqb c 88) (on a (callX b d)) _ (λ t. search (ands, and-intro, under)) (λ t. absurd t)))) t
+  numbers-small c (a ∷ b ∷ d ∷ e ∷ []) t = absurd t
+  numbers-small c (a ∷ b ∷ d ∷ e ∷ g ∷ []) t =
+      either (eqb c 73) (on a (callI b d e g)) _ (λ t. search (ands, and-intro, under) depth 9) (λ t. absurd t) t
+  numbers-small c (a ∷ b ∷ d ∷ e ∷ g ∷ h ∷ more) t = absurd t
 
-designation : (v : ℕ) → isDesignation (capped v) ≡ isDesignation v
-designation v = below 2 v (omega arith)
+  -- ---- so the plain book judges the call of the capped numbers as it judges the call on the sheet
 
-mark : (v : ℕ) → isMark (capped v) ≡ isMark v
-mark v = below 1 v (omega arith)
+  -- what is the same of all calls beyond their limits is the same of the two
+  module _ (c : ℕ) (ns : List ℕ) where
+    alike :
+        {A : Type 0} (g : Call → A) (a : A) → ((x : Call) → effect x f .limits ≡ false → g x ≡ a)
+        → g (callOf c (map capped ns)) ≡ g (callOf c ns)
+    alike g a beyond =
+        ⊎-elim
+        (λ (e : areSmall ns ≡ true). ap (λ (ks : List ℕ). g (callOf c ks)) (small-kept ns e))
+        (λ (e : areSmall ns ≡ false).
+        beyond (callOf c (map capped ns)) (unlimited (map capped ns) (capped-small ns ∙ e))
+        ∙ sym (beyond (callOf c ns) (unlimited ns e)))
+        (bool-cases (areSmall ns))
+      where
+        unlimited : (ks : List ℕ) → areSmall ks ≡ false → effect (callOf c ks) f .limits ≡ false
+        unlimited ks e =
+            same-bool (effect (callOf c ks) f .limits) false (λ t. rw e at (numbers-small c ks t)) (λ t. absurd t)
 
--- "2 a number beyond its limits" is drawn of the capped numbers exactly where it is drawn of those on the sheet
-pub limited : (x : Call) → isWritten (cappedCall x) ≡ isWritten x
-unfolding cappedCall
-limited (callM m) = month m
-limited (callO c) = class-number c
-limited (callC c p) = simp (class-number c, price p)
-limited (callV c n) = simp (class-number c, volume n)
-limited (callD c p d) = simp (class-number c, program p, designation d)
-limited (callL c m h) = simp (class-number c, month m, strike h)
-limited (callJ c m h) = simp (class-number c, month m, strike h)
-limited (callX c m h) = simp (class-number c, month m, strike h)
-limited (callI c m h a b) = simp (class-number c, month m, strike h, mark a, mark b)
-limited (callR c) = class-number c
-limited (callA c m room) = simp (class-number c, month m)
-limited malformed = refl
+    pub same-answer : (n room : ℕ) → answerTo n room (callOf c (map capped ns)) f ≡ answerTo n room (callOf c ns) f
+    unfolding answerTo
+    same-answer n room = alike (λ (x : Call). answerTo n room x f) (Refused BeyondLimits) (λ x e. rw e)
 
--- a number within a limit below the cap is kept as it is
-kept-below : (limit v : ℕ) → limit < 99999999 → leb v limit ≡ true → capped v ≡ v
-kept-below limit v h e = omega (arith, leb-true v limit e)
+    pub same-written : (n room : ℕ) → written n room (callOf c (map capped ns)) f ≡ written n room (callOf c ns) f
+    unfolding answerTo written
+    same-written n room = alike (λ (x : Call). written n room x f) [] (λ x e. rw e)
 
-kept-within : (low high v : ℕ) → high < 99999999 → between low high v ≡ true → capped v ≡ v
-kept-within low high v h e = omega (arith, between-high low high v e)
-
-kept-class : (c : ℕ) → isClassNumber c ≡ true → capped c ≡ c
-kept-class c e = kept-within 1 16383 c (omega arith) e
-
-kept-month : (m : ℕ) → isMonth m ≡ true → capped m ≡ m
-kept-month m e = kept-below 1023 m (omega arith) e
-
-kept-strike : (h : ℕ) → isStrike h ≡ true → capped h ≡ h
-kept-strike h e = kept-within 1 19999 h (omega arith) e
-
-kept-mark : (b : ℕ) → isMark b ≡ true → capped b ≡ b
-kept-mark b e = kept-below 1 b (omega arith) e
-
--- a class, a month and a strike
-kept-three : (c m h : ℕ) → (isClassNumber c && (isMonth m && isStrike h)) ≡ true → (capped c ≡ c) × (capped m ≡ m) × (capped h ≡ h)
-kept-three c m h e =
-    let outer = and-both (isClassNumber c) (isMonth m && isStrike h) e in
-    let inner = and-both (isMonth m) (isStrike h) (outer .1) in
-    (kept-class c (outer .0), kept-month m (inner .0), kept-strike h (inner .1))
-
--- where no number is beyond its limits, the capped numbers are those on the sheet
-pub kept : (x : Call) → isWritten x ≡ true → cappedCall x ≡ x
-unfolding cappedCall
-kept (callM m) e = rw (kept-month m e)
-kept (callO c) e = rw (kept-class c e)
-kept (callC c p) e =
-    let both = and-both (isClassNumber c) (isPrice p) e in
-    rw (kept-class c (both .0), kept-within 1 999999 p (omega arith) (both .1))
-kept (callV c n) e =
-    let both = and-both (isClassNumber c) (isVolume n) e in
-    rw (kept-class c (both .0), kept-below 9999999 n (omega arith) (both .1))
-kept (callD c p d) e =
-    let outer = and-both (isClassNumber c) (isProgram p && isDesignation d) e in
-    let inner = and-both (isProgram p) (isDesignation d) (outer .1) in
-    rw (kept-class c (outer .0), kept-within 1 2 p (omega arith) (inner .0), kept-below 2 d (omega arith) (inner .1))
-kept (callL c m h) e = rw (kept-three c m h e .0, kept-three c m h e .1, kept-three c m h e .2)
-kept (callJ c m h) e = rw (kept-three c m h e .0, kept-three c m h e .1, kept-three c m h e .2)
-kept (callX c m h) e = rw (kept-three c m h e .0, kept-three c m h e .1, kept-three c m h e .2)
-kept (callI c m h a b) e =
-    let first = and-both (isClassNumber c) (isMonth m && (isStrike h && (isMark a && isMark b))) e in
-    let second = and-both (isMonth m) (isStrike h && (isMark a && isMark b)) (first .1) in
-    let third = and-both (isStrike h) (isMark a && isMark b) (second .1) in
-    let last = and-both (isMark a) (isMark b) (third .1) in
-    rw (kept-class c (first .0), kept-month m (second .0), kept-strike h (third .0), kept-mark a (last .0), kept-mark b (last .1))
-kept (callR c) e = rw (kept-class c e)
-kept (callA c m room) e =
-    let both = and-both (isClassNumber c) (isMonth m) e in
-    rw (kept-class c (both .0), kept-month m (both .1))
-kept malformed e = refl
-
--- So the plain book judges the capped call as it judges the call on the sheet, in a run of n words.
-module _ (n : ℕ) (f : Facts) where
-  unwritten : (x : Call) → isWritten x ≡ false → numberOf n x f ≡ 2
-  unfolding numberOf
-  unwritten x e = rw e
-
-  pub same-number : (x : Call) → numberOf n (cappedCall x) f ≡ numberOf n x f
-  same-number x =
-      ⊎-elim
-      (λ e. ap (λ (y : Call). numberOf n y f) (kept x e))
-      (λ e. unwritten (cappedCall x) (limited x ∙ e) ∙ sym (unwritten x e))
-      (bool-cases (isWritten x))
-
-  pub same-value : (x : Call) → valueOf n (cappedCall x) f ≡ valueOf n x f
-  unfolding valueOf
-  same-value x =
-      ⊎-elim
-      (λ e. ap (λ (y : Call). valueOf n y f) (kept x e))
-      (λ e. simp (unwritten (cappedCall x) (limited x ∙ e), unwritten x e))
-      (bool-cases (isWritten x))
-
-  pub same-written : (x : Call) → written n (cappedCall x) f ≡ written n x f
-  unfolding written
-  same-written x =
-      ⊎-elim
-      (λ e. ap (λ (y : Call). written n y f) (kept x e))
-      (λ e. simp (unwritten (cappedCall x) (limited x ∙ e), unwritten x e))
-      (bool-cases (isWritten x))
-
-  pub same-step : (x : Call) → step n (cappedCall x) f ≡ step n x f
-  unfolding step
-  same-step x =
-      ⊎-elim
-      (λ e. ap (λ (y : Call). step n y f) (kept x e))
-      (λ e. simp (unwritten (cappedCall x) (limited x ∙ e), unwritten x e))
-      (bool-cases (isWritten x))
+    pub same-step : (n : ℕ) → step n (callOf c (map capped ns)) f ≡ step n (callOf c ns) f
+    unfolding step
+    same-step n = alike (λ (x : Call). step n x f) f (λ x e. rw e)

@@ -1,4 +1,5 @@
--- A piece read byte by byte, and line by line: what the state holds after each byte or line is what the reader holds, by the byte, and from the contract of a line that ends. Assumes nothing.
+-- A piece read byte by byte, and line by line: what the state holds after each byte or line is what the reader holds,
+-- by the byte, and from the contract of a line that ends. Assumes nothing.
 use Prim.Native.Nat.{ℕ, suc, _+_, _-_, _≤_, _<_, zero-le}
 use mathlib.Core.Path.{_≡_, refl, sym, ap, subst, _∙_}
 use mathlib.Core.Logic.{⊎-elim}
@@ -135,57 +136,72 @@ module _ (n room size : ℕ) where
 
 -- ---- one byte more
 
-module _ {n : ℕ} (room : ℕ) {out₀ : List ℕ} {r : Reader} {run second out : List ℕ} {line : Line} {put : ℕ} (h : Holds n out₀ r run second out line put) (b : ℕ) where
-  holds-fed : {line′ : Line} → (b ≡ 10 → ⊥) → line′ ≡ feedOf line b → Holds n out₀ (byteRead n room r b) run second out line′ put
-  unfolding byteRead
-  holds-fed differs fed =
-      rw (ne-eqb b 10 differs)
-      (record {
-        book = h .book;
-        size = h .size;
-        facts-are = h .facts-are;
-        words = h .words;
-        second-is = h .second-is;
-        line-is = fed ∙ ap (λ (l : Line). feedOf l b) (h .line-is);
-        printed = h .printed;
-        put-is = h .put-is;
-        fits = h .fits;
-      })
+module _
+    {n : ℕ}
+    (room : ℕ)
+    {out₀ : List ℕ}
+    {r : Reader}
+    {run second out : List ℕ}
+    {line : Line}
+    {put : ℕ}
+    (h : Holds n out₀ r run second out line put)
+    (b : ℕ)
+  where
+    holds-fed :
+        {line′ : Line} → (b ≡ 10 → ⊥) → line′ ≡ feedOf line b
+        → Holds n out₀ (byteRead n room r b) run second out line′ put
+    unfolding byteRead
+    holds-fed differs fed =
+        rw (ne-eqb b 10 differs)
+        (record {
+          book = h .book;
+          size = h .size;
+          facts-are = h .facts-are;
+          words = h .words;
+          second-is = h .second-is;
+          line-is = fed ∙ ap (λ (l : Line). feedOf l b) (h .line-is);
+          printed = h .printed;
+          put-is = h .put-is;
+          fits = h .fits;
+        })
 
-  holds-ended : {run′ second′ out′ : List ℕ} {line′ : Line} {put′ : ℕ} → length second ≡ room → b ≡ 10
-      → Ended (callHeld (length second) (endOf line)) run second out put put′ run′ second′ out′ → line′ ≡ emptyLine
-      → Holds n out₀ (byteRead n room r b) run′ second′ out′ line′ put′
-  unfolding byteRead callMade
-  holds-ended {run′} {second′} {out′} {line′} {put′} size is ended empty =
-      let same : callHeld (length second) (endOf line) ≡ callEnded room r =
-      ap (λ (l : Line). callHeld (length second) (endOf l)) (h .line-is)
-      ∙ ap (λ (k : ℕ). callHeld k (endOf (r .line))) size in
-      let e : Ended (callEnded room r) run second out put put′ run′ second′ out′ =
-      subst (λ (x : Call). Ended x run second out put put′ run′ second′ out′) same ended in
-      let f = r .facts in
-      let words = rw (h .size, h .facts-are) at (e .words) in
-      let good : T (isWellFormed n f) = rw (h .size, h .facts-are) at (book-facts run (h .book) .0) in
-      let next : T (isWellFormed n (step n (callEnded room r) f)) = step-keeps n (callEnded room r) f good in
-      let reply : List ℕ = replyTo n (callEnded room r) f in
-      rw (eq-eqb b 10 is)
-      (record {
-        book = ended .book;
-        size = ap length words ∙ layout-size n (step n (callEnded room r) f) next;
-        facts-are = ap factsOf words ∙ factsOf-layout n (step n (callEnded room r) f) next;
-        words = words;
-        second-is = rw (h .size, h .facts-are, h .second-is) at (e .second);
-        line-is = empty;
-        printed = stores-after out₀ out out′ (r .text) reply 0 put (omega (arith, h .put-is)) (h .printed) (rw (h .size, h .facts-are) at (e .printed));
-        put-is = omega (arith, rw (h .size, h .facts-are) at (e .next), h .put-is, length-append (r .text) reply);
-        fits = omega (arith, ended .fits, ap length (h .printed), length-sets out₀ 0 (r .text));
-      })
+    holds-ended :
+        {run′ second′ out′ : List ℕ} {line′ : Line} {put′ : ℕ} → length second ≡ room → b ≡ 10
+        → Ended (callHeld (endOf line)) run second out put put′ run′ second′ out′ → line′ ≡ emptyLine
+        → Holds n out₀ (byteRead n room r b) run′ second′ out′ line′ put′
+    unfolding byteRead callMade
+    holds-ended {run′} {second′} {out′} {line′} {put′} long is ended empty =
+        let x = callEnded r in
+        let same : callHeld (endOf line) ≡ x = ap (λ (l : Line). callHeld (endOf l)) (h .line-is) in
+        let e : Ended x run second out put put′ run′ second′ out′ =
+        subst (λ (y : Call). Ended y run second out put put′ run′ second′ out′) same ended in
+        let f = r .facts in
+        let words = rw (h .size, h .facts-are) at (e .words) in
+        let good : T (isWellFormed n f) = rw (h .size, h .facts-are) at (book-facts run (h .book) .0) in
+        let next : T (isWellFormed n (step n x f)) = step-keeps n x f good in
+        let reply : List ℕ = replyTo n room x f in
+        let next-at = rw (h .size, h .facts-are, long) at (e .next) in
+        let printed = rw (h .size, h .facts-are, long) at (e .printed) in
+        rw (eq-eqb b 10 is)
+        (record {
+          book = ended .book;
+          size = ap length words ∙ layout-size n (step n x f) next;
+          facts-are = ap factsOf words ∙ factsOf-layout n (step n x f) next;
+          words = words;
+          second-is = rw (h .size, h .facts-are, long, h .second-is) at (e .second);
+          line-is = empty;
+          printed = stores-after out₀ out out′ (r .text) reply 0 put (omega (arith, h .put-is)) (h .printed) printed;
+          put-is = omega (arith, next-at, h .put-is, length-append (r .text) reply);
+          fits = omega (arith, ended .fits, ap length (h .printed), length-sets out₀ 0 (r .text));
+        })
 
 -- ---- a line more, which ends in s
 
 holds-line :
-    {n : ℕ} (room : ℕ) {out₀ : List ℕ} (s : List ℕ) {r : Reader} {run second out : List ℕ} {line : Line} {put : ℕ} → Holds n out₀ r run second out line put
+    {n : ℕ} (room : ℕ) {out₀ : List ℕ} (s : List ℕ) {r : Reader} {run second out : List ℕ} {line : Line} {put : ℕ}
+    → Holds n out₀ r run second out line put
     → {run′ second′ out′ : List ℕ} {put′ : ℕ} → length second ≡ room → lineEnd s < length s
-    → Ended (callHeld (length second) (lineAfter line s)) run second out put put′ run′ second′ out′
+    → Ended (callHeld (lineAfter line s)) run second out put put′ run′ second′ out′
     → Holds n out₀ (bytesRead n room r (take (suc (lineEnd s)) s)) run′ second′ out′ emptyLine put′
 unfolding bytesRead lineEnd runOf
 holds-line room [] h size ends ended = absurd (omega arith)
@@ -194,18 +210,22 @@ holds-line room (b ∷ s) h size ends ended =
     (λ (is : b ≡ 10). rw (eq-eqb b 10 is) (holds-ended room h b size is (rw (eq-eqb b 10 is) at ended) refl))
     (λ differs.
     rw (ne-eqb b 10 differs)
-    (holds-line room s (holds-fed room h b differs refl) size (omega (arith, rw (ne-eqb b 10 differs) at ends)) (rw (ne-eqb b 10 differs) at ended)))
+    (holds-line room s (holds-fed room h b differs refl) size (omega (arith, rw (ne-eqb b 10 differs) at ends))
+    (rw (ne-eqb b 10 differs) at ended)))
     (eq-or-not b 10)
 
 -- ---- the lines from `from` on: those up to the place `read` have been read
 
-pub record Onward (w v piece : List ℕ) (from : ℕ) (out₀ : List ℕ) (at : ℕ) (run second out : List ℕ) (put read : ℕ) : Type 0 where
-  pub lines : LinesRead w v piece from out₀ at (record { read = read; put = put }) run second out
-  pub size : length run ≡ length w
-  pub room : length second ≡ length v
-  pub long : length out ≡ length out₀
+pub record Onward
+    (w v piece : List ℕ) (from : ℕ) (out₀ : List ℕ) (at : ℕ) (run second out : List ℕ) (put read : ℕ) : Type 0
+  where
+    pub lines : LinesRead w v piece from out₀ at (record { read = read; put = put }) run second out
+    pub size : length run ≡ length w
+    pub room : length second ≡ length v
+    pub long : length out ≡ length out₀
 
-pub onward-start : (w v piece : List ℕ) (from : ℕ) (out : List ℕ) (at : ℕ) → T (isBook w) → from ≤ length piece → at ≤ length out
+pub onward-start :
+    (w v piece : List ℕ) (from : ℕ) (out : List ℕ) (at : ℕ) → T (isBook w) → from ≤ length piece → at ≤ length out
     → Onward w v piece from out at w v out at from
 unfolding bytesRead
 onward-start w v piece from out at book within fits =
@@ -245,7 +265,7 @@ module _
 
     pub onward-more :
         {line : Line} {run′ second′ out′ : List ℕ} {put′ : ℕ} → WholeAt piece read (record { line = line; end = end })
-        → Ended (callHeld (length second) line) run second out put put′ run′ second′ out′
+        → Ended (callHeld line) run second out put put′ run′ second′ out′
         → length run′ ≡ length run → length second′ ≡ length second → length out′ ≡ length out
         → Onward w v piece from out₀ at run′ second′ out′ put′ (end + 1)
     onward-more is ended size room long =
@@ -358,7 +378,7 @@ module _
     pub feeding-ended :
         {run′ second′ out′ : List ℕ} {line′ : Line} {put′ : ℕ} → read < length piece → getD piece read 0 ≡ 10
         → lineRoom (length second) ≤ length out - put
-        → Ended (callHeld (length second) (endOf line)) run second out put put′ run′ second′ out′ → line′ ≡ emptyLine
+        → Ended (callHeld (endOf line)) run second out put put′ run′ second′ out′ → line′ ≡ emptyLine
         → length second′ ≡ length second → length out′ ≡ length out
         → Feeding w v piece out₀ line₀ run′ second′ out′ line′ put′ (read + 1)
     feeding-ended h is fits ended empty room long =

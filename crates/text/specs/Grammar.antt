@@ -8,7 +8,7 @@ use lib.Seq.{sets}
 use lib.Dec.{eqb}
 use Rattle.word.specs.Limits.{between}
 use Rattle.rule.specs.Lists.{every}
-use Rattle.book.specs.Calls.{Call, callM, callO, callC, callV, callD, callL, callJ, callX, callI, callR, callA, malformed}
+use Rattle.book.specs.Calls.{Call, malformed}
 use Rattle.book.specs.Letters.{callOf}
 use Rattle.text.specs.declared.line.Phase.the-variants.{Letter}
 use Rattle.text.specs.declared.line.Line.{Line}
@@ -79,14 +79,14 @@ laterParts [] = []
 laterParts (b ∷ s) = cond (eqb b 32) (firstPart s ∷ laterParts s) (laterParts s)
 
 -- the first part is a capital letter, and each later one a numeral
-unfoldable pub callOfParts : ℕ → List ℕ → List (List ℕ) → Call
-callOfParts room [] ts = malformed
-callOfParts room (c ∷ []) ts = cond (between 65 90 c && every isNumeral ts) (callOf room c (map numberIn ts)) malformed
-callOfParts room (c ∷ d ∷ more) ts = malformed
+unfoldable pub callOfParts : List ℕ → List (List ℕ) → Call
+callOfParts [] ts = malformed
+callOfParts (c ∷ []) ts = cond (between 65 90 c && every isNumeral ts) (callOf c (map numberIn ts)) malformed
+callOfParts (c ∷ d ∷ more) ts = malformed
 
 -- "An empty line, or any other form, is malformed."
-abbrev pub callIn : ℕ → List ℕ → Call
-callIn room s = callOfParts room (firstPart s) (laterParts s)
+abbrev pub callIn : List ℕ → Call
+callIn s = callOfParts (firstPart s) (laterParts s)
 
 -- ---- the call of a line as it has been read
 
@@ -99,20 +99,5 @@ abbrev pub lineFor : ℕ → List (List ℕ) → Line
 lineFor c ts = record { phase = Letter; letter = c; value = 0; count = length ts; numbers = sets zeros 0 (map held ts) }
 
 -- the call of a line that has ended: a line that has not ended well has the letter 0, which names none
-abbrev pub callHeld : ℕ → Line → Call
-callHeld room l = callOf room (l .letter) (take (l .count) (l .numbers))
-
--- the call with each number as a line keeps it
-unfoldable pub cappedCall : Call → Call
-cappedCall (callM m) = callM (capped m)
-cappedCall (callO c) = callO (capped c)
-cappedCall (callC c p) = callC (capped c) (capped p)
-cappedCall (callV c n) = callV (capped c) (capped n)
-cappedCall (callD c p d) = callD (capped c) (capped p) (capped d)
-cappedCall (callL c m h) = callL (capped c) (capped m) (capped h)
-cappedCall (callJ c m h) = callJ (capped c) (capped m) (capped h)
-cappedCall (callX c m h) = callX (capped c) (capped m) (capped h)
-cappedCall (callI c m h a b) = callI (capped c) (capped m) (capped h) (capped a) (capped b)
-cappedCall (callR c) = callR (capped c)
-cappedCall (callA c m room) = callA (capped c) (capped m) room
-cappedCall malformed = malformed
+abbrev pub callHeld : Line → Call
+callHeld l = callOf (l .letter) (take (l .count) (l .numbers))

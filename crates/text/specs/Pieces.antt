@@ -11,7 +11,7 @@ use Rattle.book.specs.Facts.{Facts}
 use Rattle.book.specs.Layout.{layout, factsOf}
 use Rattle.book.specs.Books.{isBook}
 use Rattle.book.specs.Calls.{Call, written, step, steps}
-use Rattle.book.specs.CallLists.{secondAfter}
+use Rattle.book.specs.CallLists.{lentEach, secondAfter}
 use Rattle.book.specs.Made.{over}
 use Rattle.text.specs.declared.line.Phase.{Phase}
 use Rattle.text.specs.declared.line.Phase.the-variants.{Start, Letter, Space, Zero, Number, Malformed}
@@ -32,23 +32,23 @@ pub record Reader : Type 0 where
 -- ---- in a run of n words, with a second run of `room` words
 
 -- the call of the line that ends here
-abbrev pub callEnded : ℕ → Reader → Call
-callEnded room r = callHeld room (endOf (r .line))
+abbrev pub callEnded : Reader → Call
+callEnded r = callHeld (endOf (r .line))
 
 -- a call is made, its answer printed, and a line begins
-unfoldable pub callMade : ℕ → Call → Reader → Reader
-callMade n x r =
+unfoldable pub callMade : (n room : ℕ) → Call → Reader → Reader
+callMade n room x r =
     record {
       line = emptyLine;
       facts = step n x (r .facts);
-      second = over (written n x (r .facts)) (r .second);
-      text = r .text ++ replyTo n x (r .facts);
+      second = over (written n room x (r .facts)) (r .second);
+      text = r .text ++ replyTo n room x (r .facts);
     }
 
 -- one byte more
 unfoldable pub byteRead : ℕ → ℕ → Reader → ℕ → Reader
 byteRead n room r b =
-    cond (eqb b 10) (callMade n (callEnded room r) r)
+    cond (eqb b 10) (callMade n room (callEnded r) r)
     (record { line = feedOf (r .line) b; facts = r .facts; second = r .second; text = r .text })
 
 -- the bytes in turn
@@ -67,23 +67,23 @@ hasBegun Malformed = true
 
 -- "The last line may lack its line end": it ends with the sheet
 unfoldable pub lastEnded : ℕ → ℕ → Reader → Reader
-lastEnded n room r = cond (hasBegun (r .line .phase)) (callMade n (callEnded room r) r) r
+lastEnded n room r = cond (hasBegun (r .line .phase)) (callMade n room (callEnded r) r) r
 
 -- ---- what a list of calls asks for
 
 -- each call's reply in turn
-unfoldable pub repliesTo : ℕ → List Call → Facts → List ℕ
-repliesTo n [] f = []
-repliesTo n (x ∷ xs) f = replyTo n x f ++ repliesTo n xs (step n x f)
+unfoldable pub repliesTo : (n room : ℕ) → List Call → Facts → List ℕ
+repliesTo n room [] f = []
+repliesTo n room (x ∷ xs) f = replyTo n room x f ++ repliesTo n room xs (step n x f)
 
 -- the calls made in turn, from a line that has not begun
-abbrev pub callsMade : ℕ → List Call → Reader → Reader
-callsMade n xs r =
+abbrev pub callsMade : (n room : ℕ) → List Call → Reader → Reader
+callsMade n room xs r =
     record {
       line = emptyLine;
       facts = steps n xs (r .facts);
-      second = secondAfter n xs (r .facts) (r .second);
-      text = r .text ++ repliesTo n xs (r .facts);
+      second = secondAfter n (lentEach room xs) (r .facts) (r .second);
+      text = r .text ++ repliesTo n room xs (r .facts);
     }
 
 -- ---- what is held in the words that are lent
@@ -110,9 +110,9 @@ FirstTaken n room size r s k =
 pub record Ended (x : Call) (w v out : List ℕ) (at r : ℕ) (w′ v′ out′ : List ℕ) : Type 0 where
   pub book : T (isBook w′)
   pub words : w′ ≡ layout (length w) (step (length w) x (factsOf w))
-  pub second : v′ ≡ over (written (length w) x (factsOf w)) v
-  pub printed : out′ ≡ sets out at (replyTo (length w) x (factsOf w))
-  pub next : r ≡ at + length (replyTo (length w) x (factsOf w))
+  pub second : v′ ≡ over (written (length w) (length v) x (factsOf w)) v
+  pub printed : out′ ≡ sets out at (replyTo (length w) (length v) x (factsOf w))
+  pub next : r ≡ at + length (replyTo (length w) (length v) x (factsOf w))
   pub fits : r ≤ length out
 
 -- the words of a book of n words, a second run, the front of `out` and a line hold what the reader r holds

@@ -6,10 +6,13 @@ use mathlib.Core.List.{List, [], _∷_, map}
 use lib.Dec.{eqb}
 use lib.ListN.{length, take, drop}
 use lib.Seq.{sets}
+use Rattle.word.specs.declared.answer.Answer.{Answer}
+use Rattle.word.specs.declared.answer.Answer.the-variants.{Refused}
+use Rattle.word.specs.declared.answer.Refusal.the-variants.{NotABook}
 use Rattle.book.specs.Layout.{layout, factsOf}
 use Rattle.book.specs.Books.{isBook}
 use Rattle.book.specs.Calls.{Call, steps}
-use Rattle.book.specs.CallLists.{answersTo, secondAfter}
+use Rattle.book.specs.CallLists.{lentEach, answersTo, told, secondAfter}
 use Rattle.book.specs.Made.{Made}
 use Rattle.text.specs.declared.sheet.LineAnswer.{LineAnswer}
 use Rattle.text.specs.Grammar.{callIn}
@@ -37,18 +40,14 @@ lineAt sheet from = take (lineEnd (drop from sheet)) (drop from sheet)
 abbrev pub nextLine : List ℕ → ℕ → ℕ
 nextLine sheet from = min (suc (from + lineEnd (drop from sheet))) (length sheet)
 
--- the calls of a sheet, `A` with a second run of `room` words
-abbrev pub callsIn : ℕ → List ℕ → List Call
-callsIn room sheet = map (callIn room) (linesOf sheet)
+-- the calls of a sheet
+abbrev pub callsIn : List ℕ → List Call
+callsIn sheet = map callIn (linesOf sheet)
 
--- "1 the run is no book": each call draws it
-unfoldable pub refusedAll : List Call → List ℕ
-refusedAll [] = []
-refusedAll (x ∷ xs) = 1 ∷ 0 ∷ refusedAll xs
-
--- the number and the value of each call's answer, over any words
-abbrev pub answersOver : List ℕ → List Call → List ℕ
-answersOver w xs = cond (isBook w) (answersTo (length w) xs (factsOf w)) (refusedAll xs)
+-- each call's answer, over any words w and with a second run of `room` words; "1 the run is no book": each draws it
+abbrev pub answersOver : List ℕ → ℕ → List Call → List Answer
+answersOver w room xs =
+    cond (isBook w) (answersTo (length w) (lentEach room xs) (factsOf w)) (map (λ x. Refused NotABook) xs)
 
 -- the words that calls leave, over any words
 abbrev pub wordsAfter : List ℕ → List Call → List ℕ
@@ -56,7 +55,7 @@ wordsAfter w xs = cond (isBook w) (layout (length w) (steps (length w) xs (facts
 
 -- the words of the second run v that calls leave, over any words
 abbrev pub secondOver : List ℕ → List Call → List ℕ → List ℕ
-secondOver w xs v = cond (isBook w) (secondAfter (length w) xs (factsOf w) v) v
+secondOver w xs v = cond (isBook w) (secondAfter (length w) (lentEach (length v) xs) (factsOf w) v) v
 
 -- a line begins at `from`, `tested` says whether the words w are a book, and 1,024 places are remembered
 pub record LineBegins (w places : List ℕ) (tested : Bool) (sheet : List ℕ) (from : ℕ) : Type 0 where
@@ -66,12 +65,13 @@ pub record LineBegins (w places : List ℕ) (tested : Bool) (sheet : List ℕ) (
 
 -- the call of the line that begins at `from`, made on any words w, with a second run v, and where the next line begins
 pub record LineMade (w v sheet : List ℕ) (from : ℕ) (r : LineAnswer) (w′ v′ : List ℕ) : Type 0 where
-  pub made : Made (callIn (length v) (lineAt sheet from)) w v (r .answer) w′ v′
+  pub made : Made (callIn (lineAt sheet from)) w v (r .answer) w′ v′
   pub next-is : r .next ≡ nextLine sheet from
 
--- a sheet read over any words w, with a second run v: how many lines it has, and the words that are left. The answers are written as far as `answers` has places for them
+-- a sheet read over any words w, with a second run v: how many lines it has, and the words that are left. The answers
+-- are written as far as `answers` has places for them
 pub record SheetRun (w v sheet answers : List ℕ) (r : ℕ) (w′ v′ answers′ : List ℕ) : Type 0 where
   pub lines : r ≡ length (linesOf sheet)
-  pub answered : answers′ ≡ sets answers 0 (answersOver w (callsIn (length v) sheet))
-  pub words : w′ ≡ wordsAfter w (callsIn (length v) sheet)
-  pub second : v′ ≡ secondOver w (callsIn (length v) sheet) v
+  pub answered : answers′ ≡ sets answers 0 (told (answersOver w (length v) (callsIn sheet)))
+  pub words : w′ ≡ wordsAfter w (callsIn sheet)
+  pub second : v′ ≡ secondOver w (callsIn sheet) v

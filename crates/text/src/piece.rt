@@ -1,13 +1,13 @@
-// A sheet that comes in pieces, as a program reads it: the calls of the lines that end in a piece are made, and their answers printed into a lent buffer.
+// A sheet that comes in pieces, as a program reads it: the calls of the lines that end in a piece are made, and their
+// answers printed into a lent buffer.
 ghost use mathlib.Core.Path.{_≡_};
 ghost use Prim.Native.Nat.{_+_, _≤_};
-ghost use mathlib.Core.Bool.{cond, _&&_};
-ghost use lib.Dec.{T, eqb};
+ghost use lib.Dec.{T};
 ghost use lib.ListN.{length};
+ghost use Rattle.word.specs.Answers.{strikesListed};
 ghost use Rattle.book.specs.Books.{isBook};
 ghost use Rattle.text.specs.Reading.{endOf};
 ghost use Rattle.text.specs.Grammar.{callHeld};
-ghost use Rattle.text.specs.Printing.{isShownLetter};
 ghost use Rattle.text.specs.Pieces.{lineRoom, Ended, LinesBegin, LinesRead, Pieced};
 use crate::line::Line;
 use crate::line::empty;
@@ -17,6 +17,7 @@ use crate::line::read_line;
 use crate::print::put_answer;
 use crate::sheet::make_line;
 use place::lookup::remembered_place;
+use word::answer::Answer;
 
 // How far a piece has been read, the line that has not ended, and how many bytes were printed.
 pub struct Progress {
@@ -31,24 +32,18 @@ pub struct Lines {
     pub put: usize,
 }
 
-// Whether the value of an accepted call of this letter is printed.
-fn is_shown(letter: u8) -> bool
-    ensures { λ r. ⌜ r ≡ isShownLetter letter ⌝ }
+// How many strikes a call has written to the second run, by its answer.
+fn strikes_listed(answer: Answer) -> usize
+    ensures { λ r. ⌜ r ≡ strikesListed answer ⌝ }
 {
-    (letter == 76) | ((letter == 74) | ((letter == 82) | (letter == 65)))
-}
-
-// How many strikes a call of this letter has written to the second run, by the number and the value of its answer.
-fn strikes_listed(letter: u8, number: u32, value: u32) -> usize
-    ensures { λ r. ⌜ r ≡ cond (eqb number 0 && eqb letter 65) value 0 ⌝ }
-{
-    if (number == 0) & (letter == 65) {
-        return value as usize;
+    if let Answer::Listed(count) = answer {
+        return count as usize;
     }
     0
 }
 
-// Makes the call of a line that has ended, whose class is looked for first at `near`, and prints its answer from `at` on.
+// Makes the call of a line that has ended, whose class is looked for first at `near`, and prints its answer from `at`
+// on.
 fn print_line(
     run: &mut [u32],
     second: &mut [u32],
@@ -58,21 +53,18 @@ fn print_line(
     at: usize,
 ) -> usize
     requires { ⌜ T (isBook (now run)) × (at + lineRoom (length (now second)) ≤ length (now out)) ⌝ }
-    ensures { λ r. ⌜ Ended (callHeld (length (now (second .entry))) line) (now (run .entry)) (now (second .entry)) (now (out .entry)) at
+    ensures { λ r. ⌜ Ended (callHeld line) (now (run .entry)) (now (second .entry)) (now (out .entry)) at
         r (now (run .exit)) (now (second .exit)) (now (out .exit)) ⌝ }
 {
     let answer = make_line(run, second, near, line);
-    let letter = line.letter;
-    let number = answer.number();
-    let value = answer.value();
-    let count = strikes_listed(letter, number, value);
-    put_answer(out, at, is_shown(letter), number, value, &second[0..count])
+    let count = strikes_listed(answer);
+    put_answer(out, at, answer, &second[0..count])
 }
 
 // Makes the call of a line that ends here, and prints its answer from `at` on.
 pub fn end_line(run: &mut [u32], second: &mut [u32], line: Line, out: &mut [u8], at: usize) -> usize
     requires { ⌜ T (isBook (now run)) × (at + lineRoom (length (now second)) ≤ length (now out)) ⌝ }
-    ensures { λ r. ⌜ Ended (callHeld (length (now (second .entry))) (endOf line)) (now (run .entry)) (now (second .entry)) (now (out .entry)) at
+    ensures { λ r. ⌜ Ended (callHeld (endOf line)) (now (run .entry)) (now (second .entry)) (now (out .entry)) at
         r (now (run .exit)) (now (second .exit)) (now (out .exit)) ⌝ }
 {
     print_line(run, second, 0, end(line), out, at)
@@ -109,7 +101,8 @@ fn read_lines(
     Lines { read, put }
 }
 
-// Reads a piece of a sheet, as far as `out` has room for one answer more, and prints the answers from the front of `out` on.
+// Reads a piece of a sheet, as far as `out` has room for one answer more, and prints the answers from the front of
+// `out` on.
 // Lines that begin and end in the piece are read at once, after the one that begins before it.
 pub fn read_piece(
     run: &mut [u32],

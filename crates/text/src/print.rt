@@ -4,6 +4,7 @@ ghost use Prim.Native.Nat.{_+_, _≤_};
 ghost use lib.ListN.{length};
 ghost use lib.Seq.{sets};
 ghost use Rattle.text.specs.Printing.{decimal, spacedNumber, spacedNumbers, valueOrNone, afterNumber, answerText};
+use word::answer::Answer;
 
 // The digits of a number, of any length.
 fn put_digits(out: &mut [u8], at: usize, number: u32) -> usize
@@ -70,44 +71,33 @@ fn put_value(out: &mut [u8], at: usize, value: u32) -> usize
     put_number(out, at, value)
 }
 
-// What a line has after its number: any value, then the strikes. `shown` says whether an accepted call's value is printed.
-fn put_values(
-    out: &mut [u8],
-    at: usize,
-    shown: bool,
-    number: u32,
-    value: u32,
-    strikes: &[u32],
-) -> usize
-    requires { ⌜ at + length (spacedNumbers (afterNumber shown number value (now strikes))) ≤ length (now out) ⌝ }
-    ensures { λ r. ⌜ r ≡ at + length (spacedNumbers (afterNumber shown number value (now (strikes .entry)))) ⌝ }
-    ensures { λ _. ⌜ now (out .exit) ≡ sets (now (out .entry)) at (spacedNumbers (afterNumber shown number value (now (strikes .entry)))) ⌝ }
+// What a line has after its number: any value, then the strikes.
+fn put_values(out: &mut [u8], at: usize, answer: Answer, strikes: &[u32]) -> usize
+    requires { ⌜ at + length (spacedNumbers (afterNumber answer (now strikes))) ≤ length (now out) ⌝ }
+    ensures { λ r. ⌜ r ≡ at + length (spacedNumbers (afterNumber answer (now (strikes .entry)))) ⌝ }
+    ensures { λ _. ⌜ now (out .exit)
+        ≡ sets (now (out .entry)) at (spacedNumbers (afterNumber answer (now (strikes .entry)))) ⌝ }
 {
-    if number != 0 {
-        return put_value(out, at, value);
+    match answer {
+        Answer::Done => at,
+        Answer::Ground(ground) => put_number(out, at, ground),
+        Answer::Removed(count) => put_number(out, at, count),
+        Answer::Listed(count) => {
+            let next = put_number(out, at, count);
+            put_numbers(out, next, strikes)
+        }
+        Answer::Refused(why) => put_value(out, at, why.value()),
     }
-    if !shown {
-        return at;
-    }
-    let next = put_number(out, at, value);
-    put_numbers(out, next, strikes)
 }
 
 // The line that is printed for an answer.
-pub fn put_answer(
-    out: &mut [u8],
-    at: usize,
-    shown: bool,
-    number: u32,
-    value: u32,
-    strikes: &[u32],
-) -> usize
-    requires { ⌜ at + length (answerText shown number value (now strikes)) ≤ length (now out) ⌝ }
-    ensures { λ r. ⌜ r ≡ at + length (answerText shown number value (now (strikes .entry))) ⌝ }
-    ensures { λ _. ⌜ now (out .exit) ≡ sets (now (out .entry)) at (answerText shown number value (now (strikes .entry))) ⌝ }
+pub fn put_answer(out: &mut [u8], at: usize, answer: Answer, strikes: &[u32]) -> usize
+    requires { ⌜ at + length (answerText answer (now strikes)) ≤ length (now out) ⌝ }
+    ensures { λ r. ⌜ r ≡ at + length (answerText answer (now (strikes .entry))) ⌝ }
+    ensures { λ _. ⌜ now (out .exit) ≡ sets (now (out .entry)) at (answerText answer (now (strikes .entry))) ⌝ }
 {
-    let next = put_decimal(out, at, number);
-    let last = put_values(out, next, shown, number, value, strikes);
+    let next = put_decimal(out, at, answer.number());
+    let last = put_values(out, next, answer, strikes);
     out[last] = 10;
     last + 1
 }

@@ -3,7 +3,6 @@ ghost use mathlib.Core.Path.{_≡_};
 ghost use mathlib.Core.List.{List, _∷_};
 ghost use Prim.Native.Nat.{ℕ};
 ghost use lib.Dec.{T};
-ghost use lib.ListN.{length};
 ghost use lib.Seq.{sets};
 ghost use Rattle.book.specs.Books.{isBook};
 ghost use Rattle.book.specs.Made.{Made};
@@ -20,7 +19,7 @@ use word::answer::Refusal;
 // Makes the call of a line that has ended, whose class is looked for first at `near`.
 pub fn make_line(run: &mut [u32], second: &mut [u32], near: usize, line: Line) -> Answer
     requires { ⌜ T (isBook (now run)) ⌝ }
-    ensures { λ r. ⌜ Made (callHeld (length (now (second .entry))) line)
+    ensures { λ r. ⌜ Made (callHeld line)
         (now (run .entry)) (now (second .entry)) r (now (run .exit)) (now (second .exit)) ⌝ }
 {
     let numbers = line.numbers;
@@ -79,7 +78,8 @@ fn answer_line(
 
 // Writes a number where there is a place for it, and answers the place after it.
 fn put(answers: &mut [u32], at: usize, number: u32) -> usize
-    ensures { λ r. ⌜ ((rest : List ℕ) → sets (now (answers .exit)) r rest ≡ sets (now (answers .entry)) at (number ∷ rest)) ⌝ }
+    ensures { λ r. ⌜ ((rest : List ℕ) → sets (now (answers .exit)) r rest
+        ≡ sets (now (answers .entry)) at (number ∷ rest)) ⌝ }
 {
     if at < answers.len() {
         answers[at] = number;

@@ -20,7 +20,8 @@ same-length-3 c = search needs
 
 returns : tie.Need-returns
 returns c =
-    let printed = c .before .before .before .before .before .before in
+    let second = c .before .before .before .before in
+    let printed = second .before .before in
     rw (printed .before .before .end .ensures) at (printed .print-line .ensures)
 
 pub end-line-spec : {M : Type 1} → statement M

@@ -75,7 +75,7 @@ returns-2 c =
     let whole = read .read-line .ensures in
     let line = lineAt (start .args .sheet .now) (start .args .from) in
     record {
-      made = made-read _ line (whole .line-is) (made .make-line .ensures);
+      made = made-read line (whole .line-is) (made .make-line .ensures);
       next-is = ⊎-elim (λ w. omega (arith, w .1)) (λ w. omega (arith, w .1)) (tested .before .if1 .came);
     }
 

@@ -1,8 +1,20 @@
--- `make_line` makes the call of the letter and the numbers that the line holds: its five numbers are those handed on. Assumes nothing.
+-- `make_line` makes the call of the letter and the numbers that the line holds: its five numbers are those handed on.
+-- Assumes nothing.
+use mathlib.Core.Path.{_≡_}
+use lib.ListN.{length}
 use borrow.Author.Needs.{needs}
 use Rattle.text.proofs.Made.{five-numbers}
 use Rattle.text.proofs.sheet.make_line.Statement.{statement}
 use Rattle.text.proofs.sheet.make_line.Tie as tie
+
+-- where the function is entered, from where the line is known
+abbrev entry : tie.After-struct-known → tie.Start
+entry known =
+    let numbers = known .before .before .before in
+    numbers .before .before .before
+
+five : (known : tie.After-struct-known) → length (entry known .args .line .numbers) ≡ 5
+five known = search needs
 
 cast-make-call : tie.Need-cast-make-call
 cast-make-call c = search needs
@@ -33,8 +45,8 @@ same-length-2 c = search needs
 
 returns : tie.Need-returns
 returns c =
-    let s = c .before .before .before .before .before .before .before .before .before .before .before in
-    rw (five-numbers (s .args .line .numbers) (search needs)) (c .before .before .before .before .make-call .ensures)
+    let made = c .before .before .before .before in
+    rw (five-numbers (entry (made .before) .args .line .numbers) (five (made .before))) (made .make-call .ensures)
 
 pub make-line-spec : {M : Type 1} → statement M
 make-line-spec =
