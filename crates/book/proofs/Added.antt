@@ -7,7 +7,7 @@ use mathlib.Core.Logic.{_⊎_, inl, inr, _↔_}
 use lib.Dec.{T, eqb, leb, ltb, eqb→eq, eqb-refl}
 use borrow.Author.Tests.{eqb-true, eqb-false, eq-eqb}
 use Rattle.word.specs.Limits.{isLength}
-use Rattle.rule.specs.Lists.{some, only}
+use Rattle.logic.specs.Lists.{some, only}
 use Rattle.book.specs.Facts.{Series, OpenClass, Facts, fresh, isOpen, withSeries, isAt, stands, withMarks, precedes, insertSeries}
 use Rattle.book.specs.Books.{isWellFormed}
 use Rattle.book.specs.Views.{View, viewOf, class, isNotOpen, groundOf, isReviewed}
@@ -15,9 +15,8 @@ use Rattle.book.specs.Changes.{newSeries, monthSet, factsAfter}
 use Rattle.book.specs.Calls.{ClassCall, Call, callM, on, callO, callC, callV, callD, callL, callJ, callX, callI, callR, callA, malformed, isGranted, step, steps, after, effectOn, acceptedFacts}
 use Rattle.book.specs.Permission.{isPermitted, areWordsLeft}
 use Rattle.book.specs.Added.{standsOn, takesFrom, takesAway, removes, staysThrough, Added}
-use Rattle.book.proofs.Tests.{and-left, and-right, and-intro, ands, T-true, true-T, equal-either-way}
-use Rattle.book.proofs.Alternatives.{not-not, at-most}
-use Rattle.book.proofs.Lists.{some-map, some-inserted}
+use Rattle.logic.proofs.Tests.{and-left, and-right, and-intro, ands, T-true, true-T, equal-either-way, not-not, at-most}
+use Rattle.logic.proofs.Lists.{some-map, some-inserted}
 use Rattle.book.proofs.Forms.{areSeries, well}
 use Rattle.book.proofs.Layouts.{fresh-well-formed}
 use Rattle.book.proofs.SeriesLaws.{markedAt}
@@ -25,7 +24,7 @@ use Rattle.book.proofs.ClassLaws.{series-of, class-of-map}
 use Rattle.book.proofs.Views.{viewAfter, call-elsewhere, call-here}
 use Rattle.book.proofs.Keep.{step-keeps, after-well-formed}
 use Rattle.book.proofs.Permission.{listing-exactly}
-use Rattle.book.proofs.Parts.{only-absent, only-both, only-either-way, some-both}
+use Rattle.logic.proofs.Parts.{only-absent, only-both, only-either-way, some-both}
 use Rattle.book.proofs.Expirations.{stander}
 
 -- ---- the series at one month and strike

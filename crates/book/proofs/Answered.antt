@@ -15,7 +15,7 @@ use Rattle.book.specs.Views.{viewOf, isNotOpen}
 use Rattle.book.specs.Changes.{listOf}
 use Rattle.book.specs.Calls.{ClassCall, Call, on, Condition, draws, effectOn, effect, answerTo, written, step, acceptedFacts}
 use Rattle.book.specs.Made.{over, Made}
-use Rattle.book.proofs.Tests.{T-true}
+use Rattle.logic.proofs.Tests.{T-true}
 use Rattle.book.proofs.Order.{accepted-granted, any-room, refused-unchanged}
 use Rattle.book.proofs.Layouts.{book-facts}
 

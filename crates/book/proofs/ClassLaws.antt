@@ -7,13 +7,12 @@ use mathlib.Core.Logic.{_⊎_, inl, inr}
 use native.Mathlib.Omega.{arith}
 use lib.Dec.{T, eqb, ltb, not-T, eqb→eq, ltb→lt, lt→ltb, eqb-refl}
 use borrow.Author.Tests.{eqb-true, not-true}
-use Rattle.rule.specs.Lists.{every}
-use Rattle.book.specs.Facts.{OpenClass, number, newClass, isOpen, classOf, putClass, insertClass, sum, isBelow}
-use Rattle.book.specs.Books.{rises, isClass}
-use Rattle.book.proofs.Tests.{and-intro, ands, T-true}
-use Rattle.book.proofs.Alternatives.{or-cases, or-left, or-right, nor-left, nor-right, trichotomy}
+use Rattle.logic.specs.Lists.{rises, sum, every}
+use Rattle.book.specs.Facts.{OpenClass, number, newClass, isOpen, classOf, putClass, insertClass, isBelow}
+use Rattle.book.specs.Books.{isClass}
+use Rattle.logic.proofs.Tests.{and-intro, ands, T-true, or-cases, or-left, or-right, nor-left, nor-right, trichotomy}
 use Rattle.book.proofs.Forms.{areSeries}
-use Rattle.book.proofs.Lists.{every-imply, same-keys, StrictOrder}
+use Rattle.logic.proofs.Lists.{every-imply, same-keys, StrictOrder}
 
 -- ---- the order
 

@@ -7,18 +7,18 @@ use native.Mathlib.Omega.{arith}
 use lib.Dec.{T, eqb, ltb→lt}
 use borrow.Author.Tests.{eq-eqb, ne-eqb}
 use Rattle.word.specs.Codec.{Word, Head}
-use Rattle.rule.specs.Lists.{every, only}
+use Rattle.logic.specs.Lists.{every, only}
 use Rattle.book.specs.Facts.{OpenClass, Facts, number, isOpen, classOf, putClass, isBelow, inMonth}
 use Rattle.book.specs.Layout.{strikeWord, expirationUnless, seriesWords, figuresWords, classesWords, used}
 use Rattle.book.specs.Books.{isClass, isWellFormed}
 use Rattle.book.specs.Views.{class}
 use Rattle.book.specs.Places.{hasExpiration}
-use Rattle.book.proofs.Tests.{ands}
-use Rattle.book.proofs.Lists.{every-only, ordered, rises-ordered}
+use Rattle.logic.proofs.Tests.{ands}
+use Rattle.logic.proofs.Lists.{every-only, ordered, rises-ordered}
 use Rattle.book.proofs.Forms.{areSeries, well}
 use Rattle.book.proofs.ClassLaws.{isNumbered, class-order, number-of}
 use Rattle.book.proofs.Layouts.{seriesWords-append}
-use Rattle.book.proofs.Parts.{every-kept, isUnder, isEqual, isOver, distinct-parts, single}
+use Rattle.logic.proofs.Parts.{every-kept, isUnder, isEqual, isOver, distinct-parts, single}
 use Rattle.book.proofs.Expirations.{monthOf, series-words}
 
 -- ---- classes

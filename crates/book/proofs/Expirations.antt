@@ -9,17 +9,16 @@ use lib.ListN.{length, length-append, length-map}
 use lib.Dec.{T, eqb, leb, ltb, leb→le, le→leb, ltb→lt, lt→ltb, eqb→eq, eqb-refl, not-T}
 use borrow.Author.Tests.{ltb-true, ltb-false, eq-eqb, ne-eqb, not-true}
 use Rattle.word.specs.Codec.{Word, Expiration}
-use Rattle.rule.specs.Lists.{every, some, only, Rising}
+use Rattle.logic.specs.Lists.{every, some, only, Rising}
 use Rattle.book.specs.Facts.{Series, isAt, stands, inMonth, withMarks, precedes, insertSeries}
 use Rattle.book.specs.Layout.{strikeWord, expirationUnless, seriesWords}
 use Rattle.book.specs.Books.{isSeries}
-use Rattle.book.proofs.Tests.{and-intro, ands, T-true}
-use Rattle.book.proofs.Alternatives.{or-left, or-right}
-use Rattle.book.proofs.Lists.{every-imply, every-only, ordered, rises-ordered, rises-only}
+use Rattle.logic.proofs.Tests.{and-intro, ands, T-true, or-left, or-right}
+use Rattle.logic.proofs.Lists.{every-imply, every-only, ordered, rises-ordered, rises-only}
 use Rattle.book.proofs.Forms.{areSeries}
 use Rattle.book.proofs.Layouts.{seriesWords-append}
 use Rattle.book.proofs.SeriesLaws.{Precedes, to-precedes, months-rise, isWith, series-order, markedAt}
-use Rattle.book.proofs.Parts.{only-absent, every-kept, only-others, some-only, some-all, some-both, some-after, map-same, every-append, ordered-imply, inserted-between, isUnder, isEqual, isOver, not-under, three-parts, distinct-parts, Single, single}
+use Rattle.logic.proofs.Parts.{only-absent, every-kept, only-others, some-only, some-all, some-both, some-after, map-same, every-append, ordered-imply, inserted-between, isUnder, isEqual, isOver, not-under, three-parts, distinct-parts, Single, single}
 
 abbrev pub monthOf : Series → ℕ
 monthOf s = s .month

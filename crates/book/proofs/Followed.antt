@@ -12,7 +12,7 @@ use Rattle.book.specs.Layout.{layout, factsOf}
 use Rattle.book.specs.Books.{isWellFormed, isBook}
 use Rattle.book.specs.Calls.{Call, step}
 use Rattle.book.specs.Made.{Made}
-use Rattle.book.proofs.Tests.{T-true}
+use Rattle.logic.proofs.Tests.{T-true}
 use Rattle.book.proofs.Forms.{well}
 use Rattle.book.proofs.Layouts.{used-taken, layout-length, factsOf-layout, book-layout, book-facts}
 use Rattle.book.proofs.Keep.{step-keeps}

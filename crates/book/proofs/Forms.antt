@@ -6,13 +6,13 @@ use mathlib.Core.Bool.{Bool, _&&_}
 use mathlib.Core.List.{List}
 use lib.ListN.{getD}
 use lib.Dec.{T, leb, leb→le, le→leb}
+use Rattle.logic.specs.Lists.{rises, every}
 use Rattle.word.specs.Limits.{isLength, isMonth}
-use Rattle.rule.specs.Lists.{every}
 use Rattle.word.specs.Programs.{programs, programCount, isProgram, program, dollarProgram}
 use Rattle.book.specs.Facts.{Series, Facts, isBelow, precedes, owned, wordsTaken}
-use Rattle.book.specs.Books.{rises, isSeries, isClass, isCapKept, isWellFormed}
-use Rattle.book.proofs.Tests.{and-intro, ands}
-use Rattle.book.proofs.Lists.{every-at, every-places}
+use Rattle.book.specs.Books.{isSeries, isClass, isCapKept, isWellFormed}
+use Rattle.logic.proofs.Tests.{and-intro, ands}
+use Rattle.logic.proofs.Lists.{every-at, every-places}
 use Rattle.book.proofs.Programs.{program-number}
 
 -- the series of a class

@@ -11,6 +11,7 @@ use lib.ListN.{length, getD, set, length-map, getD-replicate}
 use lib.Seq.{getD-set-same, getD-set-other}
 use lib.Dec.{T, eqb, leb, ltb, eqb→eq, leb→le, le→leb, nleb→lt, nltb→le}
 use borrow.Author.Tests.{eqb-true, eqb-false}
+use Rattle.logic.specs.Lists.{sum, every, some, only}
 use Rattle.word.specs.declared.class.ClassRecord.{ClassRecord}
 use Rattle.word.specs.declared.answer.Answer.{Answer}
 use Rattle.word.specs.Limits.{isClassNumber, isStrike, isMonth, isLength, isDesignation, isGround, isMark, isClose, isVolume}
@@ -21,21 +22,19 @@ use Rattle.word.specs.declared.answer.Refusal.the-variants.{OffGrid, OutOfRange
 use Rattle.word.specs.Answers.{answerValue, refusalValue}
 use Rattle.word.proofs.Counts.{own-at-most-one}
 use Rattle.rule.specs.declared.terms.Setting.{Setting}
-use Rattle.rule.specs.Lists.{every, some, only}
 use Rattle.rule.specs.Terms.{isOutside}
 use Rattle.rule.specs.Spacing.{Standing}
 use Rattle.rule.specs.Judgement.{rowsOf, passesGrid, passesRange, passes, refusalOf, groundFrom, judgement}
 use Rattle.word.specs.Programs.{programs, programCount, isProgram, program, areDesignations}
-use Rattle.book.specs.Facts.{Series, OpenClass, Facts, fresh, isBelow, number, newClass, isOpen, classOf, putClass, insertClass, withFigures, withSeries, isAt, insertSeries, sum, owned, expirations, wordsOf, wordsTaken}
+use Rattle.book.specs.Facts.{Series, OpenClass, Facts, fresh, isBelow, number, newClass, isOpen, classOf, putClass, insertClass, withFigures, withSeries, isAt, insertSeries, owned, expirations, wordsOf, wordsTaken}
 use Rattle.book.specs.Books.{isListed, isSeries, areFigures, isClass, isWellFormed}
 use Rattle.book.specs.Views.{viewOf, class, isNotOpen, isStanding, setting, standingIn, rows, groundOf, isNew, isReviewed}
 use Rattle.book.specs.Changes.{update, monthSet, classOpened, classGrown}
 use Rattle.book.specs.Calls.{Call, callM, on, callO, callC, callV, callD, callL, callJ, callX, callI, callR, callA, malformed, effectOn, isCapReached, isGranted, step, steps, after, acceptedFacts}
 use Rattle.book.specs.Permission.{withStrike}
-use Rattle.book.proofs.Tests.{and-intro, ands, true-T}
-use Rattle.book.proofs.Alternatives.{nor-left, nor-right, not-not}
-use Rattle.book.proofs.Lists.{every-imply, every-map, length-only, sum-map, same-keys, every-inserted, rises-inserted, sum-inserted}
-use Rattle.book.proofs.Parts.{only-all, map-same}
+use Rattle.logic.proofs.Tests.{and-intro, ands, true-T, nor-left, nor-right, not-not}
+use Rattle.logic.proofs.Lists.{every-imply, every-map, length-only, sum-map, same-keys, every-inserted, rises-inserted, sum-inserted}
+use Rattle.logic.proofs.Parts.{only-all, map-same}
 use Rattle.book.proofs.Programs.{designations-length, designations-set}
 use Rattle.book.proofs.Forms.{areSeries, Well, well, well-formed}
 use Rattle.book.proofs.Layouts.{fresh-well-formed}

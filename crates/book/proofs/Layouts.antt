@@ -8,15 +8,15 @@ use native.Mathlib.Omega.{arith}
 use lib.ListN.{length, replicate, length-append, length-map, length-replicate}
 use lib.Dec.{T, eqb, leb, leb→le, le→leb, eqb→eq, eqb-refl, eqb·suc-suc, eqb·zero-suc}
 use borrow.Author.Tests.{eqb-true}
+use Rattle.logic.specs.Lists.{sum, every}
 use Rattle.word.specs.Codec.{Word, Head, Invalid, isLegal, packed, reading}
 use Rattle.word.specs.Limits.{isLength, isMonth}
 use Rattle.word.proofs.Tests.{and-both}
 use Rattle.word.proofs.Words.{reading-packed}
-use Rattle.rule.specs.Lists.{every}
-use Rattle.book.specs.Facts.{Series, OpenClass, Facts, fresh, sum, expirations, wordsTaken}
+use Rattle.book.specs.Facts.{Series, OpenClass, Facts, fresh, expirations, wordsTaken}
 use Rattle.book.specs.Layout.{strikeWord, expirationUnless, seriesWords, figuresWords, classesWords, used, layout, Tail, begun, addClass, addSeries, setClose, setVolume, readFrom, factsIn, factsOf}
 use Rattle.book.specs.Books.{isSeries, areFigures, isClass, isWellFormed, sameWords, isBook}
-use Rattle.book.proofs.Tests.{and-intro, ands, T-true}
+use Rattle.logic.proofs.Tests.{and-intro, ands, T-true}
 use Rattle.book.proofs.LegalWords.{strike-legal, month-legal}
 
 -- ---- reading the words of facts

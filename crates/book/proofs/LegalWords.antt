@@ -8,7 +8,7 @@ use Rattle.word.proofs.Words.{legal-fits}
 use Rattle.book.specs.Facts.{Series}
 use Rattle.book.specs.Layout.{strikeWord, classWord}
 use Rattle.book.specs.Books.{isSeries, areFigures}
-use Rattle.book.proofs.Tests.{and-intro, ands, T-true}
+use Rattle.logic.proofs.Tests.{and-intro, ands, T-true}
 
 pub fits : (x : Word) → T (isLegal x) → Fits x
 fits x legal = legal-fits x (T-true (isLegal x) legal)

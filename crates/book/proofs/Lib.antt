@@ -1,7 +1,4 @@
 -- The laws that other crates cite.
-pub mod Tests
-pub mod Alternatives
-pub mod Lists
 pub mod Programs
 pub mod Forms
 pub mod LegalWords
@@ -18,9 +15,7 @@ pub mod Examples
 pub mod Answered
 pub mod Permission
 pub mod Added
-pub mod Parts
 pub mod Expirations
-pub mod Splits
 pub mod ClassWords
 pub mod Splices
 pub mod Runs

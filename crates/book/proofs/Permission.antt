@@ -12,7 +12,7 @@ use Rattle.word.specs.declared.answer.Refusal.the-variants.{BeyondLimits, NotOp
 use Rattle.word.specs.Answers.{answerNumber, answerValue, isAccepted}
 use Rattle.word.specs.Limits.{isClassNumber, isMonth}
 use Rattle.word.proofs.Tests.{and-both}
-use Rattle.rule.specs.Lists.{some, Rising}
+use Rattle.logic.specs.Lists.{some, Rising}
 use Rattle.rule.specs.Terms.{isOutside}
 use Rattle.rule.proofs.Permitted.{only-rises, only-exactly}
 use Rattle.word.specs.Programs.{program}
@@ -24,8 +24,7 @@ use Rattle.book.specs.Changes.{classOpened, listOf}
 use Rattle.book.specs.Calls.{Call, on, callO, callD, callL, callJ, callA, Condition, draws, firstOr, noneApplies, isPlace, judging, permittedIn, effect, isCapReached, asked, conditions, answerTo, written, isGranted, effectOn}
 use Rattle.book.specs.Permission.{isPermitted, areWordsLeft, withStrike}
 use Rattle.book.specs.Made.{over, Made}
-use Rattle.book.proofs.Tests.{ands, T-true}
-use Rattle.book.proofs.Alternatives.{at-most}
+use Rattle.logic.proofs.Tests.{ands, T-true, at-most}
 use Rattle.book.proofs.Order.{applies, drawn-applies, none-last, first-after, effect-zero, accepted-answer, accepted-exactly}
 use Rattle.book.proofs.Permits.{none-permitted}
 

@@ -11,7 +11,7 @@ use Rattle.word.specs.declared.answer.Answer.{Answer}
 use Rattle.word.specs.declared.answer.Answer.the-variants.{Ground, Refused}
 use Rattle.word.specs.Answers.{answerValue, isAccepted}
 use Rattle.word.specs.declared.answer.Refusal.the-variants.{NotOpen, MonthOutside, AlreadyStanding, NoClose, OffGrid, OutOfRange, TooClose}
-use Rattle.rule.specs.Lists.{some, only, upFrom}
+use Rattle.logic.specs.Lists.{some, only, upFrom}
 use Rattle.rule.specs.Terms.{isOutside}
 use Rattle.rule.specs.Ends.{highEnd}
 use Rattle.rule.specs.Spacing.{Standing}
@@ -22,9 +22,9 @@ use Rattle.book.specs.Facts.{inMonth}
 use Rattle.book.specs.Views.{View, isNotOpen, isStanding, hasNoClose, setting, standingIn, rows, groundOf}
 use Rattle.book.specs.Calls.{Condition, draws, firstOr, noneApplies, judging, permittedIn}
 use Rattle.book.specs.Permission.{isPermittedBy}
-use Rattle.book.proofs.Lists.{some-map}
+use Rattle.logic.proofs.Lists.{some-map}
 use Rattle.book.proofs.Order.{first-accepted}
-use Rattle.book.proofs.Parts.{some-both}
+use Rattle.logic.proofs.Parts.{some-both}
 
 -- what the rules ask, of the rows of the grounds
 abbrev pub ruled : List (List Bool) → List Condition

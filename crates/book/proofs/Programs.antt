@@ -8,7 +8,7 @@ use lib.ListN.{length, set}
 use lib.Dec.{T}
 use Rattle.word.specs.Limits.{isDesignation}
 use Rattle.word.specs.Programs.{Program, programCount, program, areDesignations}
-use Rattle.book.proofs.Tests.{and-left, and-right, and-intro}
+use Rattle.logic.proofs.Tests.{and-left, and-right, and-intro}
 
 -- the program of a number has that number
 pub program-number : (p : ℕ) → 1 ≤ p → p ≤ programCount → program p .number ≡ p

@@ -12,21 +12,21 @@ use Rattle.word.specs.Codec.{Word, Head, packed}
 use Rattle.word.specs.Field.{field}
 use Rattle.word.proofs.Fields.{field-packed}
 use Rattle.word.proofs.Words.{strike-fields}
-use Rattle.rule.specs.Lists.{every, some, only}
+use Rattle.logic.specs.Lists.{every, some, only}
 use Rattle.rule.specs.Spacing.{standingIn as standingOf}
 use Rattle.book.specs.Facts.{Series, Facts, number, isOpen, isAt, isMarked, inMonth}
 use Rattle.book.specs.Layout.{strikeWord, expirationUnless, seriesWords, figuresWords, classesWords, used, layout}
 use Rattle.book.specs.Books.{isSeries, isWellFormed}
 use Rattle.book.specs.Views.{viewOf, class, isStanding, hasOpenInterest, standingIn}
 use Rattle.book.specs.Places.{hasExpiration, strikesPlace, strikesEnd, strikePlace}
-use Rattle.book.proofs.Tests.{ands}
+use Rattle.logic.proofs.Tests.{ands}
 use Rattle.book.proofs.LegalWords.{fits, strike-legal}
-use Rattle.book.proofs.Lists.{every-only, length-only}
+use Rattle.logic.proofs.Lists.{every-only, length-only}
 use Rattle.book.proofs.Forms.{areSeries, well}
 use Rattle.book.proofs.Layouts.{used-taken}
-use Rattle.book.proofs.Parts.{only-both, some-both, isUnder, isEqual, isOver}
+use Rattle.logic.proofs.Parts.{only-both, some-both, isUnder, isEqual, isOver}
 use Rattle.book.proofs.Expirations.{monthOf, strikeOf, low, high, strike-parts, Stander, stander}
-use Rattle.book.proofs.Splits.{some-length}
+use Rattle.logic.proofs.Splits.{some-length}
 use Rattle.book.proofs.ClassWords.{series-good, book-words}
 
 -- ---- words of a run by what stands before them

@@ -7,13 +7,12 @@ use mathlib.Core.Logic.{_⊎_, inl, inr, _↔_}
 use native.Mathlib.Omega.{arith}
 use lib.Dec.{T, eqb→eq}
 use borrow.Author.Tests.{not-true}
-use Rattle.rule.specs.Lists.{every}
+use Rattle.logic.specs.Lists.{rises, every}
 use Rattle.book.specs.Facts.{Series, OpenClass, Facts, number, classOf, precedes, isBelow}
-use Rattle.book.specs.Books.{rises, isWellFormed}
+use Rattle.book.specs.Books.{isWellFormed}
 use Rattle.book.specs.Points.{StrikeFact, absent, standing, ClassFact, notOpen, opened, strikeAt, classAt, SameFacts}
-use Rattle.book.proofs.Tests.{and-intro, ands, T-true}
-use Rattle.book.proofs.Alternatives.{or-cases, nor-left, nor-right}
-use Rattle.book.proofs.Lists.{every-true, StrictOrder, ordered, before-every, rises-ordered}
+use Rattle.logic.proofs.Tests.{and-intro, ands, T-true, or-cases, nor-left, nor-right}
+use Rattle.logic.proofs.Lists.{every-true, StrictOrder, ordered, before-every, rises-ordered}
 use Rattle.book.proofs.Forms.{Well, well}
 use Rattle.book.proofs.SeriesLaws.{isWith, series-order}
 use Rattle.book.proofs.ClassLaws.{isNumbered, class-order, series-of}

@@ -7,14 +7,13 @@ use mathlib.Core.Logic.{_⊎_, inl, inr}
 use native.Mathlib.Omega.{arith}
 use lib.Dec.{T, eqb, ltb, not-T, eqb→eq, ltb→lt, lt→ltb, eqb-refl}
 use borrow.Author.Tests.{eqb-true, eqb-false}
-use Rattle.rule.specs.Lists.{every, only}
+use Rattle.logic.specs.Lists.{rises, every, only}
 use Rattle.word.specs.Limits.{isMark}
 use Rattle.book.specs.Facts.{Series, isAt, stands, withMarks, precedes, insertSeries, expirations}
-use Rattle.book.specs.Books.{rises, isSeries}
-use Rattle.book.proofs.Tests.{and-intro, ands, equal-test}
+use Rattle.book.specs.Books.{isSeries}
+use Rattle.logic.proofs.Tests.{and-intro, ands, equal-test, or-cases, or-left, or-right, trichotomy}
 use Rattle.book.proofs.Forms.{areSeries}
-use Rattle.book.proofs.Alternatives.{or-cases, or-left, or-right, trichotomy}
-use Rattle.book.proofs.Lists.{every-map, every-only, same-keys, StrictOrder, rises-only, every-inserted, rises-inserted}
+use Rattle.logic.proofs.Lists.{every-map, every-only, same-keys, StrictOrder, rises-only, every-inserted, rises-inserted}
 
 -- ---- the order
 

@@ -9,20 +9,20 @@ use lib.Dec.{T, eqb, ltb, ltb→lt, eqb-refl, not-T}
 use Rattle.word.specs.declared.class.ClassRecord.{ClassRecord}
 use Rattle.word.specs.Class.{opened}
 use Rattle.word.specs.Codec.{Word}
-use Rattle.rule.specs.Lists.{some, only}
+use Rattle.logic.specs.Lists.{some, only}
 use Rattle.book.specs.Facts.{Series, OpenClass, Facts, number, newClass, isOpen, insertClass, withFigures, withSeries, isBelow, isAt, withMarks, insertSeries, wordsOf, wordsTaken}
 use Rattle.book.specs.Layout.{strikeWord, expirationUnless, seriesWords, figuresWords, classesWords, used}
 use Rattle.book.specs.Books.{isSeries, isWellFormed}
 use Rattle.book.specs.Views.{viewOf, class, isStanding}
 use Rattle.book.specs.Changes.{update, classOpened, strikeAdded, strikeRemoved, marksSet}
 use Rattle.book.specs.Places.{classPlace, hasExpiration, expirationPlace, strikesPlace, strikesEnd, strikePlace}
-use Rattle.book.proofs.Tests.{T-true}
-use Rattle.book.proofs.Lists.{every-imply, sum-inserted}
+use Rattle.logic.proofs.Tests.{T-true}
+use Rattle.logic.proofs.Lists.{every-imply, sum-inserted}
 use Rattle.book.proofs.Forms.{areSeries}
 use Rattle.book.proofs.Layouts.{seriesWords-append, used-taken}
 use Rattle.book.proofs.SeriesLaws.{markedAt}
 use Rattle.book.proofs.ClassLaws.{number-of}
-use Rattle.book.proofs.Parts.{only-absent, every-kept, some-only, only-both, some-after, inserted-between, isUnder, isEqual, isOver, distinct-parts}
+use Rattle.logic.proofs.Parts.{only-absent, every-kept, some-only, only-both, some-after, inserted-between, isUnder, isEqual, isOver, distinct-parts}
 use Rattle.book.proofs.Expirations.{monthOf, strikeOf, low, placed, high, around, others, wordsBefore, wordsAfter, length-before, around-words, left-words, alone-words, strike-parts, Stander, stander, placed-words, inserted-around, removed-around, alone-says, marked-around}
 use Rattle.book.proofs.ClassWords.{classes-apart, numbers-rise, series-good, class-parts, class-put}
 

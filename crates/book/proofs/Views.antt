@@ -6,13 +6,13 @@ use mathlib.Core.Bool.{Bool, true, false, cond, _||_}
 use mathlib.Core.List.{List, [], _∷_, _++_}
 use lib.Dec.{T, eqb, ltb}
 use borrow.Author.Tests.{eqb-true, ne-eqb, eq-eqb}
-use Rattle.rule.specs.Lists.{some}
+use Rattle.logic.specs.Lists.{some}
 use Rattle.book.specs.Facts.{OpenClass, Facts, number, newClass, isOpen, classOf, putClass, insertClass, isBelow}
 use Rattle.book.specs.Views.{View, class, viewOf}
 use Rattle.book.specs.Changes.{Deed, monthBecomes, opens, becomes, grows, designates, writes, nothing, update, designationSet, classOpened, classGrown, factsAfter}
 use Rattle.book.specs.Calls.{ClassCall, on, Condition, draws, noneApplies, Effect, effectOn, needing, isGranted}
-use Rattle.book.proofs.Tests.{ands}
-use Rattle.book.proofs.Lists.{some-map, some-inserted}
+use Rattle.logic.proofs.Tests.{ands}
+use Rattle.logic.proofs.Lists.{some-map, some-inserted}
 use Rattle.book.proofs.ClassLaws.{number-of, numbers-put, class-of-inserted}
 use Rattle.book.proofs.Order.{Sound, effect-sound}
 

@@ -4,7 +4,7 @@ use mathlib.Core.Path.{_≡_}
 use mathlib.Core.Bool.{Bool, true, false, not, _&&_}
 use mathlib.Core.List.{List, [], _∷_, _++_}
 use lib.Dec.{T, eqb, ltb}
-use Rattle.rule.specs.Lists.{some}
+use Rattle.logic.specs.Lists.{some}
 use Rattle.book.specs.Facts.{OpenClass, Facts, isAt}
 use Rattle.book.specs.Views.{viewOf, class, groundOf, isReviewed}
 use Rattle.book.specs.Calls.{ClassCall, Call, callM, on, callO, callC, callV, callD, callL, callJ, callX, callI, callR, callA, malformed, isGranted, step, after}

@@ -6,17 +6,10 @@ use lib.ListN.{length}
 use lib.Dec.{eqb, leb}
 use Rattle.word.specs.declared.class.ClassRecord.{ClassRecord}
 use Rattle.word.specs.Limits.{isStrike, isMonth, isClassNumber, isVolume, isLength, isClose, isGround, isMark}
-use Rattle.rule.specs.Lists.{every}
+use Rattle.logic.specs.Lists.{every, rises}
 use Rattle.word.specs.Programs.{Program, programs, areDesignations}
 use Rattle.book.specs.Facts.{Series, OpenClass, Facts, isBelow, precedes, owned, wordsTaken}
 use Rattle.book.specs.Layout.{layout, factsOf}
-
--- "Classes rise by number, a class's expirations by month, an expiration's strikes by h, none twice."
-module _ {A : Type 0} (before : A → A → Bool) where
-  abbrev pub rises : List A → Bool
-  rises [] = true
-  rises (x ∷ []) = true
-  rises (x ∷ y ∷ ys) = before x y && rises (y ∷ ys)
 
 -- "each expiration from `now` to `now` + 39"
 abbrev pub isListed : ℕ → ℕ → Bool
@@ -31,6 +24,7 @@ areFigures r =
     isClassNumber (r .number)
     && (areDesignations programs (r .designations) && (isClose (r .close) && isVolume (r .volume)))
 
+-- "a class's expirations by month, an expiration's strikes by h, none twice"
 abbrev pub isClass : ℕ → OpenClass → Bool
 isClass now x = areFigures (x .figures) && (every (isSeries now) (x .series) && rises precedes (x .series))
 
@@ -38,8 +32,8 @@ isClass now x = areFigures (x .figures) && (every (isSeries now) (x .series) && 
 abbrev pub isCapKept : List OpenClass → Program → Bool
 isCapKept xs g = leb (owned (g .number) xs) (g .cap)
 
--- "with every field in its limits, each expiration from `now` to `now` + 39, at most 150 classes .. and at most 20 ..",
--- within n words
+-- "Classes rise by number .., none twice."; "with every field in its limits, each expiration from `now` to `now` + 39, at
+-- most 150 classes .. and at most 20 ..", within n words
 unfoldable pub isWellFormed : ℕ → Facts → Bool
 isWellFormed n f =
     isLength n
@@ -54,6 +48,7 @@ sameWords [] (w ∷ ws) = false
 sameWords (v ∷ vs) [] = false
 sameWords (v ∷ vs) (w ∷ ws) = eqb v w && sameWords vs ws
 
--- "A run is a book exactly when it has this form": it is what the layout gives to the facts that it reads there, and they are well formed
+-- "A run is a book exactly when it has this form": it is what the layout gives to the facts that it reads there, and
+-- they are well formed
 unfoldable pub isBook : List ℕ → Bool
 isBook ws = isWellFormed (length ws) (factsOf ws) && sameWords (layout (length ws) (factsOf ws)) ws

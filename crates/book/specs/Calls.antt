@@ -12,7 +12,7 @@ use Rattle.word.specs.declared.answer.Refusal.the-variants.{BeyondLimits, Alrea
 use Rattle.word.specs.declared.class.ClassRecord.{ClassRecord}
 use Rattle.word.specs.Limits.{isPrice, isStrike, isMonth, isClassNumber, isVolume, isDesignation, isMark}
 use Rattle.word.specs.Answers.{isAccepted}
-use Rattle.rule.specs.Lists.{some, only, upFrom}
+use Rattle.logic.specs.Lists.{some, only, upFrom}
 use Rattle.rule.specs.Terms.{isOutside}
 use Rattle.rule.specs.Judgement.{passesGrid, passesRange, passes}
 use Rattle.word.specs.Programs.{isProgram, program}

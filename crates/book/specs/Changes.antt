@@ -6,7 +6,7 @@ use mathlib.Core.List.{List, [], map}
 use lib.ListN.{length}
 use lib.Dec.{leb}
 use Rattle.word.specs.Class.{withClose, withVolume, withDesignation}
-use Rattle.rule.specs.Lists.{only}
+use Rattle.logic.specs.Lists.{only}
 use Rattle.book.specs.Facts.{Series, OpenClass, Facts, newClass, putClass, insertClass, withFigures, withSeries, insertSeries, isAt, withMarks}
 use Rattle.book.specs.Views.{class, isReviewed}
 

@@ -7,7 +7,7 @@ use lib.Dec.{eqb, ltb}
 use Rattle.word.specs.declared.class.ClassRecord.{ClassRecord}
 use Rattle.word.specs.Class.{opened, designation}
 use Rattle.word.specs.Caps.{own}
-use Rattle.rule.specs.Lists.{some, only}
+use Rattle.logic.specs.Lists.{some, only, sum, inserted}
 
 -- "a set of (month, h, ground, put, call)": one standing strike of a class
 pub record Series : Type 0 where
@@ -30,12 +30,6 @@ pub record Facts : Type 0 where
 -- "A fresh book has `now` 0 and no class"
 abbrev pub fresh : Facts
 fresh = record { now = 0; classes = [] }
-
-module _ {A : Type 0} (before : A → A → Bool) where
-  -- y put before the first that it stands before
-  abbrev pub inserted : A → List A → List A
-  inserted y [] = y ∷ []
-  inserted y (x ∷ xs) = cond (before y x) (y ∷ x ∷ xs) (x ∷ inserted y xs)
 
 -- ---- classes
 
@@ -100,11 +94,6 @@ abbrev pub insertSeries : Series → List Series → List Series
 insertSeries s ss = inserted precedes s ss
 
 -- ---- sums
-
-module _ {A : Type 0} (size : A → ℕ) where
-  abbrev pub sum : List A → ℕ
-  sum [] = 0
-  sum (x ∷ xs) = size x + sum xs
 
 -- "The count against 150 and the count against 20 are two counters": the classes whose designation in the program is 1
 abbrev pub owned : ℕ → List OpenClass → ℕ

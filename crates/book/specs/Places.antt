@@ -5,7 +5,7 @@ use mathlib.Core.Bool.{Bool, cond}
 use mathlib.Core.List.{[]}
 use lib.ListN.{length}
 use lib.Dec.{T, eqb, ltb}
-use Rattle.rule.specs.Lists.{some, only}
+use Rattle.logic.specs.Lists.{some, only}
 use Rattle.book.specs.Facts.{Facts, number, isOpen, inMonth}
 use Rattle.book.specs.Layout.{seriesWords, classesWords}
 use Rattle.book.specs.Views.{class, viewOf, isStanding}

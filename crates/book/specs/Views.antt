@@ -8,7 +8,7 @@ use Rattle.word.specs.declared.class.ClassRecord.{ClassRecord}
 use Rattle.word.specs.Class.{designation}
 use Rattle.word.specs.Answers.{answerValue}
 use Rattle.rule.specs.declared.terms.Setting.{Setting}
-use Rattle.rule.specs.Lists.{every, some, only}
+use Rattle.logic.specs.Lists.{every, some, only}
 use Rattle.rule.specs.Terms.{cents}
 use Rattle.rule.specs.Spacing.{Standing, apart}
 use Rattle.rule.specs.Judgement.{rowsOf, judgement}

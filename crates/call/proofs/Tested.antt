@@ -3,7 +3,7 @@ use mathlib.Core.Path.{_≡_, sym, _∙_}
 use mathlib.Core.Bool.{Bool, true, false, not}
 use lib.Dec.{T}
 use borrow.Author.Tests.{not-true, not-false}
-use Rattle.book.proofs.Tests.{true-T}
+use Rattle.logic.proofs.Tests.{true-T}
 
 pub no-book : {tested is : Bool} → tested ≡ is → not tested ≡ true → is ≡ false
 no-book {tested} e failed = sym e ∙ not-true tested failed

@@ -22,8 +22,8 @@ use Rattle.book.specs.Books.{areFigures, isBook}
 use Rattle.book.specs.Views.{isNew}
 use Rattle.book.specs.Calls.{on, callD, Condition, firstOr, claiming, effectOn, isCapReached, capping, answerTo}
 use Rattle.book.specs.Made.{Made}
-use Rattle.book.proofs.Tests.{ands, and-intro, T-true}
-use Rattle.book.proofs.Lists.{every-at}
+use Rattle.logic.proofs.Tests.{ands, and-intro, T-true}
+use Rattle.logic.proofs.Lists.{every-at}
 use Rattle.book.proofs.Programs.{designations-set}
 use Rattle.book.proofs.Order.{granted-answer}
 use Rattle.book.proofs.Answered.{made-refused}

@@ -18,7 +18,7 @@ use Rattle.book.specs.Changes.{update, listOf}
 use Rattle.book.specs.Calls.{Call, on, callC, callV, effectOn, effect, answerTo, acceptedFacts}
 use Rattle.book.specs.Places.{classPlace}
 use Rattle.book.specs.Made.{over, Made}
-use Rattle.book.proofs.Tests.{ands, and-intro}
+use Rattle.logic.proofs.Tests.{ands, and-intro}
 use Rattle.book.proofs.Answered.{made-accepted}
 use Rattle.edit.specs.Asked.{Storable}
 use Rattle.class_call.proofs.Ways.{passed, Found, found-open, found-figures, found-number, found-limits}

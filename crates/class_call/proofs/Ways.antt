@@ -20,8 +20,8 @@ use Rattle.book.specs.Changes.{monthSet, classOpened, update, classReviewed, re
 use Rattle.book.specs.Calls.{callM, on, callO, callR, effectOn, answerTo}
 use Rattle.book.specs.Places.{classPlace}
 use Rattle.book.specs.Made.{Made}
-use Rattle.book.proofs.Tests.{ands, true-T}
-use Rattle.book.proofs.Lists.{length-only}
+use Rattle.logic.proofs.Tests.{ands, true-T}
+use Rattle.logic.proofs.Lists.{length-only}
 use Rattle.book.proofs.Keep.{month-again}
 use Rattle.book.proofs.ClassLaws.{number-of, sum-put}
 use Rattle.book.proofs.Layouts.{used-taken}

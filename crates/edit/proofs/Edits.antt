@@ -19,7 +19,7 @@ use Rattle.book.specs.Views.{class}
 use Rattle.book.specs.Changes.{update, newSeries, strikeAdded, marksSet, classOpened}
 use Rattle.book.specs.Places.{StrikeStands, classPlace}
 use Rattle.book.proofs.LegalWords.{fits, strike-legal, figures-legal}
-use Rattle.book.proofs.Tests.{and-intro}
+use Rattle.logic.proofs.Tests.{and-intro}
 use Rattle.book.proofs.Splices.{figures-spliced, opened-spliced, listed-spliced, marking}
 use Rattle.book.proofs.Runs.{strike-within, standing-within}
 use Rattle.place.proofs.Heads.{book-good, book-room}

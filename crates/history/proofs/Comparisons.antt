@@ -14,7 +14,7 @@ use Rattle.word.specs.declared.answer.Answer.the-variants.{Done}
 use Rattle.word.specs.Limits.{isLength}
 use Rattle.book.specs.Books.{sameWords}
 use Rattle.book.specs.CallLists.{callsAlone}
-use Rattle.book.proofs.Tests.{T-true, true-T}
+use Rattle.logic.proofs.Tests.{T-true, true-T}
 use Rattle.book.proofs.Layouts.{same-words, words-equal}
 use Rattle.history.specs.declared.Comparison.{Comparison}
 use Rattle.history.specs.declared.Comparison.the-variants.{Equal, Different, BadLength}

@@ -12,7 +12,7 @@ use Rattle.book.specs.Books.{isBook}
 use Rattle.book.specs.Calls.{written}
 use Rattle.book.specs.Made.{over, Made}
 use Rattle.book.specs.CallLists.{LentCall}
-use Rattle.book.proofs.Tests.{T-true}
+use Rattle.logic.proofs.Tests.{T-true}
 use Rattle.book.proofs.Order.{written-fits}
 use Rattle.history.specs.Runs.{lentWithin, Lent}
 

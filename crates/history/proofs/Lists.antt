@@ -16,7 +16,7 @@ use Rattle.book.specs.Calls.{Call, answerTo, written, step, steps, after}
 use Rattle.book.specs.Points.{SameFacts}
 use Rattle.book.specs.Made.{over, Made}
 use Rattle.book.specs.CallLists.{LentCall, callsAlone}
-use Rattle.book.proofs.Tests.{T-true}
+use Rattle.logic.proofs.Tests.{T-true}
 use Rattle.book.proofs.Layouts.{factsOf-layout, layout-injective, fresh-well-formed}
 use Rattle.book.proofs.Keep.{step-keeps, after-well-formed}
 use Rattle.book.proofs.SameFacts.{same-facts}

@@ -15,7 +15,7 @@ use Rattle.book.specs.Layout.{layout, factsOf}
 use Rattle.book.specs.Books.{isBook}
 use Rattle.book.specs.Calls.{Call, answerTo, written, step}
 use Rattle.book.specs.Made.{over, Made}
-use Rattle.book.proofs.Tests.{true-T}
+use Rattle.logic.proofs.Tests.{true-T}
 use Rattle.book.proofs.Layouts.{book-facts}
 use Rattle.book.proofs.Order.{refused-unchanged}
 

@@ -7,13 +7,13 @@ use mathlib.Core.List.{List, [], _∷_, _++_}
 use mathlib.Core.Logic.{_↔_}
 use lib.ListN.{length}
 use lib.Dec.{T}
-use Rattle.rule.specs.Lists.{every}
+use Rattle.logic.specs.Lists.{every}
 use Rattle.book.specs.Calls.{Call, callM, on, callO, callC, callV, callD, callL, callJ, callX, callI, callR, callA, malformed, after}
 use Rattle.book.specs.CallLists.{LentCall, callsAlone}
 use Rattle.book.specs.Letters.{callOf}
 use Rattle.book.specs.Points.{SameFacts}
-use Rattle.book.proofs.Tests.{ands}
-use Rattle.book.proofs.Parts.{every-append}
+use Rattle.logic.proofs.Tests.{ands}
+use Rattle.logic.proofs.Parts.{every-append}
 use Rattle.history.specs.declared.Comparison.{Comparison}
 use Rattle.history.specs.declared.Comparison.the-variants.{Equal}
 use Rattle.history.specs.Records.{callsOf, recordOf, recordsOf, isWord, fitsWords}

@@ -22,7 +22,7 @@ use Rattle.book.specs.Books.{isWellFormed, isBook}
 use Rattle.book.specs.Calls.{steps}
 use Rattle.book.specs.Made.{Begun}
 use Rattle.book.specs.CallLists.{callsAlone, secondAfter}
-use Rattle.book.proofs.Tests.{true-T}
+use Rattle.logic.proofs.Tests.{true-T}
 use Rattle.book.proofs.Layouts.{factsOf-layout, book-layout, book-facts, fresh-well-formed}
 use Rattle.book.proofs.Followed.{next-book, layout-size}
 use Rattle.history.specs.Records.{callAt, callsOf}

@@ -16,7 +16,7 @@ use Rattle.book.specs.Books.{isBook}
 use Rattle.book.specs.Calls.{Call, answerTo}
 use Rattle.book.specs.CallLists.{answersTo}
 use Rattle.book.specs.Made.{Made}
-use Rattle.book.proofs.Tests.{T-true, and-intro}
+use Rattle.logic.proofs.Tests.{T-true, and-intro}
 use Rattle.book.proofs.Layouts.{factsOf-layout, book-layout, fresh-well-formed}
 use Rattle.book.proofs.Order.{never-one}
 use Rattle.book.proofs.Followed.{made-book, layout-size}

@@ -8,7 +8,7 @@ use lib.ListN.{length}
 use lib.Dec.{eqb}
 use Rattle.word.specs.declared.answer.Answer.{Answer}
 use Rattle.word.specs.Answers.{answerNumber}
-use Rattle.rule.specs.Lists.{every}
+use Rattle.logic.specs.Lists.{every}
 use Rattle.book.specs.Calls.{Call}
 use Rattle.book.specs.CallLists.{LentCall}
 use Rattle.book.specs.Made.{Made, Begun}

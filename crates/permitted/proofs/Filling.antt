@@ -10,7 +10,7 @@ use lib.Dec.{ltb}
 use lib.ListN.{length, set, length-set}
 use lib.Seq.{sets}
 use borrow.Author.Tests.{ltb-true, ltb-false}
-use Rattle.rule.specs.Lists.{only, upFrom}
+use Rattle.logic.specs.Lists.{only, upFrom}
 
 module _ (test : ℕ → Bool) (end : ℕ) where
   -- what passes from h up to the end

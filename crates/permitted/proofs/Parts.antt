@@ -10,7 +10,7 @@ use lib.ListN.{length, length-append}
 use lib.Seq.{sets}
 use Rattle.word.proofs.Stores.{sets-append}
 use Rattle.rule.specs.declared.terms.Setting.{Setting}
-use Rattle.rule.specs.Lists.{only, upFrom}
+use Rattle.logic.specs.Lists.{only, upFrom}
 use Rattle.rule.specs.Terms.{isHalfClass, isLong}
 use Rattle.rule.specs.Ends.{isProgramClass, halfEnd, lowEnd, highEnd, fineStep, fineEnd, reachOf}
 use Rattle.rule.specs.Spacing.{standingIn}

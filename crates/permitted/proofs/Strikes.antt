@@ -7,13 +7,14 @@ use native.Mathlib.Omega.{arith}
 use lib.Dec.{leb, ltb, eqb}
 use lib.ListN.{length, getD, take, drop}
 use borrow.Author.Tests.{leb-true, ltb-true, lt-ltb, eq-eqb}
+use Rattle.logic.proofs.Lists.{not-some}
 use Rattle.rule.specs.declared.terms.Setting.{Setting}
-use Rattle.rule.specs.Lists.{some, every}
+use Rattle.logic.specs.Lists.{some, every}
 use Rattle.rule.specs.Ends.{reachOf, isOpen}
 use Rattle.rule.specs.Spacing.{standingIn}
 use Rattle.rule.specs.Judgement.{isPermittedBeside}
 use Rattle.rule.proofs.Walks.{every-map, First, first-found}
-use Rattle.rule.proofs.Near.{reach-most, not-some, Between, words-permitted, rising-at}
+use Rattle.rule.proofs.Near.{reach-most, Between, words-permitted, rising-at}
 use Rattle.permitted.specs.Listing.{strikeIn, strikeAt, strikeFrom, Triable}
 
 pub absent-words : (ws : List ℕ) (h : ℕ) →

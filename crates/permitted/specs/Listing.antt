@@ -11,7 +11,7 @@ use Rattle.word.specs.declared.answer.Answer.the-variants.{Listed, Refused}
 use Rattle.word.specs.declared.answer.Refusal.the-variants.{OutOfWords}
 use Rattle.word.specs.Field.{field}
 use Rattle.rule.specs.declared.terms.Setting.{Setting}
-use Rattle.rule.specs.Lists.{Rising, only, upFrom}
+use Rattle.logic.specs.Lists.{Rising, only, upFrom}
 use Rattle.rule.specs.Ends.{reachOf, Multiples}
 use Rattle.rule.specs.Spacing.{standingIn}
 use Rattle.rule.specs.Judgement.{Judged, firstFrom, isPermittedBeside}

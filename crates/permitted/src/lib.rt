@@ -6,7 +6,7 @@ ghost use Prim.Native.Nat.{_≤_};
 ghost use lib.Dec.{eqb};
 ghost use lib.ListN.{length, set};
 ghost use lib.Seq.{sets};
-ghost use Rattle.rule.specs.Lists.{some};
+ghost use Rattle.logic.specs.Lists.{some};
 ghost use Rattle.rule.specs.Ends.{reachOf, isOpen};
 ghost use Rattle.rule.specs.Spacing.{standingIn};
 ghost use Rattle.rule.specs.Judgement.{isPermittedBeside, permitted};

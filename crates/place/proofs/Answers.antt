@@ -9,13 +9,13 @@ use lib.Dec.{T, eqb, ltb}
 use borrow.Author.Tests.{not-true, not-false, ltb-true, lt-ltb, le-ltb}
 use Rattle.word.specs.Codec.{Expiration as ExpirationWord, packed}
 use Rattle.word.proofs.Tests.{and-both}
-use Rattle.rule.specs.Lists.{some, only}
+use Rattle.logic.specs.Lists.{some, only}
 use Rattle.book.specs.Facts.{Series, Facts, isOpen, inMonth}
 use Rattle.book.specs.Layout.{used, factsOf}
 use Rattle.book.specs.Books.{isBook}
 use Rattle.book.specs.Views.{viewOf, class, isStanding}
 use Rattle.book.specs.Places.{classPlace, hasExpiration, expirationPlace, strikesPlace, strikesEnd, strikePlace}
-use Rattle.book.proofs.Parts.{isUnder, isEqual, some-both}
+use Rattle.logic.proofs.Parts.{isUnder, isEqual, some-both}
 use Rattle.book.proofs.Expirations.{monthOf, strikeOf}
 use Rattle.place.specs.Search.{firstAt, isHolding, isUpTo}
 use Rattle.place.specs.Lookups.{expirationOf, strikeSearchOf}

@@ -12,10 +12,10 @@ use lib.Seq.{drop-cons, drop-drop, length-take-le, take-all, getD-take, getD-dro
 use lib.Dec.{T}
 use Rattle.word.specs.Digits.{binary, firstOne}
 use Rattle.word.proofs.Digits.{digits-more, trailing-zeros, no-one, some-one}
-use Rattle.rule.specs.Lists.{every}
+use Rattle.logic.specs.Lists.{every}
 use Rattle.rule.proofs.Near.{each-at}
-use Rattle.book.proofs.Tests.{T-true, true-T}
-use Rattle.book.proofs.Splits.{every-split}
+use Rattle.logic.proofs.Tests.{T-true, true-T}
+use Rattle.logic.proofs.Splits.{every-split}
 use Rattle.place.specs.Search.{firstAt}
 
 -- ---- digits

@@ -12,19 +12,19 @@ use Rattle.word.specs.declared.class.ClassRecord.{ClassRecord}
 use Rattle.word.specs.Codec.{Word, Head, Class, Close, Volume, Expiration, isLegal, packed}
 use Rattle.word.specs.Field.{field}
 use Rattle.word.proofs.Words.{legal-fits, kindIn, kind-packed, class-fields}
-use Rattle.rule.specs.Lists.{every, only}
+use Rattle.logic.specs.Lists.{every, only}
 use Rattle.book.specs.Facts.{Series, OpenClass, Facts, number, isOpen, inMonth}
 use Rattle.book.specs.Layout.{classWord, strikeWord, expirationUnless, seriesWords, figuresWords, classesWords, used, factsOf}
 use Rattle.book.specs.Books.{areFigures, isBook}
 use Rattle.book.specs.Views.{viewOf, class, isStanding}
 use Rattle.book.specs.Places.{ClassBegins, classPlace, hasExpiration, expirationPlace, strikePlace}
-use Rattle.book.proofs.Tests.{ands, T-true, true-T}
+use Rattle.logic.proofs.Tests.{ands, T-true, true-T}
 use Rattle.book.proofs.LegalWords.{fits, figures-legal}
-use Rattle.book.proofs.Lists.{every-imply, every-map, every-true}
+use Rattle.logic.proofs.Lists.{every-imply, every-map, every-true}
 use Rattle.book.proofs.Layouts.{seriesWords-append, words-legal}
-use Rattle.book.proofs.Parts.{only-absent, every-kept, some-both, isUnder, isEqual, isOver, distinct-parts}
+use Rattle.logic.proofs.Parts.{only-absent, every-kept, some-both, isUnder, isEqual, isOver, distinct-parts}
 use Rattle.book.proofs.Expirations.{monthOf, strikeOf, series-words, low, placed, high, strike-parts}
-use Rattle.book.proofs.Splits.{every-split}
+use Rattle.logic.proofs.Splits.{every-split}
 use Rattle.book.proofs.ClassWords.{class-good, series-good, class-words, numbers-rise}
 use Rattle.book.proofs.Runs.{bookWords, run-part, run-word}
 use Rattle.place.specs.Search.{firstAt, isNoLower, isUpTo, isFrom, isHolding, Rises, figuresAt}

@@ -10,7 +10,7 @@ use Rattle.word.specs.Field.{field}
 use Rattle.word.proofs.Words.{head-fields}
 use Rattle.book.specs.Layout.{used, layout, factsOf, classesWords}
 use Rattle.book.specs.Books.{isWellFormed, isBook}
-use Rattle.book.proofs.Tests.{ands}
+use Rattle.logic.proofs.Tests.{ands}
 use Rattle.book.proofs.Forms.{Well, well}
 use Rattle.book.proofs.Layouts.{book-facts}
 use Rattle.book.proofs.Runs.{run-word, used-within}

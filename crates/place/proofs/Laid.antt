@@ -9,13 +9,13 @@ use lib.Dec.{T, eqb, leb, ltb, leb·zero, ltb→lt}
 use borrow.Author.Tests.{not-true, eq-eqb, le-ltb, lt-leb}
 use Rattle.word.specs.Codec.{Word, Class, Close, Volume, Expiration, isLegal, packed, kindOf}
 use Rattle.word.proofs.Words.{legal-fits, kindIn, kind-packed}
-use Rattle.rule.specs.Lists.{every, some, only}
+use Rattle.logic.specs.Lists.{every, some, only}
 use Rattle.book.specs.Facts.{Series, OpenClass, number}
 use Rattle.book.specs.Layout.{strikeWord, expirationUnless, seriesWords, classesWords}
-use Rattle.book.proofs.Tests.{and-intro, ands, T-true}
-use Rattle.book.proofs.Lists.{every-imply, every-map, every-true}
-use Rattle.book.proofs.Parts.{every-kept, isUnder, isEqual, isOver, not-under}
-use Rattle.book.proofs.Splits.{every-split, leads, some-leads}
+use Rattle.logic.proofs.Tests.{and-intro, ands, T-true}
+use Rattle.logic.proofs.Lists.{every-imply, every-map, every-true}
+use Rattle.logic.proofs.Parts.{every-kept, isUnder, isEqual, isOver, not-under}
+use Rattle.logic.proofs.Splits.{every-split, leads, some-leads}
 use Rattle.book.proofs.Expirations.{strikeOf}
 use Rattle.book.proofs.ClassWords.{classes-apart}
 use Rattle.place.specs.Search.{firstAt, isFrom}

@@ -8,17 +8,17 @@ use native.Mathlib.Omega.{arith}
 use lib.ListN.{length, take, drop, getD}
 use lib.Seq.{drop-cons}
 use lib.Dec.{T, eqb, leb→le}
+use Rattle.logic.specs.Lists.{sum, every}
 use Rattle.word.specs.Codec.{Word, Head, Class, Close, Volume, Expiration, Strike, Invalid, isLegal, packed, Fits}
 use Rattle.word.specs.Programs.{programCount, isProgram, program}
 use Rattle.word.specs.Field.{field}
 use Rattle.word.specs.Caps.{own}
 use Rattle.word.proofs.Words.{kindIn, kind-packed, class-designation}
-use Rattle.rule.specs.Lists.{every}
-use Rattle.book.specs.Facts.{Series, OpenClass, Facts, sum, owned}
+use Rattle.book.specs.Facts.{Series, OpenClass, Facts, owned}
 use Rattle.book.specs.Layout.{strikeWord, expirationUnless, seriesWords, classesWords, used, factsOf}
 use Rattle.book.specs.Books.{isBook}
 use Rattle.book.proofs.LegalWords.{fits}
-use Rattle.book.proofs.Tests.{ands}
+use Rattle.logic.proofs.Tests.{ands}
 use Rattle.book.proofs.Programs.{cap-small}
 use Rattle.book.proofs.Forms.{well}
 use Rattle.place.specs.Search.{isOfKind}

@@ -11,11 +11,11 @@ use Rattle.word.specs.Codec.{Word, Class, isLegal, packed}
 use Rattle.word.specs.Field.{field}
 use Rattle.word.proofs.Tests.{and-both}
 use Rattle.word.proofs.Words.{legal-fits, kindIn, kind-packed}
-use Rattle.rule.specs.Lists.{every}
+use Rattle.logic.specs.Lists.{every}
 use Rattle.book.specs.Facts.{Series, OpenClass, isBelow}
 use Rattle.book.specs.Layout.{strikeWord, expirationUnless, seriesWords, classesWords}
-use Rattle.book.proofs.Tests.{and-intro, ands, T-true}
-use Rattle.book.proofs.Lists.{every-true, ordered}
+use Rattle.logic.proofs.Tests.{and-intro, ands, T-true}
+use Rattle.logic.proofs.Lists.{every-true, ordered}
 use Rattle.place.specs.Search.{firstAt, isOfKind, isFrom, Rises}
 use Rattle.place.proofs.Firsts.{every-at}
 use Rattle.place.proofs.Words.{keyIn, widthOf, key-said}

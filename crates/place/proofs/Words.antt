@@ -12,8 +12,8 @@ use borrow.Author.Tests.{eqb-true, eqb-false, leb-true, leb-false, ltb-true, ltb
 use Rattle.word.specs.Codec.{Word, Head, Class, Close, Volume, Expiration, Strike, Invalid, isLegal, packed, Fits, kindOf}
 use Rattle.word.specs.Field.{field}
 use Rattle.word.proofs.Words.{class-fields, legal-fits, kindIn, kind-packed}
-use Rattle.rule.specs.Lists.{every}
-use Rattle.book.proofs.Tests.{ands}
+use Rattle.logic.specs.Lists.{every}
+use Rattle.logic.proofs.Tests.{ands}
 use Rattle.place.specs.Search.{firstAt, isOfKind, isNoLower, rankOf, isUpTo, isFrom}
 use Rattle.place.proofs.Firsts.{every-part}
 

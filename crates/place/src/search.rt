@@ -5,7 +5,7 @@ ghost use mathlib.Core.List.{map};
 ghost use lib.Dec.{T, leb};
 ghost use lib.ListN.{length};
 ghost use Rattle.word.specs.Digits.{binary};
-ghost use Rattle.rule.specs.Lists.{every};
+ghost use Rattle.logic.specs.Lists.{every};
 ghost use Rattle.place.specs.Search.{firstAt, foundNear, isFrom, isHolding, isNoLower, rankOf, isUpTo, Rises};
 use word::codec::kind;
 use word::field::field_of;

@@ -7,13 +7,13 @@ use native.Mathlib.Omega.{arith}
 use lib.Dec.{T}
 use lib.ListN.{length, replicate, length-append, length-map}
 use Rattle.word.specs.Codec.{Word, Head, packed}
-use Rattle.rule.specs.Lists.{every}
+use Rattle.logic.specs.Lists.{every}
 use Rattle.book.specs.Facts.{Series, Facts, withSeries}
 use Rattle.book.specs.Layout.{used, layout, factsOf}
 use Rattle.book.specs.Books.{isSeries, isBook}
 use Rattle.book.specs.Views.{class}
 use Rattle.book.specs.Changes.{update, classReviewed, reviewedCount}
-use Rattle.book.proofs.Tests.{ands}
+use Rattle.logic.proofs.Tests.{ands}
 use Rattle.book.proofs.Forms.{areSeries}
 use Rattle.book.proofs.ClassWords.{series-good}
 use Rattle.book.proofs.Splices.{Spliced, used-spliced, series-spliced}

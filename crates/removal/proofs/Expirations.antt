@@ -7,12 +7,12 @@ use native.Mathlib.Nat.{le-refl}
 use native.Mathlib.Omega.{arith}
 use lib.Dec.{T, eqb}
 use borrow.Author.Tests.{eqb-true, eqb-false, eq-eqb, ne-eqb}
+use Rattle.logic.specs.Lists.{rises, every, only}
 use Rattle.word.specs.Codec.{Expiration, packed}
-use Rattle.rule.specs.Lists.{every, only}
 use Rattle.book.specs.Facts.{Series, isMarked, precedes}
 use Rattle.book.specs.Layout.{strikeWord, expirationUnless, seriesWords}
-use Rattle.book.specs.Books.{rises, isSeries}
-use Rattle.book.proofs.Tests.{ands}
+use Rattle.book.specs.Books.{isSeries}
+use Rattle.logic.proofs.Tests.{ands}
 use Rattle.book.proofs.LegalWords.{strike-legal, month-legal}
 use Rattle.book.proofs.SeriesLaws.{months-rise}
 use Rattle.book.proofs.Forms.{areSeries}

@@ -8,16 +8,16 @@ use lib.ListN.{length}
 use lib.Dec.{T, leb, ltb→lt, leb·zero, eqb·zero-suc}
 use borrow.Author.Tests.{lt-leb}
 use Rattle.word.specs.Codec.{Word, isLegal, packed}
-use Rattle.rule.specs.Lists.{every, only}
+use Rattle.logic.specs.Lists.{every, only}
 use Rattle.book.specs.Facts.{Series, inMonth, OpenClass, number, withSeries}
 use Rattle.book.specs.Layout.{seriesWords, figuresWords, classesWords}
 use Rattle.book.specs.Books.{isClass}
-use Rattle.book.proofs.Tests.{ands, T-true, true-T}
-use Rattle.book.proofs.Lists.{every-imply, every-true}
+use Rattle.logic.proofs.Tests.{ands, T-true, true-T}
+use Rattle.logic.proofs.Lists.{every-imply, every-true}
 use Rattle.book.proofs.Forms.{areSeries}
 use Rattle.book.proofs.Layouts.{seriesWords-append, words-legal}
-use Rattle.book.proofs.Parts.{every-kept, isUnder, isEqual, isOver, not-under}
-use Rattle.book.proofs.Splits.{every-split}
+use Rattle.logic.proofs.Parts.{every-kept, isUnder, isEqual, isOver, not-under}
+use Rattle.logic.proofs.Splits.{every-split}
 use Rattle.book.proofs.Expirations.{monthOf, month-parts, series-apart}
 use Rattle.place.specs.Search.{firstAt, isUpTo}
 use Rattle.place.proofs.Words.{isEnding, up-to-packed}

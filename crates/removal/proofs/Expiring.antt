@@ -8,12 +8,12 @@ use lib.ListN.{length, take, drop, set, replicate, length-append, length-map}
 use lib.Seq.{drop-drop, drop-at, length-take-le}
 use borrow.Rule.Slice.PartMut.{putMid, mid-len}
 use Rattle.word.specs.Codec.{Word, Head, packed}
-use Rattle.rule.specs.Lists.{every}
+use Rattle.logic.specs.Lists.{every}
 use Rattle.book.specs.Facts.{OpenClass, Facts}
 use Rattle.book.specs.Layout.{figuresWords, classesWords, used, layout, factsOf}
 use Rattle.book.specs.Books.{isClass, isBook}
 use Rattle.book.specs.Changes.{monthSet}
-use Rattle.book.proofs.Tests.{ands}
+use Rattle.logic.proofs.Tests.{ands}
 use Rattle.book.proofs.Runs.{run-parts}
 use Rattle.place.specs.Search.{firstAt, isUpTo}
 use Rattle.place.proofs.Heads.{book-form, book-is, book-room}

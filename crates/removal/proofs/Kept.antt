@@ -9,7 +9,7 @@ use lib.Dec.{T, eqb}
 use lib.ListN.{length}
 use borrow.Author.Tests.{eqb-true, eq-eqb, ne-eqb}
 use Rattle.word.specs.Codec.{Word, Expiration, packed}
-use Rattle.rule.specs.Lists.{only}
+use Rattle.logic.specs.Lists.{only}
 use Rattle.book.specs.Facts.{Series}
 use Rattle.book.specs.Layout.{strikeWord, expirationUnless, seriesWords}
 use Rattle.book.proofs.Forms.{areSeries}

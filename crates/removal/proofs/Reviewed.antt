@@ -6,13 +6,13 @@ use mathlib.Core.List.{List, [], _∷_}
 use native.Mathlib.Omega.{arith}
 use lib.Dec.{T, eqb, leb, ltb, leb→le, le→leb, ltb→lt, lt→ltb}
 use borrow.Author.Tests.{le-leb, lt-ltb}
-use Rattle.rule.specs.Lists.{every, only}
+use Rattle.logic.specs.Lists.{every, only}
 use Rattle.rule.specs.Terms.{cents}
 use Rattle.rule.specs.Spacing.{apart}
 use Rattle.book.specs.Facts.{Series, OpenClass, isMarked}
 use Rattle.book.specs.Books.{isSeries}
 use Rattle.book.specs.Views.{isReviewed}
-use Rattle.book.proofs.Tests.{and-left, and-right, and-intro, ands, same-bool}
+use Rattle.logic.proofs.Tests.{and-left, and-right, and-intro, ands, same-bool}
 use Rattle.removal.specs.declared.marks.Bounds.{Bounds}
 use Rattle.removal.specs.Marks.{noneMarked, widened}
 use Rattle.removal.proofs.Expirations.{markedIn, widenedBy, staysAmong, staying, leaving}

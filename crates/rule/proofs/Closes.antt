@@ -8,7 +8,7 @@ use Rattle.word.specs.declared.answer.Refusal.the-variants.{OffGrid, TooClose}
 use Rattle.word.specs.declared.answer.Answer.{Answer}
 use Rattle.word.specs.declared.answer.Answer.the-variants.{Ground, Refused}
 use Rattle.rule.specs.declared.terms.Setting.{Setting}
-use Rattle.rule.specs.Lists.{only, upFrom}
+use Rattle.logic.specs.Lists.{only, upFrom}
 use Rattle.rule.specs.Terms.{isLong, isNear, isOutside}
 use Rattle.rule.specs.Ranges.{lowest, amongFive}
 use Rattle.rule.specs.Ends.{highEnd}

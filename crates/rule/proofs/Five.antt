@@ -7,7 +7,7 @@ use native.Mathlib.Omega.{arith}
 use borrow.Author.Tests.{leb-true, ltb-true, ltb-false, eqb-true, eqb-false, lt-ltb, le-ltb, le-leb}
 use lib.Dec.{leb, ltb, eqb, leb·suc-suc}
 use Rattle.rule.specs.declared.terms.Setting.{Setting}
-use Rattle.rule.specs.Lists.{some}
+use Rattle.logic.specs.Lists.{some}
 use Rattle.rule.specs.Terms.{cents, isDollarClass, isNear, price}
 use Rattle.rule.specs.Grids.{multiple, ladder, halfDollars}
 use Rattle.rule.specs.Ranges.{lowest, amongFive, rangeGrid}

@@ -10,7 +10,7 @@ use lib.Dec.{leb}
 use lib.ListN.{length}
 use borrow.Author.Tests.{leb-true, leb-false}
 use Rattle.rule.specs.declared.terms.Setting.{Setting}
-use Rattle.rule.specs.Lists.{only, upFrom}
+use Rattle.logic.specs.Lists.{only, upFrom}
 use Rattle.rule.specs.Ends.{halfEnd, highEnd, fineStep}
 use Rattle.rule.specs.Spacing.{Standing}
 use Rattle.word.specs.Answers.{isAccepted}

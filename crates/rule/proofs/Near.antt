@@ -10,8 +10,9 @@ use lib.Dec.{leb, ltb, eqb}
 use lib.ListN.{length, getD, take, drop, length-drop, length-take, take-append-drop}
 use lib.Seq.{getD-take, getD-drop, drop-drop}
 use borrow.Author.Tests.{ltb-true, leb-false, lt-ltb, lt-leb, ne-eqb, not-true}
+use Rattle.logic.proofs.Lists.{not-some}
 use Rattle.rule.specs.declared.terms.Setting.{Setting}
-use Rattle.rule.specs.Lists.{some, every, Rising}
+use Rattle.logic.specs.Lists.{some, every, Rising}
 use Rattle.rule.specs.Terms.{cents, isLong}
 use Rattle.rule.specs.Ends.{reachOf}
 use Rattle.rule.specs.Grids.{grounds, gridOf}
@@ -53,14 +54,6 @@ every-failed test [] (x ∷ xs) after e = go (test x) e (every-failed test [] xs
     go true q r = r q
     go false q r = refl
 every-failed test (x ∷ xs) near after e = rw (every-failed test xs near after e, and-false)
-
-pub not-some : {A : Type 0} (test : A → Bool) (xs : List A) → not (some test xs) ≡ every (λ x. not (test x)) xs
-not-some test [] = refl
-not-some test (x ∷ xs) = go (test x) (not-some test xs)
-  where
-    go : (t : Bool) → not (some test xs) ≡ every (λ x. not (test x)) xs → not (t || some test xs) ≡ (not t && every (λ x. not (test x)) xs)
-    go true r = refl
-    go false r = r
 
 module _ (s : Setting) (h : ℕ) where
   far-apart : (t : Standing) → isFar s h t ≡ true → reachOf s < apart h (t .strike)

@@ -10,7 +10,7 @@ use lib.Dec.{ltb, eqb}
 use borrow.Author.Tests.{le-leb, eq-eqb}
 use Rattle.word.specs.declared.class.ClassRecord.{ClassRecord}
 use Rattle.rule.specs.declared.terms.Setting.{Setting}
-use Rattle.rule.specs.Lists.{some}
+use Rattle.logic.specs.Lists.{some}
 use Rattle.rule.specs.Terms.{cents, isDollarClass, isLong, isNear, price}
 use Rattle.rule.specs.Grids.{multiple, standardGrid, dollarGrid, wingBase, gridOf, grounds}
 use Rattle.rule.specs.Ranges.{standardRange, rangeOf}

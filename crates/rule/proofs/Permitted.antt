@@ -8,7 +8,7 @@ use lib.Dec.{leb, ltb, eqb, leb·suc-suc}
 use borrow.Author.Tests.{eqb-true, eqb-false, leb-true, le-leb, lt-ltb, le-ltb}
 use Rattle.word.specs.Limits.{isStrike}
 use Rattle.rule.specs.declared.terms.Setting.{Setting}
-use Rattle.rule.specs.Lists.{some, only, upFrom, Rising}
+use Rattle.logic.specs.Lists.{some, only, upFrom, Rising}
 use Rattle.rule.specs.Spacing.{Standing}
 use Rattle.rule.specs.Judgement.{isPermittedBeside, permitted}
 use Rattle.rule.proofs.Tests.{same-leb}

@@ -13,7 +13,7 @@ use Rattle.word.specs.declared.answer.Refusal.the-variants.{OffGrid, OutOfRange
 use Rattle.word.specs.declared.answer.Answer.{Answer}
 use Rattle.word.specs.declared.answer.Answer.the-variants.{Ground, Refused}
 use Rattle.rule.specs.declared.terms.Setting.{Setting}
-use Rattle.rule.specs.Lists.{some, upFrom}
+use Rattle.logic.specs.Lists.{some, upFrom}
 use Rattle.rule.specs.Grids.{gridOf}
 use Rattle.rule.specs.Ranges.{rangeOf}
 use Rattle.word.specs.Answers.{isAccepted}

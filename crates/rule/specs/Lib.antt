@@ -1,4 +1,3 @@
-pub mod Lists
 pub mod Terms
 pub mod Grids
 pub mod Ranges

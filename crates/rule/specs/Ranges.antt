@@ -4,7 +4,7 @@ use mathlib.Core.Bool.{Bool, true, false, cond, _&&_, _||_}
 use mathlib.Core.List.{List, [], _∷_}
 use lib.Dec.{leb, ltb, eqb}
 use Rattle.rule.specs.declared.terms.Setting.{Setting}
-use Rattle.rule.specs.Lists.{some}
+use Rattle.logic.specs.Lists.{some}
 use Rattle.rule.specs.Terms.{cents, isDollarClass, isNear, price}
 use Rattle.rule.specs.Grids.{multiple, standardGrid, halfDollars, wingBase}
 

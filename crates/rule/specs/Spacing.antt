@@ -5,7 +5,7 @@ use mathlib.Core.List.{List}
 use lib.Dec.{leb, eqb}
 use Rattle.word.specs.Field.{field}
 use Rattle.rule.specs.declared.terms.Setting.{Setting}
-use Rattle.rule.specs.Lists.{every}
+use Rattle.logic.specs.Lists.{every}
 use Rattle.rule.specs.Terms.{cents, isLong}
 
 -- a strike that stands, in half dollars, and its ground

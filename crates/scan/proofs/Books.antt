@@ -9,22 +9,21 @@ use lib.ListN.{length, take, drop, getD, replicate, length-map, length-drop, len
 use lib.Seq.{drop-cons, drop-drop, take-nil, take-all, take-at, drop-at, length-take-le}
 use lib.Dec.{T, eqb, leb, ltb, leb→le, le→leb, eqb→eq}
 use borrow.Author.Tests.{not-true, not-false}
+use Rattle.logic.specs.Lists.{rises, every}
 use Rattle.word.specs.Codec.{Head, isLegal, packed}
 use Rattle.word.specs.Limits.{isLength, isMonth}
 use Rattle.word.specs.Programs.{program}
 use Rattle.word.specs.Field.{field}
-use Rattle.rule.specs.Lists.{every}
 use Rattle.book.specs.Facts.{OpenClass, Facts, number, owned, wordsTaken}
 use Rattle.book.specs.Layout.{classesWords, used, layout, factsOf}
-use Rattle.book.specs.Books.{rises, isClass, isWellFormed, isBook}
+use Rattle.book.specs.Books.{isClass, isWellFormed, isBook}
 use Rattle.word.proofs.Words.{head-fields}
 use Rattle.book.proofs.LegalWords.{fits}
-use Rattle.book.proofs.Tests.{and-intro, ands, true-T, same-bool}
+use Rattle.logic.proofs.Tests.{and-intro, ands, true-T, same-bool, refuted}
 use Rattle.book.proofs.Forms.{well}
 use Rattle.book.proofs.Layouts.{used-taken, book-facts, book-exactly}
 use Rattle.scan.specs.Tests.{isZero, isHeadWord}
 use Rattle.scan.specs.Stretches.{leads, Classes}
-use Rattle.scan.proofs.Tests.{refuted}
 use Rattle.scan.proofs.Words.{head-packed, head-top}
 use Rattle.scan.proofs.Zeros.{zeros-replicate, replicate-zeros}
 

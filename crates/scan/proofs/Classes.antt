@@ -11,13 +11,12 @@ use borrow.Author.Tests.{ltb-true, ltb-false, not-true, not-false}
 use Rattle.word.specs.Field.{field}
 use Rattle.word.specs.Caps.{own}
 use Rattle.word.specs.Programs.{program, dollarProgram, halfProgram}
-use Rattle.rule.specs.Lists.{every}
+use Rattle.logic.specs.Lists.{every}
 use Rattle.book.specs.Facts.{OpenClass}
 use Rattle.book.specs.Books.{isClass}
-use Rattle.book.proofs.Tests.{and-intro, ands, true-T}
+use Rattle.logic.proofs.Tests.{and-intro, ands, true-T, or-none}
 use Rattle.scan.specs.Tests.{designationIn, isClassAbove, isCloseWord, isVolumeWord}
 use Rattle.scan.specs.Stretches.{isFrom, SeriesThen, ClassesWhere, Classes, SeriesEnd}
-use Rattle.scan.proofs.Tests.{or-none}
 use Rattle.scan.proofs.Places.{three-at}
 use Rattle.scan.proofs.Figures.{FiguresThen, figures, classes-length}
 

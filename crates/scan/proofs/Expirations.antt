@@ -12,10 +12,10 @@ use borrow.Author.Tests.{not-true, not-false}
 use Rattle.word.specs.Limits.{between}
 use Rattle.word.specs.Field.{field}
 use Rattle.word.specs.Codec.{Expiration, packed, kindOf}
-use Rattle.rule.specs.Lists.{every}
+use Rattle.logic.specs.Lists.{every}
 use Rattle.book.specs.Facts.{OpenClass}
 use Rattle.book.specs.Books.{isClass}
-use Rattle.book.proofs.Tests.{ands, true-T}
+use Rattle.logic.proofs.Tests.{ands, true-T}
 use Rattle.scan.specs.Tests.{nextLength}
 use Rattle.scan.specs.Stretches.{isFrom, SeriesThen, SeriesEnd, Stretched}
 use Rattle.scan.specs.declared.Stretch.the-variants.{Breaks}

@@ -7,19 +7,19 @@ use mathlib.Core.List.{List, [], _∷_, map}
 use native.Mathlib.Omega.{arith}
 use lib.ListN.{length, getD}
 use lib.Dec.{T, ltb, le→leb}
+use Rattle.logic.specs.Lists.{rises, every}
 use Rattle.word.specs.Codec.{Close, Volume, isLegal, packed}
 use Rattle.word.specs.Limits.{isClose, isVolume}
 use Rattle.word.specs.Field.{field}
 use Rattle.word.specs.Caps.{own}
 use Rattle.word.specs.Programs.{program, dollarProgram, halfProgram}
 use Rattle.word.specs.Class.{designation}
-use Rattle.rule.specs.Lists.{every}
 use Rattle.book.specs.Facts.{Series, OpenClass, number, precedes, owned}
 use Rattle.book.specs.Layout.{seriesWords, classWord, classesWords}
-use Rattle.book.specs.Books.{rises, isSeries, areFigures, isClass}
+use Rattle.book.specs.Books.{isSeries, areFigures, isClass}
 use Rattle.word.proofs.Words.{class-fields}
 use Rattle.book.proofs.LegalWords.{fits}
-use Rattle.book.proofs.Tests.{and-intro, ands}
+use Rattle.logic.proofs.Tests.{and-intro, ands}
 use Rattle.scan.specs.Tests.{designationIn, isClassAbove, isCloseWord, isVolumeWord}
 use Rattle.scan.specs.Stretches.{leads, isFrom, SeriesThen, ClassesWhere, Classes}
 use Rattle.scan.proofs.Words.{figuresIn, classIn, class-packed, class-test, close-packed, close-test, volume-packed, volume-test}

@@ -12,7 +12,7 @@ use Rattle.word.specs.Codec.{Head, packed}
 use Rattle.word.specs.Limits.{isLength}
 use Rattle.book.specs.Facts.{fresh}
 use Rattle.book.specs.Layout.{layout}
-use Rattle.book.proofs.Tests.{true-T}
+use Rattle.logic.proofs.Tests.{true-T}
 use Rattle.book.specs.Made.{Begun}
 
 -- a head before zeros

@@ -1,5 +1,4 @@
 -- The laws that the functions' proofs cite.
-pub mod Tests
 pub mod Words
 pub mod NextStrikes
 pub mod Series

@@ -7,9 +7,8 @@ use native.Mathlib.Omega.{arith}
 use lib.ListN.{getD}
 use lib.Dec.{T, leb, ltb, ltb→lt, lt→ltb, le→leb, eqb→eq}
 use Rattle.word.specs.Field.{field}
-use Rattle.book.proofs.Tests.{and-intro, ands, true-T}
+use Rattle.logic.proofs.Tests.{and-intro, ands, true-T, refuted}
 use Rattle.scan.specs.Tests.{orderOf, isNextStrike, nextLength}
-use Rattle.scan.proofs.Tests.{refuted}
 use Rattle.scan.proofs.Words.{isStrikeAbove}
 
 -- a word of a strike's kind with no bit beside a strike's

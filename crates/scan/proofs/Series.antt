@@ -8,19 +8,17 @@ use native.Mathlib.Omega.{arith}
 use lib.ListN.{drop, getD}
 use lib.Dec.{T, eqb, leb, ltb, leb→le, ltb→lt, lt→ltb, le→leb, eqb→eq}
 use borrow.Author.Tests.{eqb-true, eqb-false, eq-eqb, ne-eqb}
+use Rattle.logic.specs.Lists.{rises, every}
 use Rattle.word.specs.Codec.{Word, Expiration, isLegal, packed, kindOf}
 use Rattle.word.specs.Field.{field}
-use Rattle.rule.specs.Lists.{every}
 use Rattle.book.specs.Facts.{Series, OpenClass, precedes}
 use Rattle.book.specs.Layout.{strikeWord, classWord, expirationUnless, seriesWords, classesWords}
-use Rattle.book.specs.Books.{rises, isListed, isSeries, isClass}
+use Rattle.book.specs.Books.{isListed, isSeries, isClass}
 use Rattle.word.proofs.Words.{kind-packed}
-use Rattle.book.proofs.Alternatives.{or-left, or-right}
+use Rattle.logic.proofs.Tests.{or-left, or-right, and-intro, ands, T-true, true-T, equal-test, or-else}
 use Rattle.book.proofs.LegalWords.{fits, strike-legal, month-legal, figures-legal}
-use Rattle.book.proofs.Tests.{and-intro, ands, T-true, true-T, equal-test}
 use Rattle.scan.specs.Tests.{isNextStrike, nextLength}
 use Rattle.scan.specs.Stretches.{leads, isFrom, SeriesThen}
-use Rattle.scan.proofs.Tests.{or-else}
 use Rattle.scan.proofs.Words.{isStrikeAbove, strikeIn, strike-packed, strike-test, isExpirationFrom, expiration-packed, expiration-field}
 use Rattle.scan.proofs.NextStrikes.{IsStrike, lastNext, areStrikes, HasStrikes, next-strike, next-rises, next-above, above-next, above-none, next-rising, strike-order}
 

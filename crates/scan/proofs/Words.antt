@@ -16,7 +16,7 @@ use Rattle.book.specs.Facts.{Series}
 use Rattle.book.specs.Layout.{strikeWord, classWord}
 use Rattle.book.specs.Books.{isListed}
 use Rattle.book.proofs.LegalWords.{fits}
-use Rattle.book.proofs.Tests.{and-intro, ands, equal-test, same-bool}
+use Rattle.logic.proofs.Tests.{and-intro, ands, equal-test, same-bool}
 use Rattle.scan.specs.Tests.{designationIn, isClassAbove, isCloseWord, isVolumeWord}
 
 -- ---- the head

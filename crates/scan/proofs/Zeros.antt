@@ -8,8 +8,8 @@ use lib.ListN.{length, drop, getD, replicate, drop-of-length-le}
 use lib.Bits.{bitOr, or-add-and, and-le-l, and-le-r}
 use lib.Dec.{T, eqb, eqb→eq}
 use borrow.Author.Tests.{eqb-true, eqb-false, eq-eqb, ne-eqb}
-use Rattle.rule.specs.Lists.{every}
-use Rattle.book.proofs.Tests.{ands}
+use Rattle.logic.specs.Lists.{every}
+use Rattle.logic.proofs.Tests.{ands}
 use Rattle.scan.specs.Tests.{isZero}
 use Rattle.scan.proofs.Places.{word-at}
 

@@ -6,12 +6,12 @@ use mathlib.Core.Bool.{Bool, true}
 use mathlib.Core.List.{List, [], _∷_, map}
 use lib.ListN.{length, drop}
 use lib.Dec.{T, leb, ltb}
+use Rattle.logic.specs.Lists.{rises, every}
 use Rattle.word.specs.Programs.{program}
 use Rattle.word.specs.Codec.{packed}
-use Rattle.rule.specs.Lists.{every}
 use Rattle.book.specs.Facts.{Series, OpenClass, number, isBelow, precedes, owned}
 use Rattle.book.specs.Layout.{seriesWords, classesWords}
-use Rattle.book.specs.Books.{rises, isSeries, isClass}
+use Rattle.book.specs.Books.{isSeries, isClass}
 use Rattle.scan.specs.Ahead.{Tells}
 use Rattle.scan.specs.declared.Stretch.{Stretch}
 use Rattle.scan.specs.declared.Stretch.the-variants.{EndsAt, Breaks}

@@ -6,7 +6,7 @@ ghost use Prim.Native.Nat.{_+_, _<_, _≤_, min};
 ghost use lib.ListN.{drop, length};
 ghost use lib.Dec.{T, leb, ltb};
 ghost use Rattle.word.specs.Field.{field};
-ghost use Rattle.rule.specs.Lists.{every};
+ghost use Rattle.logic.specs.Lists.{every};
 ghost use Rattle.book.specs.Books.{isBook};
 ghost use Rattle.book.specs.Made.{Begun};
 ghost use Rattle.scan.specs.Tests.{isZero, isClassAbove, isCloseWord, isVolumeWord};

@@ -11,17 +11,17 @@ use lib.Seq.{getD-take, getD-drop, length-take-le}
 use borrow.Author.Tests.{ltb-true, ltb-false, lt-ltb, le-ltb, eq-eqb, ne-eqb}
 use Rattle.word.specs.Codec.{Word, Head, Close, Volume, Expiration, isLegal, packed, kindOf}
 use Rattle.word.proofs.Words.{legal-fits, kindIn, kind-packed}
-use Rattle.rule.specs.Lists.{every, only}
+use Rattle.logic.specs.Lists.{every, only}
 use Rattle.rule.proofs.Tests.{and-left}
 use Rattle.book.specs.Facts.{Series, OpenClass, number, isOpen, inMonth}
 use Rattle.book.specs.Layout.{strikeWord, expirationUnless, seriesWords, classWord, figuresWords, classesWords, used, factsOf}
 use Rattle.book.specs.Books.{isSeries, isBook}
 use Rattle.book.specs.Views.{class}
 use Rattle.book.specs.Places.{hasExpiration, strikesPlace, strikesEnd}
-use Rattle.book.proofs.Tests.{and-intro, ands, T-true}
-use Rattle.book.proofs.Lists.{every-map, every-true}
-use Rattle.book.proofs.Parts.{isUnder, isOver}
-use Rattle.book.proofs.Splits.{every-split}
+use Rattle.logic.proofs.Tests.{and-intro, ands, T-true}
+use Rattle.logic.proofs.Lists.{every-map, every-true}
+use Rattle.logic.proofs.Parts.{isUnder, isOver}
+use Rattle.logic.proofs.Splits.{every-split}
 use Rattle.book.proofs.ClassWords.{book-words}
 use Rattle.book.proofs.Expirations.{monthOf}
 use Rattle.book.proofs.Runs.{bookWords, run-word, strikes-within, strikes-part, strikes-good, expiration-strikes, expiration-length}

@@ -18,7 +18,7 @@ use Rattle.rule.specs.Judgement.{judgement}
 use Rattle.book.specs.Layout.{used, factsOf}
 use Rattle.book.specs.Views.{View, viewOf, isNotOpen, isStanding, setting, standingIn}
 use Rattle.book.specs.Places.{strikePlace}
-use Rattle.book.proofs.Tests.{ands}
+use Rattle.logic.proofs.Tests.{ands}
 use Rattle.book.proofs.Permits.{judged-answer}
 use Rattle.book.proofs.Runs.{strike-within}
 use Rattle.place.specs.declared.lookup.StrikeSearch.{StrikeSearch}

@@ -25,7 +25,7 @@ use Rattle.book.specs.Calls.{on, callJ, callL, isPlace, firstOr, noneApplies, j
 use Rattle.book.specs.Places.{hasExpiration}
 use Rattle.book.specs.Permission.{withStrike}
 use Rattle.book.specs.Made.{Made}
-use Rattle.book.proofs.Tests.{ands, true-T}
+use Rattle.logic.proofs.Tests.{ands, true-T}
 use Rattle.book.proofs.Keep.{ground-limit}
 use Rattle.book.proofs.Layouts.{book-facts, used-taken}
 use Rattle.book.proofs.Order.{granted-answer, first-accepted, first-append}

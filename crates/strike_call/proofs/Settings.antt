@@ -14,7 +14,7 @@ use Rattle.book.specs.Layout.{factsOf}
 use Rattle.book.specs.Books.{isBook}
 use Rattle.book.specs.Views.{View, viewOf, class, isNotOpen, hasNoClose, setting}
 use Rattle.book.specs.Places.{classPlace}
-use Rattle.book.proofs.Tests.{ands, T-true}
+use Rattle.logic.proofs.Tests.{ands, T-true}
 use Rattle.book.proofs.ClassWords.{class-good}
 use Rattle.place.specs.Search.{figuresAt}
 use Rattle.place.proofs.Heads.{book-good}

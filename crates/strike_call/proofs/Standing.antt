@@ -20,7 +20,7 @@ use Rattle.book.specs.Changes.{update, strikeRemoved, marksSet}
 use Rattle.book.specs.Calls.{on, callX, callI, isPlace, effectOn, answerTo}
 use Rattle.book.specs.Places.{strikesPlace, strikesEnd, strikePlace}
 use Rattle.book.specs.Made.{Made}
-use Rattle.book.proofs.Tests.{true-T}
+use Rattle.logic.proofs.Tests.{true-T}
 use Rattle.book.proofs.Layouts.{book-facts}
 use Rattle.book.proofs.Runs.{strike-stands, standing-within, interest-says, used-within}
 use Rattle.book.proofs.Answered.{made-refused, made-accepted}

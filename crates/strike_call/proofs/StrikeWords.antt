@@ -11,7 +11,7 @@ use lib.ListN.{length, getD, take, drop, length-append, length-map, List·getD-a
 use lib.Seq.{take-nil, take-take, drop-drop, getD-append-add}
 use borrow.Author.Tests.{ltb-true, ltb-false}
 use Rattle.rule.specs.declared.terms.Setting.{Setting}
-use Rattle.rule.specs.Lists.{Rising}
+use Rattle.logic.specs.Lists.{Rising}
 use Rattle.rule.specs.Spacing.{Standing, standingIn as standingOf}
 use Rattle.rule.specs.Judgement.{judgement}
 use Rattle.rule.proofs.Walks.{every-map}
@@ -23,7 +23,7 @@ use Rattle.book.specs.Books.{isBook}
 use Rattle.book.specs.Views.{class, viewOf, isStanding, standingIn}
 use Rattle.book.specs.Places.{hasExpiration, strikesPlace, strikesEnd, strikePlace}
 use Rattle.book.proofs.Layouts.{book-facts}
-use Rattle.book.proofs.Parts.{only-absent, only-both, every-kept, isUnder, isEqual, isOver}
+use Rattle.logic.proofs.Parts.{only-absent, only-both, every-kept, isUnder, isEqual, isOver}
 use Rattle.book.proofs.ClassWords.{series-good}
 use Rattle.book.proofs.Expirations.{monthOf, strikeOf, low, placed, high, strike-parts, strikes-rise}
 use Rattle.book.proofs.Runs.{strikes-standing}

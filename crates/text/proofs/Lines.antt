@@ -12,7 +12,7 @@ use lib.Dec.{leb}
 use borrow.Author.Tests.{le-leb}
 use Rattle.word.specs.Limits.{between}
 use Rattle.word.proofs.Tests.{and-both}
-use Rattle.rule.specs.Lists.{every}
+use Rattle.logic.specs.Lists.{every}
 use Rattle.book.specs.Calls.{malformed}
 use Rattle.book.specs.Letters.{callOf}
 use Rattle.text.specs.declared.line.Phase.{Phase}

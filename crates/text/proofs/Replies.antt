@@ -17,7 +17,7 @@ use Rattle.book.specs.Layout.{factsOf}
 use Rattle.book.specs.Books.{isBook}
 use Rattle.book.specs.Calls.{Call, answerTo, written}
 use Rattle.book.specs.Made.{over, Made}
-use Rattle.book.proofs.Tests.{T-true}
+use Rattle.logic.proofs.Tests.{T-true}
 use Rattle.book.proofs.Order.{written-count}
 use Rattle.book.proofs.Followed.{made-words, made-book}
 use Rattle.text.specs.Printing.{answerText, replyTo}

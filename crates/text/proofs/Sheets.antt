@@ -17,7 +17,7 @@ use Rattle.book.specs.Books.{isBook}
 use Rattle.book.specs.Calls.{Call, steps}
 use Rattle.book.specs.CallLists.{answersTo, told, secondAfter}
 use Rattle.book.specs.Made.{Made}
-use Rattle.book.proofs.Tests.{T-true, true-T}
+use Rattle.logic.proofs.Tests.{T-true, true-T}
 use Rattle.book.proofs.Layouts.{book-facts}
 use Rattle.book.proofs.Followed.{made-book}
 use Rattle.text.specs.declared.sheet.LineAnswer.{LineAnswer}

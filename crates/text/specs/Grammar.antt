@@ -7,7 +7,7 @@ use lib.ListN.{length, take}
 use lib.Seq.{sets}
 use lib.Dec.{eqb}
 use Rattle.word.specs.Limits.{between}
-use Rattle.rule.specs.Lists.{every}
+use Rattle.logic.specs.Lists.{every}
 use Rattle.book.specs.Calls.{Call, malformed}
 use Rattle.book.specs.Letters.{callOf}
 use Rattle.text.specs.declared.line.Phase.the-variants.{Letter}

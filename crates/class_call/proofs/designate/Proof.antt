@@ -7,7 +7,7 @@ use borrow.Author.Needs.{needs}
 use Rattle.word.specs.Limits.{isClassNumber, isDesignation}
 use Rattle.word.specs.Programs.{isProgram}
 use Rattle.book.specs.Calls.{on, callD, effectOn}
-use Rattle.book.proofs.Tests.{ands}
+use Rattle.logic.proofs.Tests.{ands}
 use Rattle.book.proofs.Answered.{made-beyond, made-not-open}
 use Rattle.class_call.proofs.Ways.{passed, open-room, Found}
 use Rattle.class_call.proofs.DesignationWays.{designation-program, designation-refused, designation-storable, designation-set}

@@ -5,7 +5,7 @@ use native.Mathlib.Omega.{arith}
 use borrow.Author.Needs.{needs}
 use Rattle.word.specs.Limits.{isClassNumber, isPrice}
 use Rattle.book.specs.Calls.{on, callC, effectOn}
-use Rattle.book.proofs.Tests.{ands}
+use Rattle.logic.proofs.Tests.{ands}
 use Rattle.book.proofs.Answered.{made-beyond, made-not-open}
 use Rattle.class_call.proofs.Ways.{passed, open-room, Found}
 use Rattle.class_call.proofs.FigureWays.{close-storable, close-set}

@@ -5,7 +5,7 @@ use native.Mathlib.Omega.{arith}
 use borrow.Author.Needs.{needs}
 use Rattle.word.specs.Limits.{isClassNumber, isVolume}
 use Rattle.book.specs.Calls.{on, callV, effectOn}
-use Rattle.book.proofs.Tests.{ands}
+use Rattle.logic.proofs.Tests.{ands}
 use Rattle.book.proofs.Answered.{made-beyond, made-not-open}
 use Rattle.class_call.proofs.Ways.{passed, open-room, Found}
 use Rattle.class_call.proofs.FigureWays.{volume-storable, volume-set}

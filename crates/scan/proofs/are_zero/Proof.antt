@@ -6,7 +6,7 @@ use native.Mathlib.Omega.{arith}
 use lib.ListN.{length, drop}
 use lib.Dec.{eqb}
 use borrow.Author.Needs.{needs}
-use Rattle.rule.specs.Lists.{every}
+use Rattle.logic.specs.Lists.{every}
 use Rattle.scan.specs.Tests.{isZero}
 use Rattle.scan.proofs.Zeros.{zeros-more, zeros-done}
 use Rattle.scan.proofs.are_zero.Statement.{statement}

@@ -11,7 +11,7 @@ use borrow.Author.Needs.{needs}
 use borrow.Author.Tests.{not-true, not-false}
 use Rattle.word.specs.Field.{field}
 use Rattle.word.specs.Limits.{isLength}
-use Rattle.book.proofs.Tests.{true-T}
+use Rattle.logic.proofs.Tests.{true-T}
 use Rattle.scan.specs.Tests.{isHeadWord}
 use Rattle.scan.specs.Stretches.{Classes}
 use Rattle.scan.proofs.Books.{monthIn, front, used-front, some-words, head-within, wrong-length, wrong-head, wrong-classes, zeros-left}

@@ -10,7 +10,7 @@ use Rattle.word.specs.Limits.{isLength}
 use Rattle.book.specs.Facts.{fresh}
 use Rattle.book.specs.Layout.{layout}
 use Rattle.book.specs.Made.{Begun}
-use Rattle.book.proofs.Tests.{T-true}
+use Rattle.logic.proofs.Tests.{T-true}
 use Rattle.sheet.proofs.Carrying.{good-length}
 use Rattle.sheet.proofs.begin.Statement.{statement}
 use Rattle.sheet.proofs.begin.Tie as tie

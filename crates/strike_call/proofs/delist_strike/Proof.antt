@@ -11,7 +11,7 @@ use Rattle.book.specs.Facts.{isOpen}
 use Rattle.book.specs.Layout.{factsOf}
 use Rattle.book.specs.Calls.{on, callX, isPlace, effectOn}
 use Rattle.book.specs.Places.{ClassBegins}
-use Rattle.book.proofs.Tests.{ands}
+use Rattle.logic.proofs.Tests.{ands}
 use Rattle.book.proofs.Answered.{made-beyond, made-not-open}
 use Rattle.place.specs.Lookups.{strikeSearchOf}
 use Rattle.place.proofs.Heads.{book-long}

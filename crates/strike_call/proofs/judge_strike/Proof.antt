@@ -8,7 +8,7 @@ use Rattle.book.specs.Facts.{isOpen}
 use Rattle.book.specs.Layout.{factsOf}
 use Rattle.book.specs.Calls.{on, callJ, isPlace, effectOn}
 use Rattle.book.specs.Places.{ClassBegins}
-use Rattle.book.proofs.Tests.{ands}
+use Rattle.logic.proofs.Tests.{ands}
 use Rattle.book.proofs.Answered.{made-beyond, made-not-open}
 use Rattle.strike_call.specs.Judging.{Sought}
 use Rattle.strike_call.proofs.Standing.{passed}

@@ -12,7 +12,7 @@ use Rattle.book.specs.Layout.{factsOf}
 use Rattle.book.specs.Views.{viewOf}
 use Rattle.book.specs.Calls.{on, callL, isPlace, effectOn}
 use Rattle.book.specs.Places.{ClassBegins, hasExpiration}
-use Rattle.book.proofs.Tests.{ands}
+use Rattle.logic.proofs.Tests.{ands}
 use Rattle.book.proofs.Answered.{made-beyond, made-not-open}
 use Rattle.place.specs.declared.lookup.StrikeSearch.{StrikeSearch}
 use Rattle.place.proofs.Heads.{book-room, book-long}

@@ -9,7 +9,7 @@ use Rattle.book.specs.Facts.{isOpen}
 use Rattle.book.specs.Layout.{factsOf}
 use Rattle.book.specs.Calls.{on, callI, isPlace, effectOn}
 use Rattle.book.specs.Places.{ClassBegins, StrikeStands}
-use Rattle.book.proofs.Tests.{ands}
+use Rattle.logic.proofs.Tests.{ands}
 use Rattle.book.proofs.Answered.{made-beyond, made-not-open}
 use Rattle.place.specs.Lookups.{strikeSearchOf}
 use Rattle.strike_call.proofs.Standing.{passed, found-place, strike-standing, mark-not-standing, mark-done}

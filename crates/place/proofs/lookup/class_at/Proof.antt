@@ -8,7 +8,7 @@ use borrow.Author.Needs.{needs}
 use borrow.Author.Tests.{eqb-true}
 use Rattle.word.specs.Limits.{isClassNumber}
 use Rattle.word.proofs.Tests.{and-both, between-high}
-use Rattle.book.proofs.Tests.{T-true}
+use Rattle.logic.proofs.Tests.{T-true}
 use Rattle.place.specs.Search.{isHolding}
 use Rattle.place.proofs.Near.{near-holds}
 use Rattle.place.proofs.Heads.{book-room}

@@ -8,7 +8,7 @@ use borrow.Author.Needs.{needs}
 use Rattle.word.specs.Limits.{isStrike}
 use Rattle.word.proofs.Tests.{between-high}
 use Rattle.book.specs.Layout.{used, factsOf}
-use Rattle.book.proofs.Tests.{T-true}
+use Rattle.logic.proofs.Tests.{T-true}
 use Rattle.place.proofs.Heads.{book-room}
 use Rattle.place.proofs.Found.{begins-room}
 use Rattle.place.proofs.Answers.{used-there, no-strike, its-strike}

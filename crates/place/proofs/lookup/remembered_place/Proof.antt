@@ -10,7 +10,7 @@ use borrow.Author.Needs.{needs}
 use borrow.Author.Tests.{leb-true, leb-false, lt-ltb, le-ltb, not-true, not-false}
 use Rattle.word.specs.Limits.{isClassNumber}
 use Rattle.book.specs.Layout.{used, factsOf}
-use Rattle.book.proofs.Tests.{ands, true-T}
+use Rattle.logic.proofs.Tests.{ands, true-T}
 use Rattle.place.specs.Lookups.{isRemembered}
 use Rattle.place.proofs.Heads.{book-room, book-long}
 use Rattle.place.proofs.Found.{class-within}

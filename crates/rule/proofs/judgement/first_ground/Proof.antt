@@ -9,7 +9,7 @@ use native.Mathlib.Omega.{arith}
 use borrow.Author.Needs.{needs}
 use borrow.Author.Tests.{not-true, not-false}
 use lib.ListN.{length, getD}
-use Rattle.rule.specs.Lists.{every}
+use Rattle.logic.specs.Lists.{every}
 use Rattle.rule.specs.Spacing.{clears, standingIn}
 use Rattle.rule.specs.Judgement.{passes, passesRange, rowOf}
 use Rattle.rule.proofs.Rows.{found-range}

@@ -7,7 +7,7 @@ use lib.Dec.{T}
 use borrow.Author.Needs.{needs}
 use borrow.Author.Tests.{not-true, not-false}
 use Rattle.book.specs.Books.{isBook}
-use Rattle.book.proofs.Tests.{true-T}
+use Rattle.logic.proofs.Tests.{true-T}
 use Rattle.book.proofs.Answered.{made-no-book}
 use Rattle.text.specs.Sheets.{lineAt}
 use Rattle.text.proofs.Made.{made-read}

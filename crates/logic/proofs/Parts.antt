@@ -1,4 +1,5 @@
--- A list that rises by a number of its elements is what stands below a number, at it and above it, and an edit at that number leaves what stands beside it: by induction on the list. Assumes nothing.
+-- A list that rises by a number of its elements is what stands below a number, at it and above it, and an edit at that
+-- number leaves what stands beside it: by induction on the list. Assumes nothing.
 use Prim.Native.Nat.{ℕ, suc, _≤_, _<_}
 use mathlib.Core.Path.{_≡_, refl, sym, ap, _∙_, subst}
 use mathlib.Core.Bool.{Bool, true, false, cond, not, _&&_, _||_, and-comm}
@@ -8,12 +9,9 @@ use native.Mathlib.Omega.{arith}
 use lib.ListN.{length}
 use lib.Dec.{T, eqb, leb, ltb, leb→le, le→leb, ltb→lt, eqb→eq}
 use borrow.Author.Tests.{eqb-true, lt-ltb, le-ltb, eq-eqb, ne-eqb, not-true}
-use Rattle.rule.specs.Lists.{every, some, only}
-use Rattle.rule.proofs.Near.{not-some}
-use Rattle.book.specs.Facts.{inserted}
-use Rattle.book.proofs.Tests.{and-intro, ands, T-true}
-use Rattle.book.proofs.Alternatives.{or-left, or-right, trichotomy}
-use Rattle.book.proofs.Lists.{every-imply, ordered}
+use Rattle.logic.specs.Lists.{every, some, only, inserted}
+use Rattle.logic.proofs.Tests.{and-intro, ands, T-true, or-left, or-right, trichotomy}
+use Rattle.logic.proofs.Lists.{not-some, every-true, every-imply, ordered}
 
 module _ {A : Type 0} where
   -- none is kept by p where each passes q, which p excludes
@@ -187,11 +185,7 @@ module _ {A : Type 0} (key : A → ℕ) (k : ℕ) where
   distinct-parts xs t =
       three-parts xs
       (ordered-imply (λ x. true) (λ x y. ltb (key x) (key y)) (λ x y. leb (key x) (key y))
-      (λ x y a b l. le→leb (key x) (key y) (omega (arith, ltb→lt (key x) (key y) l))) xs (all xs) t)
-    where
-      all : (ys : List A) → T (every (λ y. true) ys)
-      all [] = tt
-      all (y ∷ ys) = all ys
+      (λ x y a b l. le→leb (key x) (key y) (omega (arith, ltb→lt (key x) (key y) l))) xs (every-true xs) t)
 
   -- there one that has the number k has it alone
   pub record Single (xs : List A) : Type 0 where

@@ -1,4 +1,5 @@
--- Tests over the parts of a list: over a list in two parts, over those that pass another test, and over the parts by a key. By induction on the list, and by cases on the parts. Assumes nothing.
+-- Tests over the parts of a list: over a list in two parts, over those that pass another test, and over the parts by a
+-- key. By induction on the list, and by cases on the parts. Assumes nothing.
 use Prim.Native.Nat.{ℕ, suc, _<_}
 use mathlib.Core.Path.{_≡_, refl, sym, _∙_}
 use mathlib.Core.Bool.{Bool, false}
@@ -7,9 +8,9 @@ use native.Mathlib.Omega.{arith}
 use lib.ListN.{length}
 use lib.Dec.{T, eqb, ltb, ltb→lt}
 use borrow.Author.Tests.{lt-ltb, ne-eqb}
-use Rattle.rule.specs.Lists.{every, some, only}
-use Rattle.book.proofs.Tests.{and-intro, ands, T-true}
-use Rattle.book.proofs.Parts.{every-kept, some-only, some-all, isEqual, isOver}
+use Rattle.logic.specs.Lists.{every, some, only}
+use Rattle.logic.proofs.Tests.{and-intro, ands, T-true}
+use Rattle.logic.proofs.Parts.{every-kept, some-only, some-all, isEqual, isOver}
 
 module _ {A : Type 0} where
   pub every-split : (p : A → Bool) (xs ys : List A) → T (every p (xs ++ ys)) → T (every p xs) × T (every p ys)

@@ -1,4 +1,5 @@
--- Lists under any test and any order: what keeping some, changing each and inserting one leave of `every`, `some`, `rises` and sums, through the form in which each element stands before all later ones. Assumes nothing.
+-- Lists under any test and any order: what keeping some, changing each and inserting one leave of `every`, `some`,
+-- `rises` and sums, through the form in which each element stands before all later ones. Assumes nothing.
 use Prim.Native.Nat.{ℕ, zero, suc, _+_, _≤_, _<_, zero-le}
 use mathlib.Core.Path.{_≡_, refl, sym, ap, _∙_, subst}
 use mathlib.Core.Bool.{Bool, true, false, cond, not, _&&_, _||_, or-true}
@@ -7,12 +8,16 @@ use mathlib.Core.Logic.{inl, inr}
 use native.Mathlib.Omega.{arith}
 use lib.ListN.{length, getD}
 use lib.Dec.{T, T-not}
-use Rattle.rule.specs.Lists.{every, some, only}
-use Rattle.rule.proofs.Near.{not-some}
-use Rattle.book.specs.Facts.{inserted, sum}
-use Rattle.book.specs.Books.{rises}
-use Rattle.book.proofs.Tests.{and-intro, ands}
-use Rattle.book.proofs.Alternatives.{or-cases}
+use Rattle.logic.specs.Lists.{every, some, only, sum, rises, inserted}
+use Rattle.logic.proofs.Tests.{and-intro, ands, or-cases}
+
+pub not-some : {A : Type 0} (test : A → Bool) (xs : List A) → not (some test xs) ≡ every (λ x. not (test x)) xs
+not-some test [] = refl
+not-some test (x ∷ xs) = go (test x) (not-some test xs)
+  where
+    go : (t : Bool) → not (some test xs) ≡ every (λ x. not (test x)) xs → not (t || some test xs) ≡ (not t && every (λ x. not (test x)) xs)
+    go true r = refl
+    go false r = r
 
 -- ---- a test of each element
 

@@ -1,5 +1,6 @@
--- Tests over lists, and the numbers from one on: no sentence of document 01, but words that its sentences are said in. Assumes nothing.
-use Prim.Native.Nat.{ℕ, zero, suc, _<_}
+-- Inner: tests and sums over lists, orders of lists, and the numbers from one on: words that document 01's sentences are
+-- said in. Assumes nothing.
+use Prim.Native.Nat.{ℕ, zero, suc, _+_, _<_}
 use mathlib.Core.Bool.{Bool, true, false, cond, _&&_, _||_}
 use mathlib.Core.List.{List, [], _∷_}
 
@@ -27,3 +28,20 @@ abbrev pub Rising : List ℕ → Type 0
 Rising [] = Unit {0}
 Rising (x ∷ []) = Unit {0}
 Rising (x ∷ y ∷ ys) = (x < y) × Rising (y ∷ ys)
+
+module _ {A : Type 0} (size : A → ℕ) where
+  abbrev pub sum : List A → ℕ
+  sum [] = 0
+  sum (x ∷ xs) = size x + sum xs
+
+module _ {A : Type 0} (before : A → A → Bool) where
+  -- each stands before the next one
+  abbrev pub rises : List A → Bool
+  rises [] = true
+  rises (x ∷ []) = true
+  rises (x ∷ y ∷ ys) = before x y && rises (y ∷ ys)
+
+  -- y put before the first that it stands before
+  abbrev pub inserted : A → List A → List A
+  inserted y [] = y ∷ []
+  inserted y (x ∷ xs) = cond (before y x) (y ∷ x ∷ xs) (x ∷ inserted y xs)

@@ -1,0 +1,95 @@
+-- Tests joined by `and` and `or`, tests that fail, the test of equal numbers and numbers in order: by cases on the tests.
+-- Assumes nothing.
+use Prim.Native.Nat.{ℕ, _<_}
+use mathlib.Core.Path.{_≡_, refl, sym}
+use mathlib.Core.Bool.{Bool, true, false, not, _&&_, _||_}
+use mathlib.Core.Logic.{_⊎_, inl, inr}
+use native.Mathlib.Omega.{arith}
+use lib.Dec.{T, eqb, leb, ltb, eqb→eq, eqb-refl}
+use borrow.Author.Tests.{ltb-true, ltb-false, leb-true, leb-false, lt-ltb, le-ltb}
+
+pub and-left : (a b : Bool) → T (a && b) → T a
+and-left true b t = tt
+and-left false b t = t
+
+pub and-right : (a b : Bool) → T (a && b) → T b
+and-right true b t = t
+and-right false b t = absurd t
+
+pub and-intro : (a b : Bool) → T a → T b → T (a && b)
+and-intro true b s t = t
+and-intro false b s t = s
+
+-- `search ands` finds any part of a passed test
+pub ruleset ands = (and-left, and-right)
+
+pub T-true : (b : Bool) → T b → b ≡ true
+T-true true t = refl
+T-true false t = absurd t
+
+pub true-T : (b : Bool) → b ≡ true → T b
+true-T b e = rw e tt
+
+pub equal-test : (m n : ℕ) → m ≡ n → T (eqb m n)
+equal-test m n e = rw e (eqb-refl n)
+
+pub same-bool : (a b : Bool) → (T a → T b) → (T b → T a) → a ≡ b
+same-bool true true f g = refl
+same-bool true false f g = absurd (f tt)
+same-bool false true f g = absurd (g tt)
+same-bool false false f g = refl
+
+pub equal-either-way : (m n : ℕ) → eqb m n ≡ eqb n m
+equal-either-way m n =
+    same-bool (eqb m n) (eqb n m) (λ t. equal-test n m (sym (eqb→eq m n t))) (λ t. equal-test m n (sym (eqb→eq n m t)))
+
+pub or-cases : (a b : Bool) → T (a || b) → T a ⊎ T b
+or-cases true b t = inl tt
+or-cases false b t = inr t
+
+pub or-left : (a b : Bool) → T a → T (a || b)
+or-left true b t = tt
+or-left false b t = absurd t
+
+pub or-right : (a b : Bool) → T b → T (a || b)
+or-right true b t = tt
+or-right false b t = t
+
+pub nor-left : (a b : Bool) → T (not (a || b)) → T (not a)
+nor-left true b t = t
+nor-left false b t = tt
+
+pub nor-right : (a b : Bool) → T (not (a || b)) → T (not b)
+nor-right true b t = absurd t
+nor-right false b t = t
+
+pub not-not : (b : Bool) → T (not (not b)) → T b
+not-not true t = tt
+not-not false t = t
+
+pub trichotomy : (a b : ℕ) → (a < b) ⊎ ((a ≡ b) ⊎ (b < a))
+trichotomy a b = go (ltb a b) refl (ltb b a) refl
+  where
+    go : (x : Bool) → ltb a b ≡ x → (y : Bool) → ltb b a ≡ y → (a < b) ⊎ ((a ≡ b) ⊎ (b < a))
+    go true e y e′ = inl (ltb-true a b e)
+    go false e true e′ = inr (inr (ltb-true b a e′))
+    go false e false e′ = inr (inl (omega (arith, ltb-false)))
+
+pub at-most : (a b : ℕ) → leb a b ≡ not (ltb b a)
+at-most a b = go (leb a b) refl
+  where
+    go : (x : Bool) → leb a b ≡ x → x ≡ not (ltb b a)
+    go true e = rw (le-ltb b a (leb-true a b e))
+    go false e = rw (lt-ltb b a (leb-false a b e))
+
+pub or-else : (a b : Bool) → T (a || b) → (T a → ⊥) → T b
+or-else true b t fails = absurd (fails tt)
+or-else false b t fails = t
+
+pub or-none : (a b : Bool) → (a || b) ≡ false → (a ≡ false) × (b ≡ false)
+or-none true b e = (e, cc)
+or-none false b e = (refl, e)
+
+pub refuted : (a : Bool) → (T a → ⊥) → false ≡ a
+refuted true fails = absurd (fails tt)
+refuted false fails = refl
