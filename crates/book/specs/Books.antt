@@ -32,8 +32,8 @@ isClass now x = areFigures (x .figures) && (every (isSeries now) (x .series) && 
 abbrev pub isCapKept : List OpenClass → Program → Bool
 isCapKept xs g = leb (owned (g .number) xs) (g .cap)
 
--- "Classes rise by number .., none twice."; "with every field in its limits, each expiration from `now` to `now` + 39, at
--- most 150 classes .. and at most 20 ..", within n words
+-- "Classes rise by number .., none twice."; "with every field in its limits, each expiration from `now` to `now` + 39,
+-- at most 150 classes .. and at most 20 ..", within n words
 unfoldable pub isWellFormed : ℕ → Facts → Bool
 isWellFormed n f =
     isLength n

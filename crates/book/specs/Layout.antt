@@ -46,7 +46,8 @@ layout n f = map packed (Head (f .now) (used f) ∷ classesWords (f .classes) []
 
 -- ---- from words to facts
 
--- what the words from some place on say, the last first: the figures and the series of a class whose word is still to come, and the classes
+-- what the words from some place on say, the last first: the figures and the series of a class whose word is still to
+-- come, and the classes
 pub record Tail : Type 0 where
   pub close : ℕ
   pub volume : ℕ

@@ -17,7 +17,8 @@ use Rattle.book.specs.Calls.{Call, answerTo, written, step}
 abbrev pub over : List ℕ → List ℕ → List ℕ
 over strikes v = strikes ++ drop (length strikes) v
 
--- the call x made on any words w, with the second run v: the answer, and the words w′ and v′ that it leaves; "1 the run is no book"
+-- the call x made on any words w, with the second run v: the answer, and the words w′ and v′ that it leaves; "1 the run
+-- is no book"
 pub record Made (x : Call) (w v : List ℕ) (r : Answer) (w′ v′ : List ℕ) : Type 0 where
   pub answer : r ≡ cond (isBook w) (answerTo (length w) (length v) x (factsOf w)) (Refused NotABook)
   pub words : w′ ≡ cond (isBook w) (layout (length w) (step (length w) x (factsOf w))) w

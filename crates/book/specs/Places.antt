@@ -20,9 +20,11 @@ hasExpiration c m f = some (λ s. eqb (s .month) m) (class f c .series)
 
 -- of the open class c: the index of the expiration word m, or of the word before which it would stand
 abbrev pub expirationPlace : ℕ → ℕ → Facts → ℕ
-expirationPlace c m f = classPlace c f + 3 + length (seriesWords 0 (only (λ s. ltb (s .month) m) (class f c .series)) [])
+expirationPlace c m f =
+    classPlace c f + 3 + length (seriesWords 0 (only (λ s. ltb (s .month) m) (class f c .series)) [])
 
--- the index of the first strike of the expiration m; where it has none, of the word before which the expiration word would stand
+-- the index of the first strike of the expiration m; where it has none, of the word before which the expiration word
+-- would stand
 abbrev pub strikesPlace : ℕ → ℕ → Facts → ℕ
 strikesPlace c m f = expirationPlace c m f + cond {A = ℕ} (hasExpiration c m f) 1 0
 

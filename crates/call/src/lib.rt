@@ -1,4 +1,5 @@
-// The calls over any lent words. Each tests the run once and then makes the call as `class_call` or `strike_call` does on a book; where its class stands is not known.
+// The calls over any lent words. Each tests the run once and then makes the call as `class_call` or `strike_call` does
+// on a book; where its class stands is not known.
 ghost use mathlib.Core.List.{[]};
 ghost use Rattle.book.specs.Calls.{callM, on, callO, callC, callV, callD, callL, callJ, callX, callI, callR, callA};
 ghost use Rattle.book.specs.Made.{Made};

@@ -1,4 +1,5 @@
-// The calls on months and classes, over a run that is known to be a book: `M`, `O`, `C`, `V`, `D` and `R`. `near` is where the class is looked for first: any number will do.
+// The calls on months and classes, over a run that is known to be a book: `M`, `O`, `C`, `V`, `D` and `R`. `near` is
+// where the class is looked for first: any number will do.
 ghost use mathlib.Core.List.{[]};
 ghost use lib.Dec.{T};
 ghost use Rattle.book.specs.Books.{isBook};
@@ -26,7 +27,8 @@ use word::programs::is_program;
 
 pub mod programs;
 
-// `M`: sets the current month, and removes the strikes of earlier months. A book has none before its own month, so that this changes nothing where it is that month.
+// `M`: sets the current month, and removes the strikes of earlier months. A book has none before its own month, so that
+// this changes nothing where it is that month.
 pub fn set_month(run: &mut [u32], m: u32) -> Answer
     requires { ⌜ T (isBook (now run)) ⌝ }
     ensures { λ r. ⌜ Made (callM m) (now (run .entry)) [] r (now (run .exit)) [] ⌝ }

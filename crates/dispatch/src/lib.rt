@@ -1,4 +1,5 @@
-// The call that a letter and its numbers name, made on a run that is known to be a book. `near` is where its class is looked for first: any number will do.
+// The call that a letter and its numbers name, made on a run that is known to be a book. `near` is where its class is
+// looked for first: any number will do.
 ghost use mathlib.Core.List.{List, [], _∷_};
 ghost use Prim.Native.Nat.{ℕ};
 ghost use lib.Dec.{T};

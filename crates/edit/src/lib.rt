@@ -23,7 +23,8 @@ use word::codec::strike_word;
 use word::codec::volume_word;
 use word::field::field_of;
 
-// One word before the others. The distance is a constant here and in the next two, so that each loop compiles to one move of memory.
+// One word before the others. The distance is a constant here and in the next two, so that each loop compiles to one
+// move of memory.
 fn push1(s: &mut [u32], a: u32)
     requires { ⌜ 1 ≤ length (now s) ⌝ }
     ensures { λ _. ⌜ now (s .exit) ≡ pushed (a ∷ []) (now (s .entry)) ⌝ }

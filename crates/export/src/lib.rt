@@ -1,4 +1,5 @@
-// The proved functions under C names, for programs in C and Rust. include/strikebook.h says what each means in plain words.
+// The proved functions under C names, for programs in C and Rust. include/strikebook.h says what each means in plain
+// words.
 ghost use mathlib.Core.List.{[]};
 ghost use mathlib.Core.Path.{_≡_};
 ghost use Rattle.book.specs.Books.{isBook};

@@ -31,7 +31,8 @@ fn lower(a: usize, b: usize) -> usize
 // Makes the call of the record at a place of a list. It is lent as many words of the pool as it asks for, or all.
 fn make_record(run: &mut [u32], pool: &mut [u32], calls: &[u32], at: usize) -> Answer
     requires { ⌜ T (isBook (now run)) × (at + 7 < length (now calls)) ⌝ }
-    ensures { λ r. ⌜ Lent (callAt at (now (calls .entry))) (now (run .entry)) (now (pool .entry)) r (now (run .exit)) (now (pool .exit)) ⌝ }
+    ensures { λ r. ⌜ Lent (callAt at (now (calls .entry))) (now (run .entry)) (now (pool .entry))
+        r (now (run .exit)) (now (pool .exit)) ⌝ }
 {
     let room = lower(calls[at + 7] as usize, pool.len());
     make_call(
@@ -51,7 +52,8 @@ fn make_record(run: &mut [u32], pool: &mut [u32], calls: &[u32], at: usize) -> A
 // Makes the calls of a list of records in turn, on a run that is a book.
 fn make_calls(run: &mut [u32], pool: &mut [u32], calls: &[u32])
     requires { ⌜ T (isBook (now run)) ⌝ }
-    ensures { λ _. ⌜ Continued (now (run .entry)) (now (pool .entry)) (now (calls .entry)) (now (run .exit)) (now (pool .exit)) ⌝ }
+    ensures { λ _. ⌜ Continued (now (run .entry)) (now (pool .entry)) (now (calls .entry))
+        (now (run .exit)) (now (pool .exit)) ⌝ }
 {
     let mut i = 0;
     while 8 <= calls.len() - i {
@@ -60,10 +62,11 @@ fn make_calls(run: &mut [u32], pool: &mut [u32], calls: &[u32])
     }
 }
 
-// Makes a fresh book of the run and then the calls of a list in turn: every word that it leaves follows from the run's length and the list.
-// A run of a bad length is refused and keeps its words.
+// Makes a fresh book of the run and then the calls of a list in turn: every word that it leaves follows from the run's
+// length and the list. A run of a bad length is refused and keeps its words.
 pub fn run_calls(run: &mut [u32], pool: &mut [u32], calls: &[u32]) -> Answer
-    ensures { λ r. ⌜ Ran (now (run .entry)) (now (pool .entry)) (now (calls .entry)) r (now (run .exit)) (now (pool .exit)) ⌝ }
+    ensures { λ r. ⌜ Ran (now (run .entry)) (now (pool .entry)) (now (calls .entry))
+        r (now (run .exit)) (now (pool .exit)) ⌝ }
 {
     let answer = fresh(run);
     if let Answer::Done = answer {
@@ -96,8 +99,8 @@ pub fn compare_lists(
     calls: &[u32],
     others: &[u32],
 ) -> Comparison
-    ensures { λ r. ⌜ Compared (now (left .entry)) (now (right .entry)) (now (pool .entry)) (now (calls .entry)) (now (others .entry))
-        r (now (left .exit)) (now (right .exit)) (now (pool .exit)) ⌝ }
+    ensures { λ r. ⌜ Compared (now (left .entry)) (now (right .entry)) (now (pool .entry)) (now (calls .entry))
+        (now (others .entry)) r (now (left .exit)) (now (right .exit)) (now (pool .exit)) ⌝ }
 {
     if left.len() != right.len() {
         return Comparison::BadLength;

@@ -57,7 +57,8 @@ foundNear near kind width key ws =
     (cond {A = ℕ} (isHolding kind width key (getD ws (firstAbout near kind width key ws) 0))
     (firstAbout near kind width key ws) (length ws)))
 
--- words of the kind that hold less than the key stand before the first that holds at least the key, and one that holds the key is that first
+-- words of the kind that hold less than the key stand before the first that holds at least the key, and one that holds
+-- the key is that first
 pub record Rises (kind width key : ℕ) (ws : List ℕ) : Type 0 where
   pub below :
       (i : ℕ) → i < length ws → isOfKind kind (getD ws i 0) ≡ true → field (getD ws i 0) 0 width < key

@@ -29,7 +29,8 @@ pub struct Expiration {
     pub to: usize,
 }
 
-// Where a strike stands, or where its word would be put; whether its expiration has strikes, and whether it is one of them.
+// Where a strike stands, or where its word would be put; whether its expiration has strikes, and whether it is one of
+// them.
 pub struct StrikeSearch {
     pub at: usize,
     pub expiration: bool,
@@ -56,13 +57,15 @@ pub fn figures_at(run: &[u32], at: usize) -> ClassRecord
 // The index of the first class word from `from` on, or the words used.
 pub fn next_class(run: &[u32], from: usize) -> usize
     requires { ⌜ T (isBook (now run)) × ((0 < from) × (from ≤ used (factsOf (now run)))) ⌝ }
-    ensures { λ r. ⌜ (r ≡ from + firstAt (isFrom 2 14 0) (take (used (factsOf (now (run .entry))) - from) (drop from (now (run .entry))))) × (r ≤ used (factsOf (now (run .entry)))) ⌝ }
+    ensures { λ r. ⌜ (let end = used (factsOf (now (run .entry))) in
+        (r ≡ from + firstAt (isFrom 2 14 0) (take (end - from) (drop from (now (run .entry))))) × (r ≤ end)) ⌝ }
 {
     let used = head::used(run);
     from + first(&run[from..used], 2, 14, 0)
 }
 
-// Where the class c stands, or where its words would be put. It is looked for first about `near`, which may be any number; 0 where nothing is known.
+// Where the class c stands, or where its words would be put. It is looked for first about `near`, which may be any
+// number; 0 where nothing is known.
 pub fn class_at(run: &[u32], near: usize, c: u32) -> usize
     requires { ⌜ T (isBook (now run)) × T (isClassNumber c) ⌝ }
     ensures { λ r. ⌜ r ≡ classPlace c (factsOf (now (run .entry))) ⌝ }
@@ -106,10 +109,13 @@ pub fn is_open_at(run: &[u32], at: usize, c: u32) -> bool
     field_of(run[at], 0, 14) == c
 }
 
-// The index of the first word of the class at `class` that is an expiration of the month m or of a later one, or where its words end.
+// The index of the first word of the class at `class` that is an expiration of the month m or of a later one, or where
+// its words end.
 fn expiration_at(run: &[u32], class: usize, m: u32) -> usize
     requires { ⌜ T (isBook (now run)) × (T (isMonth m) × (class + 3 ≤ used (factsOf (now run)))) ⌝ }
-    ensures { λ r. ⌜ (r ≡ class + 3 + firstAt (isUpTo 5 10 m) (take (used (factsOf (now (run .entry))) - (class + 3)) (drop (class + 3) (now (run .entry))))) × (r ≤ used (factsOf (now (run .entry)))) ⌝ }
+    ensures { λ r. ⌜ (let end = used (factsOf (now (run .entry))) in
+        (r ≡ class + 3 + firstAt (isUpTo 5 10 m) (take (end - (class + 3)) (drop (class + 3) (now (run .entry)))))
+        × (r ≤ end)) ⌝ }
 {
     let begin = class + 3;
     let used = head::used(run);
@@ -130,7 +136,8 @@ fn is_word_at(run: &[u32], at: usize, w: u32) -> bool
 // Whether the words used have a strike there, and it is h.
 fn is_strike_at(run: &[u32], at: usize, h: u32) -> bool
     requires { ⌜ T (isBook (now run)) ⌝ }
-    ensures { λ r. ⌜ r ≡ (ltb at (used (factsOf (now (run .entry)))) && isHolding 6 15 h (getD (now (run .entry)) at 0)) ⌝ }
+    ensures { λ r. ⌜ r
+        ≡ (ltb at (used (factsOf (now (run .entry)))) && isHolding 6 15 h (getD (now (run .entry)) at 0)) ⌝ }
 {
     if head::used(run) <= at {
         return false;

@@ -1,4 +1,5 @@
-// How many classes are ours in the $1 and in the $0.50 program. Every word is looked at, without an early exit, so that it runs many words at a time.
+// How many classes are ours in the $1 and in the $0.50 program. Every word is looked at, without an early exit, so that
+// it runs many words at a time.
 ghost use mathlib.Core.Path.{_≡_};
 ghost use Prim.Native.Nat.{ℕ, _<_};
 ghost use mathlib.Core.Bool.{cond};

@@ -1,4 +1,5 @@
-// The first word of a kind that holds at least a key, or of a lower kind, 16 words at a time; and the first of a kind from a key on, by guesses where the words of the kind rise.
+// The first word of a kind that holds at least a key, or of a lower kind, 16 words at a time; and the first of a kind
+// from a key on, by guesses where the words of the kind rise.
 ghost use mathlib.Core.Path.{_≡_};
 ghost use Prim.Native.Nat.{_*_, _^_, _<_, _≤_};
 ghost use mathlib.Core.List.{map};
@@ -18,8 +19,8 @@ fn rank(w: u32, width: u32) -> u32
     kind(w) * 268435456 + (268435455 - field_of(w, 0, width))
 }
 
-// Which of 16 words are of a rank up to `most`: a bit for each, from bit 1 on. The constant lets it compile to tests of many words at a time, and no word has bit 0, which would be
-// tested alone.
+// Which of 16 words are of a rank up to `most`: a bit for each, from bit 1 on. The constant lets it compile to tests of
+// many words at a time, and no word has bit 0, which would be tested alone.
 fn ranked_of_16(block: &[u32], width: u32, most: u32) -> u32
     requires { ⌜ (length (now block) ≡ 16) × (width ≤ 28) ⌝ }
     ensures { λ r. ⌜ r ≡ 2 * binary (map (λ w. leb (rankOf width w) most) (now (block .entry))) ⌝ }
@@ -41,7 +42,8 @@ fn ranked_of_16(block: &[u32], width: u32, most: u32) -> u32
 // The index of the first word of a rank up to `most`, or the length: word by word.
 fn first_plainly(words: &[u32], width: u32, most: u32) -> usize
     requires { ⌜ width ≤ 28 ⌝ }
-    ensures { λ r. ⌜ (r ≡ firstAt (λ w. leb (rankOf width w) most) (now (words .entry))) × (r ≤ length (now (words .entry))) ⌝ }
+    ensures { λ r. ⌜ (r ≡ firstAt (λ w. leb (rankOf width w) most) (now (words .entry)))
+        × (r ≤ length (now (words .entry))) ⌝ }
 {
     let mut i = 0;
     while i < words.len() {
@@ -53,7 +55,8 @@ fn first_plainly(words: &[u32], width: u32, most: u32) -> usize
     i
 }
 
-// The index of the first word of a lower kind, or of the kind and with at least `key` in its lowest field, of `width` bits; or the length. 16 words at a time.
+// The index of the first word of a lower kind, or of the kind and with at least `key` in its lowest field, of `width`
+// bits; or the length. 16 words at a time.
 pub fn first(words: &[u32], kind: u32, width: u32, key: u32) -> usize
     requires { ⌜ (kind < 16) × ((width ≤ 28) × (key < 2 ^ 28)) ⌝ }
     ensures { λ r. ⌜ (r ≡ firstAt (isUpTo kind width key) (now (words .entry))) × (r ≤ length (now (words .entry))) ⌝ }
@@ -78,7 +81,8 @@ pub fn holds(w: u32, of: u32, width: u32, key: u32) -> bool
     (kind(w) == of) & (field_of(w, 0, width) == key)
 }
 
-// The index of a word of the kind that holds the key, where it stands at `near` or a few words from it; else the length.
+// The index of a word of the kind that holds the key, where it stands at `near` or a few words from it; else the
+// length.
 pub fn found_near(words: &[u32], near: usize, of: u32, width: u32, key: u32) -> usize
     requires { ⌜ (of < 16) × ((width ≤ 28) × (key < 2 ^ 28)) ⌝ }
     ensures { λ r. ⌜ r ≡ foundNear near of width key (now (words .entry)) ⌝ }
@@ -101,8 +105,9 @@ pub fn found_near(words: &[u32], near: usize, of: u32, width: u32, key: u32) -> 
     n
 }
 
-// Where a key is to be expected among `span` words, before which `below` is held, and behind which `above`: a little before, since the search goes up from there; in the middle where they say
-// nothing of it. Any of the words would do: a guess only shortens the search.
+// Where a key is to be expected among `span` words, before which `below` is held, and behind which `above`: a little
+// before, since the search goes up from there; in the middle where they say nothing of it. Any of the words would do: a
+// guess only shortens the search.
 fn expected(span: usize, key: u32, below: u32, above: u32) -> usize
     requires { ⌜ (0 < span) × (span ≤ 65535) ⌝ }
     ensures { λ r. ⌜ r < span ⌝ }
@@ -114,11 +119,14 @@ fn expected(span: usize, key: u32, below: u32, above: u32) -> usize
     if there < 32 { 0 } else { there - 32 }
 }
 
-// The first word of the kind that holds at least the key, where the words of the kind rise: the next word of the kind from a guess on decides on which side of the guess the search goes on.
-// What the last of them holds is a guess too until a word is seen that holds more than the key: at first twice the key, as if it were in the middle, and then what the words passed let expect. Every eighth
-// guess is the middle.
+// The first word of the kind that holds at least the key, where the words of the kind rise: the next word of the kind
+// from a guess on decides on which side of the guess the search goes on. What the last of them holds is a guess too
+// until a word is seen that holds more than the key: at first twice the key, as if it were in the middle, and then what
+// the words passed let expect. Every eighth guess is the middle.
 pub fn first_rising(words: &[u32], of: u32, width: u32, key: u32) -> usize
-    requires { ⌜ ((of < 16) × ((width ≤ 14) × (key < 2 ^ width))) × (T (every (isNoLower of) (now words)) × ((length (now words) ≤ 65535) × Rises of width key (now words))) ⌝ }
+    requires { ⌜ ((of < 16) × ((width ≤ 14) × (key < 2 ^ width)))
+        × (T (every (isNoLower of) (now words))
+        × ((length (now words) ≤ 65535) × Rises of width key (now words))) ⌝ }
     ensures { λ r. ⌜ (r ≡ firstAt (isFrom of width key) (now (words .entry))) × (r ≤ length (now (words .entry))) ⌝ }
 {
     let n = words.len();

@@ -16,7 +16,8 @@ use word::field::field_of;
 use word::strike::Strike;
 use word::zeros::zero_all;
 
-// How far a compaction is: the expiration word that waits for a strike that stays (0: none), the marked strikes of its expiration, and the strikes removed.
+// How far a compaction is: the expiration word that waits for a strike that stays (0: none), the marked strikes of its
+// expiration, and the strikes removed.
 pub struct Progress {
     pub waiting: u32,
     pub bounds: Bounds,

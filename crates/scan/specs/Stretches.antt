@@ -26,7 +26,8 @@ module _ {A : Type 0} (test : A → Bool) where
 abbrev pub isFrom : ℕ → Series → Bool
 isFrom p s = leb p (s .month)
 
--- ws are the words of series in a book of the month `now`, where the expiration p stands already and the first passes the test, then those of the classes xs
+-- ws are the words of series in a book of the month `now`, where the expiration p stands already and the first passes
+-- the test, then those of the classes xs
 pub record SeriesThen (now p : ℕ) (test : Series → Bool) (xs : List OpenClass) (ws : List ℕ) : Type 0 where
   pub series : List Series
   pub words : map packed (seriesWords p series (classesWords xs [])) ≡ ws
@@ -56,7 +57,8 @@ pub record SeriesEnd (now : ℕ) (ws : List ℕ) (from to : ℕ) : Type 0 where
       (xs : List OpenClass) → T (every (isClass now) xs)
       → SeriesThen now 0 (isFrom 0) xs (drop from ws) ↔ (map packed (classesWords xs []) ≡ drop to ws)
 
--- what the answer says: what is ahead of where the series that start at `from` end, or that no series with classes after them start there
+-- what the answer says: what is ahead of where the series that start at `from` end, or that no series with classes
+-- after them start there
 abbrev pub Stretched : ℕ → List ℕ → ℕ → Stretch → Type 0
 Stretched now ws from (EndsAt ahead) = SeriesEnd now ws from (ahead .at) × Tells ws ahead
 Stretched now ws from Breaks =

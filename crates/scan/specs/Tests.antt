@@ -32,7 +32,8 @@ isCloseWord w = eqb (kindOf w) 3 && isClose (field w 0 28)
 abbrev pub isVolumeWord : ℕ → Bool
 isVolumeWord w = eqb (kindOf w) 4 && isVolume (field w 0 28)
 
--- what rises from an expiration to its strikes and from strike to strike: the kind, without its highest bit, and then the strike
+-- what rises from an expiration to its strikes and from strike to strike: the kind, without its highest bit, and then
+-- the strike
 abbrev pub orderOf : ℕ → ℕ
 orderOf w = field w 28 3 * 2 ^ 28 + field w 0 15
 

@@ -1,4 +1,5 @@
-// Which words are no next strikes, told 64 words at a time: so that a stretch of strikes is passed at once, however long it is.
+// Which words are no next strikes, told 64 words at a time: so that a stretch of strikes is passed at once, however
+// long it is.
 ghost use mathlib.Core.Path.{_≡_};
 ghost use Prim.Native.Nat.{_+_, _-_, _<_, _≤_, suc};
 ghost use lib.ListN.{drop, getD, length, take};
@@ -8,21 +9,24 @@ ghost use Rattle.scan.specs.Ahead.{otherBits, Tells};
 use word::field::field_of;
 use word::limits::is_ground;
 
-// The others, words that are no next strikes, from `at` on: `bits` has one bit for each of the 64 words from `base` on, lowest first, which is 1 for an other.
+// The others, words that are no next strikes, from `at` on: `bits` has one bit for each of the 64 words from `base` on,
+// lowest first, which is 1 for an other.
 pub struct Ahead {
     pub base: usize,
     pub bits: u64,
     pub at: usize,
 }
 
-// What rises from an expiration to its strikes and from strike to strike: the kind, without its highest bit, and then the strike.
+// What rises from an expiration to its strikes and from strike to strike: the kind, without its highest bit, and then
+// the strike.
 fn order_of(w: u32) -> u32
     ensures { λ r. ⌜ r ≡ orderOf w ⌝ }
 {
     field_of(w, 28, 3) * 268435456 + field_of(w, 0, 15)
 }
 
-// Whether w is a strike word that may follow the word before it. That a first strike is not 0 and a last one not above 19,999 is asked elsewhere, once for a stretch.
+// Whether w is a strike word that may follow the word before it. That a first strike is not 0 and a last one not above
+// 19,999 is asked elsewhere, once for a stretch.
 fn is_next_strike(before: u32, w: u32) -> bool
     ensures { λ r. ⌜ r ≡ isNextStrike before w ⌝ }
 {
@@ -148,7 +152,9 @@ pub fn skip_to(s: &[u32], ahead: Ahead, at: usize) -> Ahead
 pub fn next_other(s: &[u32], ahead: Ahead) -> Ahead
     requires { ⌜ Tells (now s) ahead × ((ahead .at < length (now s)) × (kindOf (getD (now s) (ahead .at) 0) ≡ 5)) ⌝ }
     ensures { λ r. ⌜ Tells (now (s .entry)) r
-        × (r .at ≡ suc (ahead .at) + nextLength (getD (now (s .entry)) (ahead .at) 0) (drop (suc (ahead .at)) (now (s .entry)))) ⌝ }
+        × (r .at
+        ≡ suc (ahead .at)
+        + nextLength (getD (now (s .entry)) (ahead .at) 0) (drop (suc (ahead .at)) (now (s .entry)))) ⌝ }
 {
     let n = s.len();
     let mut base = ahead.base;

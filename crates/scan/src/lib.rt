@@ -70,14 +70,16 @@ fn latest_month(current: u32) -> u32
     if current < 984 { current + 39 } else { 1023 }
 }
 
-// Whether the strikes from `first` to `last`, each of which follows the one before it, are those of a book: none is 0 and none is above 19,999.
+// Whether the strikes from `first` to `last`, each of which follows the one before it, are those of a book: none is 0
+// and none is above 19,999.
 fn are_strikes(first: u32, last: u32) -> bool
     ensures { λ r. ⌜ r ≡ (ltb 0 (field first 0 15) && leb (field last 0 15) 19999) ⌝ }
 {
     (0 < field_of(first, 0, 15)) & (field_of(last, 0, 15) <= 19999)
 }
 
-// Where the expirations that start at `from.at` end, each with its strikes. An expiration word is compared as a whole with those of the first and the last month that may follow.
+// Where the expirations that start at `from.at` end, each with its strikes. An expiration word is compared as a whole
+// with those of the first and the last month that may follow.
 fn expirations_end(current: u32, s: &[u32], from: Ahead) -> Stretch
     requires { ⌜ (current < 1024) × Tells (now s) from ⌝ }
     ensures { λ r. ⌜ Stretched current (now (s .entry)) (from .at) r ⌝ }

@@ -1,5 +1,6 @@
-// The calls on strikes, over a run that is known to be a book: `L`, `J`, `X`, `I` and `A`. `near` is where the class is looked for first: any number will do.
-// `J` and `A`, which only read the run, take a slice of all of it first: that one stays in registers, where the lent one would be copied in memory.
+// The calls on strikes, over a run that is known to be a book: `L`, `J`, `X`, `I` and `A`. `near` is where the class is
+// looked for first: any number will do. `J` and `A`, which only read the run, take a slice of all of it first: that one
+// stays in registers, where the lent one would be copied in memory.
 ghost use mathlib.Core.Bool.{_&&_};
 ghost use mathlib.Core.List.{[]};
 ghost use mathlib.Core.Path.{_≡_};

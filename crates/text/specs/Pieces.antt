@@ -140,7 +140,8 @@ pub record LinesBegin (w v piece : List ℕ) (from : ℕ) (out : List ℕ) (at :
 
 -- whole lines read from `from` on in a piece, over the words w of a book, with the second run v, where `at` bytes of
 -- `out` are printed: what held a reader before them holds it after them, and their bytes are those that are taken first
-pub record LinesRead (w v piece : List ℕ) (from : ℕ) (out : List ℕ) (at : ℕ) (r : Lines) (w′ v′ out′ : List ℕ) : Type 0 where
+pub record LinesRead
+    (w v piece : List ℕ) (from : ℕ) (out : List ℕ) (at : ℕ) (r : Lines) (w′ v′ out′ : List ℕ) : Type 0 where
   pub book : T (isBook w′)
   pub fits : r .put ≤ length out
   pub onward : from ≤ r .read

@@ -28,7 +28,13 @@ malformedLine = record { phase = Malformed; letter = 0; value = 0; count = 0; nu
 abbrev pub pushOf : Line → Phase → Line
 pushOf l p =
     cond (leb 5 (l .count)) malformedLine
-    (record { phase = p; letter = l .letter; value = 0; count = l .count + 1; numbers = set (l .numbers) (l .count) (l .value) })
+    (record {
+      phase = p;
+      letter = l .letter;
+      value = 0;
+      count = l .count + 1;
+      numbers = set (l .numbers) (l .count) (l .value);
+    })
 
 -- a line begins with a capital letter
 abbrev pub startOf : ℕ → Line
@@ -63,7 +69,13 @@ numberOf l b =
     cond (eqb b 32) (pushOf l Space)
     (cond (ltb b 48) malformedLine
     (cond (ltb 57 b) malformedLine
-    (record { phase = Number; letter = l .letter; value = capped (10 * l .value + (b - 48)); count = l .count; numbers = l .numbers })))
+    (record {
+      phase = Number;
+      letter = l .letter;
+      value = capped (10 * l .value + (b - 48));
+      count = l .count;
+      numbers = l .numbers;
+    })))
 
 -- one byte more, by the phase
 unfoldable pub feedBy : Phase → Line → ℕ → Line

@@ -30,7 +30,9 @@ numeralLength (b ∷ bs) = cond {A = ℕ} (eqb b 48) 1 (cond {A = ℕ} (isDigit 
 -- the number that they write, as the program keeps it
 unfoldable pub numeralValue : List ℕ → ℕ
 numeralValue [] = 0
-numeralValue (b ∷ bs) = cond {A = ℕ} (eqb b 48) 0 (cond {A = ℕ} (isDigit b) (grownBy (b - 48) (take (digitsLength bs) bs)) 0)
+numeralValue (b ∷ bs) =
+    cond {A = ℕ} (eqb b 48) 0
+    (cond {A = ℕ} (isDigit b) (grownBy (b - 48) (take (digitsLength bs) bs)) 0)
 
 -- the number that is read from `from` on in a sheet, and where it ends
 pub record NumeralAt (sheet : List ℕ) (from value end : ℕ) : Type 0 where

@@ -1,4 +1,5 @@
-// One line of a sheet, read byte by byte by a state machine that goes by value, or number by number where the whole line is at hand. No line is too long for either.
+// One line of a sheet, read byte by byte by a state machine that goes by value, or number by number where the whole
+// line is at hand. No line is too long for either.
 ghost use mathlib.Core.Path.{_≡_};
 ghost use Prim.Native.Nat.{_+_, _*_, _<_, _≤_};
 ghost use lib.ListN.{drop, length, take};
@@ -229,7 +230,9 @@ pub fn end(line: Line) -> Line
 fn read_digits(sheet: &[u8], from: usize, first: u32) -> Numeral
     requires { ⌜ from ≤ length (now sheet) ⌝ }
     ensures { λ r. ⌜ (r .end ≡ from + digitsLength (drop from (now (sheet .entry))))
-        × ((r .end ≤ length (now (sheet .entry))) × (r .value ≡ grownBy first (take (digitsLength (drop from (now (sheet .entry)))) (drop from (now (sheet .entry)))))) ⌝ }
+        × ((r .end ≤ length (now (sheet .entry)))
+        × (r .value
+        ≡ grownBy first (take (digitsLength (drop from (now (sheet .entry)))) (drop from (now (sheet .entry)))))) ⌝ }
 {
     let mut value = first;
     let mut i = from;

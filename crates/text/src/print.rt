@@ -1,4 +1,5 @@
-// The bytes that are printed for an answer, put into a lent buffer from a position on. Each function answers the position after them.
+// The bytes that are printed for an answer, put into a lent buffer from a position on. Each function answers the
+// position after them.
 ghost use mathlib.Core.Path.{_≡_};
 ghost use Prim.Native.Nat.{_+_, _≤_};
 ghost use lib.ListN.{length};

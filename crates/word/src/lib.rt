@@ -1,4 +1,5 @@
-// The words of the strike book: fields by shifts and masks, the six kinds of word, and the small values that the book deals in.
+// The words of the strike book: fields by shifts and masks, the six kinds of word, and the small values that the book
+// deals in.
 pub mod answer;
 pub mod caps;
 pub mod class;
