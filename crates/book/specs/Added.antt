@@ -1,4 +1,5 @@
--- Where a standing strike comes from, in document 01's words: an `L` added it, and "`X`, `R` and `M` alone remove strikes: these are delisting, review and expiry." Assumes nothing.
+-- Document 01, "`L` adds (m, h, the ground, 0, 0).", "`X`, `R` and `M` alone remove strikes: these are delisting,
+-- review and expiry.": where a standing strike comes from, and what takes it away. Assumes nothing.
 use Prim.Native.Nat.{ℕ}
 use mathlib.Core.Path.{_≡_}
 use mathlib.Core.Bool.{Bool, true, false, not, _&&_}

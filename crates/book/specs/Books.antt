@@ -1,4 +1,5 @@
--- Document 01, "A run is a book exactly when ..": the limits and the order of facts, and the runs that are books. Assumes nothing.
+-- Document 01, "A run is a book exactly when it has this form with every field in its limits ..", "Classes rise by
+-- number ..": the limits and the order of facts, and the runs that are books. Assumes nothing.
 use Prim.Native.Nat.{ℕ, _+_}
 use mathlib.Core.Bool.{Bool, true, false, _&&_}
 use mathlib.Core.List.{List, [], _∷_}

@@ -1,5 +1,5 @@
--- Lists of calls: the answers that they get, and what they write to a second run. Document 01, clause a, of every call
--- of a list. Assumes nothing.
+-- Document 01, clause a, of every call of a list, "and for `A` the second run's length": the answers that calls get,
+-- and what they write to a second run. Assumes nothing.
 use Prim.Native.Nat.{ℕ}
 use mathlib.Core.List.{List, [], _∷_, map}
 use Rattle.word.specs.declared.answer.Answer.{Answer}

@@ -1,5 +1,6 @@
--- Document 01, "The calls, and the plain book" and "Who draws which number": the eleven calls over the plain book.
--- Assumes nothing.
+-- Document 01, the lines of the eleven calls, "`M m`: sets `now`, removes strikes of earlier months." to "`A c m`:
+-- writes all strikes that `J` would accept", and "Who draws which number": what each call asks, does and answers over
+-- the plain book. Assumes nothing.
 use Prim.Native.Nat.{ℕ}
 use mathlib.Core.Bool.{Bool, true, false, cond, not, _&&_}
 use mathlib.Core.List.{List, [], _∷_, _++_}

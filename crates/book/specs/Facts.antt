@@ -1,4 +1,5 @@
--- Document 01, "The calls, and the plain book": what the plain book holds, and the words that it takes. Assumes nothing.
+-- Document 01, "The plain book holds `now`, and for each open class ..", "A fresh book has `now` 0 and no class", "The
+-- words the facts take are ..": what the plain book holds, and the words that it takes. Assumes nothing.
 use Prim.Native.Nat.{ℕ, _+_}
 use mathlib.Core.Bool.{Bool, cond, _&&_, _||_}
 use mathlib.Core.List.{List, [], _∷_}

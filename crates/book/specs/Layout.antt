@@ -1,4 +1,5 @@
--- Document 01, "Units and the words of the book": the words that the layout gives to facts, and the facts that it reads in words. Assumes nothing.
+-- Document 01, "the head, first", "One of each follows its class word, close first.", "Words past those used are
+-- zero.": the words that the layout gives to facts, and the facts that it reads in words. Assumes nothing.
 use Prim.Native.Nat.{ℕ, zero, suc, _-_}
 use mathlib.Core.Bool.{Bool, true, false}
 use mathlib.Core.List.{List, [], _∷_, _++_, map}

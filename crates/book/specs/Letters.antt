@@ -1,4 +1,5 @@
--- Document 01, "The calls of a list, as a sheet writes them": the call of a letter and its numbers. Assumes nothing.
+-- Document 01, "The calls of a list, as a sheet writes them (letter, then numbers ..)": the call of a letter and its
+-- numbers. Assumes nothing.
 use Prim.Native.Nat.{ℕ}
 use mathlib.Core.Bool.{cond}
 use mathlib.Core.List.{List, [], _∷_}

@@ -1,4 +1,6 @@
--- Document 01, clause a: "The number, the value and every word of both runs after a call are equated, for all inputs, with what the plain book and the layout above make of them." Assumes nothing.
+-- Document 01, clause a: "The number, the value and every word of both runs after a call are equated, for all inputs,
+-- with what the plain book and the layout above make of them."; "making one ignores what the run held and refuses 1 on
+-- a bad length". Assumes nothing.
 use Prim.Native.Nat.{ℕ}
 use mathlib.Core.Path.{_≡_}
 use mathlib.Core.Bool.{cond}

@@ -1,5 +1,6 @@
--- Document 01, "It judges each call by what it then holds": what a call sees of the plain book, the current month and
--- the class that it names. Assumes nothing.
+-- Document 01, "It judges each call by what it then holds", "A repeat of the present d ..", "It removes each strike of
+-- ground 1 or 3 ..": what a call sees of the plain book, the current month and the class that it names, and what it
+-- asks of it. Assumes nothing.
 use Prim.Native.Nat.{ℕ}
 use mathlib.Core.Bool.{Bool, not, _&&_, _||_}
 use mathlib.Core.List.{List, map}

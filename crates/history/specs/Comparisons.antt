@@ -1,5 +1,5 @@
--- Demand 3, executed: "run from a fresh book, each list leaves the words that the layout gives to its facts, and the
--- two books are equal in every word exactly when the same facts stand." Assumes nothing.
+-- Document 01, "Demand 3 is one claim about two whole lists", executed: each list leaves the words that the layout
+-- gives to its facts, and the two books are equal in every word exactly when the same facts stand. Assumes nothing.
 use Prim.Native.Nat.{ℕ}
 use mathlib.Core.Path.{_≡_}
 use mathlib.Core.Bool.{Bool, true, false, _&&_}

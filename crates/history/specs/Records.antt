@@ -1,5 +1,6 @@
--- A list of calls as words: eight words a call, its letter in ASCII, how many numbers it has, five numbers, of which it
--- has the first ones, and the length of the second run that it asks for. Assumes nothing.
+-- Document 01, "each call's letter and numbers in turn, and for `A` the second run's length", as words: eight words a
+-- call, its letter in ASCII, how many numbers it has, five numbers, of which it has the first ones, and the length of
+-- the second run that it asks for. Assumes nothing.
 use Prim.Native.Nat.{ℕ, _+_, _^_}
 use mathlib.Core.Bool.{Bool}
 use mathlib.Core.List.{List, [], _∷_, _++_}

@@ -1,5 +1,6 @@
--- What `run_calls` leaves: a fresh book and then the calls that the list's words hold, each in turn; a run of a bad
--- length is refused and keeps its words. Assumes nothing.
+-- Document 01, "Its first call gets the fresh book, each later one the book as the call before left it", executed: what
+-- `run_calls` leaves of the calls that the list's words hold; a run of a bad length is refused and keeps its words.
+-- Assumes nothing.
 use Prim.Native.Nat.{ℕ, min}
 use mathlib.Core.Path.{_≡_}
 use mathlib.Core.Bool.{cond}

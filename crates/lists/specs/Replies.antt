@@ -1,5 +1,5 @@
--- Demand 3 for callers in C: two lists of calls run and their books compared; the number and the value of the reply.
--- Assumes nothing.
+-- Document 01, "Demand 3 is one claim about two whole lists", for callers in C: two lists of calls run and their books
+-- compared; the number and the value of the reply. Assumes nothing.
 use Prim.Native.Nat.{ℕ}
 use mathlib.Core.Path.{_≡_}
 use mathlib.Core.List.{List}

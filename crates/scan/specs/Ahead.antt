@@ -1,4 +1,5 @@
--- What is told ahead of a word: which of the next 64 words are others, words that are no next strikes. Assumes nothing.
+-- Inner: what is told ahead of a word: which of the next 64 words are others, words that are no next strikes. Assumes
+-- nothing.
 use Prim.Native.Nat.{ℕ, _+_, _-_, _*_, _^_, _<_, _≤_}
 use mathlib.Core.Path.{_≡_}
 use mathlib.Core.Bool.{cond}

@@ -1,4 +1,5 @@
--- What the loops test, which proofs/ shows to be `isBook`: words that end a book's classes, or a class's series and the classes after it. Assumes nothing.
+-- Inner: what the loops test, which proofs/ shows to be `isBook`: words that end a book's classes, or a class's series
+-- and the classes after it. Assumes nothing.
 use Prim.Native.Nat.{ℕ, _+_, _≤_}
 use mathlib.Core.Path.{_≡_}
 use mathlib.Core.Logic.{_↔_}

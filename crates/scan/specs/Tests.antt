@@ -1,4 +1,5 @@
--- What the loops ask of one raw word: no sentence of document 01, but tests that proofs/ shows to be those of its words. Assumes nothing.
+-- Inner: what the loops ask of one raw word, tests that proofs/ shows to be those of the layout's words. Assumes
+-- nothing.
 use Prim.Native.Nat.{ℕ, suc, _+_, _*_, _/_, _^_}
 use mathlib.Core.Bool.{Bool, cond, _&&_}
 use mathlib.Core.List.{List, [], _∷_}

@@ -1,4 +1,5 @@
--- Document 01, "letter, then numbers without leading zeros, single spaces": the lines of this form, and the call that a line is. Assumes nothing.
+-- Document 01, "letter, then numbers without leading zeros, single spaces", "An empty line, or any other form, is
+-- malformed.": the lines of this form, and the call that a line is. Assumes nothing.
 use mathlib.Core.Path.{_≡_}
 use Prim.Native.Nat.{ℕ, _+_, _*_, _-_, _≤_, _<_}
 use mathlib.Core.Bool.{Bool, false, cond, _&&_}

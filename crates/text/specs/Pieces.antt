@@ -1,4 +1,5 @@
--- A sheet read byte by byte, as it comes in pieces: what a reader holds between two bytes, and what it has printed.
+-- Document 01, "prints per line the number, then any value, then `A`'s strikes", "The last line may lack its line
+-- end.", of a sheet that comes in pieces: what a reader holds between two bytes, and what it has printed.
 -- proofs/Pieces.antt shows that it is what the sheet's lines ask for. Assumes nothing.
 use Prim.Native.Nat.{ℕ, suc, _+_, _*_, _-_, _≤_}
 use mathlib.Core.Path.{_≡_}

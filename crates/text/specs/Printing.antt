@@ -1,5 +1,5 @@
--- Document 01, "prints per line the number, then any value, then `A`'s strikes": the bytes that are printed for an
--- answer. Assumes nothing.
+-- Document 01, "prints per line the number, then any value, then `A`'s strikes", "All figures are written in base
+-- ten.": the bytes that are printed for an answer. Assumes nothing.
 use Prim.Native.Nat.{ℕ, zero, suc, _+_, _/_, _%_}
 use mathlib.Core.Bool.{cond}
 use mathlib.Core.List.{List, [], _∷_, _++_}

@@ -1,4 +1,5 @@
--- Document 01, demand 1: "A call sheet with any numbers on any lines, over any words lent as the book, is read to its end": its lines, their calls, and what they leave. Assumes nothing.
+-- Document 01, "The last line may lack its line end.", and clause a of every line of a sheet, over any words (demand
+-- 1): the lines, their calls, and what they leave. Assumes nothing.
 use Prim.Native.Nat.{ℕ, suc, _+_, _<_, min}
 use mathlib.Core.Path.{_≡_}
 use mathlib.Core.Bool.{Bool, cond}

@@ -1,4 +1,5 @@
--- A whole line read number by number: its digits, and what is read of it. proofs/ shows that it is what the bytes give one by one. Assumes nothing.
+-- Inner: a whole line read number by number: its digits, and what is read of it. proofs/WholeLines.antt shows that it
+-- is what the bytes give one by one. Assumes nothing.
 use Prim.Native.Nat.{ℕ, suc, _+_, _*_, _-_, _≤_}
 use mathlib.Core.Path.{_≡_}
 use mathlib.Core.Bool.{cond}

@@ -1,4 +1,5 @@
--- Document 01, "Who draws which number": the number and the value of each answer. Assumes nothing.
+-- Document 01, "Who draws which number": the fifteen numbers, "The lowest number that applies is given.", "An accepted
+-- call answers 0 and a value": the number and the value of each answer. Assumes nothing.
 use Prim.Native.Nat.{ℕ}
 use mathlib.Core.Bool.{Bool, true, false}
 use Rattle.word.specs.declared.answer.Refusal.{Refusal}

@@ -1,4 +1,5 @@
--- Document 01, "The calls, and the plain book": what opening, a close, a volume and a designation make of a class record. Assumes nothing.
+-- Document 01, "`O` adds a class with close, volume and designations 0", "`C`, `V` and `D` set their figures": what
+-- opening, a close, a volume and a designation make of a class record. Assumes nothing.
 use Prim.Native.Nat.{ℕ, _-_}
 use lib.ListN.{getD, replicate, set}
 use Rattle.word.specs.declared.class.ClassRecord.{ClassRecord}

@@ -1,4 +1,5 @@
--- Document 01, "Units and the words of the book": the six kinds of word. Assumes nothing.
+-- Document 01, "Kind 1, the head" to "Kind 6, a strike", "Bits 28 to 31 of a word are its kind", "every bit not named
+-- is zero": the six kinds of word, packed and read. Assumes nothing.
 use Prim.Native.Nat.{ℕ, _+_, _*_, _/_, _^_, _<_, _≤_}
 use mathlib.Core.Bool.{Bool, false, cond, _&&_}
 use mathlib.Core.List.{List, [], _∷_, map}

@@ -1,4 +1,4 @@
--- Binary digits, lowest first, and the number that they make: no sentence of document 01. Assumes nothing.
+-- Inner: binary digits, lowest first, and the number that they make. Assumes nothing.
 use Prim.Native.Nat.{ℕ, suc, _+_, _*_}
 use mathlib.Core.Bool.{Bool, cond}
 use mathlib.Core.List.{List, [], _∷_}

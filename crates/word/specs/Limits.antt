@@ -1,4 +1,5 @@
--- Document 01, "Units and the words of the book": the limits of every number. Assumes nothing.
+-- Document 01, "A price P is in cents, 1 to 999,999." to "a lent run of 1 to 65,535 words", and the limits of fields,
+-- "(0 none, 1 ours, 2 another exchange's)": the limits of every number. Assumes nothing.
 use Prim.Native.Nat.{ℕ}
 use mathlib.Core.Bool.{Bool, _&&_}
 use lib.Dec.{leb}

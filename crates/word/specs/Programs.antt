@@ -1,4 +1,5 @@
--- Document 01, "program p (1 for $1, 2 for $0.50)": one row for each program. Assumes nothing.
+-- Document 01, "program p (1 for $1, 2 for $0.50)", "at most 150 classes with $1 designation 1 and at most 20 with ..",
+-- "A new d of 1 needs a close below 5,000 for $1, or ..": one row for each program. Assumes nothing.
 use Prim.Native.Nat.{ℕ, _-_}
 use mathlib.Core.Bool.{Bool, true, false, _&&_}
 use mathlib.Core.List.{List, [], _∷_}
