@@ -1,4 +1,5 @@
--- A loop that writes what passes a test among the numbers up to an end, rising, to a run: what is still to come is what passes among those that are left. Assumes nothing.
+-- A loop that writes what passes a test among the numbers up to an end, rising, to a run: what is still to come is what
+-- passes among those that are left. Assumes nothing.
 use mathlib.Core.Path.{_≡_, refl, sym, ap, ap₂, _∙_}
 use mathlib.Core.Bool.{Bool, true, false, cond}
 use mathlib.Core.List.{List, [], _∷_, _++_}
@@ -7,9 +8,10 @@ use native.Mathlib.Nat.{add-zero}
 use native.Mathlib.Numerals.{add-one}
 use native.Mathlib.Omega.{arith}
 use lib.Dec.{ltb}
-use lib.ListN.{length, set, length-set}
-use lib.Seq.{sets}
+use lib.ListN.{length, set, length-set, length-append}
+use lib.Seq.{sets, length-sets}
 use borrow.Author.Tests.{ltb-true, ltb-false}
+use Rattle.word.proofs.Stores.{sets-append}
 use Rattle.logic.specs.Lists.{only, upFrom}
 
 module _ (test : ℕ → Bool) (end : ℕ) where
@@ -59,7 +61,8 @@ left-parts test end m h = go (end - h) h refl
         ∙ sym (ap₂ _++_ (left-none test (min end m) x (omega arith)) (left-none test end (max x m) (omega arith)))
     go (suc k) x e = turn (ltb x m) refl (go k (suc x) (omega arith))
       where
-        turn : (t : Bool) → ltb x m ≡ t → left test end (suc x) ≡ left test (min end m) (suc x) ++ left test end (max (suc x) m) →
+        turn : (t : Bool) → ltb x m ≡ t →
+            left test end (suc x) ≡ left test (min end m) (suc x) ++ left test end (max (suc x) m) →
             left test end x ≡ left test (min end m) x ++ left test end (max x m)
         turn true q r =
             let l : x < m = ltb-true x m q in
@@ -80,14 +83,26 @@ pub record Filling (all o : List ℕ) (at : ℕ) (b : List ℕ) (n : ℕ) (rest 
   pub count : n + length rest ≡ at + length all
 
 pub filling-start : {all o rest : List ℕ} {at : ℕ} → all ≡ rest → Filling all o at o at rest
-filling-start {o = o} {at = at} e = record { long = refl; is = ap (sets o at) (sym e); count = ap (λ (l : List ℕ). at + length l) (sym e) }
+filling-start {o = o} {at = at} e =
+    record { long = refl; is = ap (sets o at) (sym e); count = ap (λ (l : List ℕ). at + length l) (sym e) }
 
 pub filling-as : {all o b r r′ : List ℕ} {at n : ℕ} → r ≡ r′ → Filling all o at b n r → Filling all o at b n r′
 filling-as e f = rw (← e) f
 
-pub filling-one : {all o b rest : List ℕ} {at n v : ℕ} → Filling all o at b n (v ∷ rest) → Filling all o at (set b n v) (n + 1) rest
+pub filling-one : {all o b rest : List ℕ} {at n v : ℕ} → Filling all o at b n (v ∷ rest) →
+    Filling all o at (set b n v) (n + 1) rest
 filling-one {b = b} {n = n} {v = v} f =
     record { long = length-set b n v ∙ f .long; is = rw add-one (f .is); count = omega (arith, f .count) }
+
+-- several at once
+pub filling-more : {all o b b′ rest : List ℕ} {at n n′ : ℕ} (xs : List ℕ) → n′ ≡ n + length xs → b′ ≡ sets b n xs →
+    Filling all o at b n (xs ++ rest) → Filling all o at b′ n′ rest
+filling-more {o = o} {b = b} {rest = rest} {n = n} xs e w f =
+    record {
+      long = ap length w ∙ length-sets b n xs ∙ f .long;
+      is = rw (e, w) (sym (sets-append b n xs rest) ∙ f .is);
+      count = omega (arith, e, f .count, length-append xs rest);
+    }
 
 pub filling-done : {all o b : List ℕ} {at n : ℕ} → Filling all o at b n [] → (n ≡ at + length all) × (b ≡ sets o at all)
 filling-done {n = n} f = (sym (add-zero n) ∙ f .count, f .is)

@@ -10,17 +10,17 @@ use borrow.Author.Tests.{leb-true, ltb-true, lt-ltb, eq-eqb}
 use Rattle.logic.proofs.Lists.{not-some}
 use Rattle.rule.specs.declared.terms.Setting.{Setting}
 use Rattle.logic.specs.Lists.{some, every}
-use Rattle.rule.specs.Ends.{reachOf, isOpen}
-use Rattle.rule.specs.Spacing.{standingIn}
+use Rattle.rule.specs.Ends.{reachOf, isOpenStrike}
+use Rattle.rule.specs.Spacing.{standingOf}
 use Rattle.rule.specs.Judgement.{isPermittedBeside}
 use Rattle.rule.proofs.Walks.{every-map, First, first-found}
 use Rattle.rule.proofs.Near.{reach-most, Between, words-permitted, rising-at}
-use Rattle.permitted.specs.Listing.{strikeIn, strikeAt, strikeFrom, Triable}
+use Rattle.permitted.specs.Listing.{strikeIn, standingStrike, strikeFrom, Triable}
 
 pub absent-words : (ws : List ℕ) (h : ℕ) →
-    not (some (λ t. eqb (t .strike) h) (map standingIn ws)) ≡ every (λ w. not (eqb (strikeIn w) h)) ws
+    not (some (λ t. eqb (t .strike) h) (map standingOf ws)) ≡ every (λ w. not (eqb (strikeIn w) h)) ws
 absent-words ws h =
-    not-some (λ t. eqb (t .strike) h) (map standingIn ws) ∙ every-map (λ t. not (eqb (t .strike) h)) standingIn ws
+    not-some (λ t. eqb (t .strike) h) (map standingOf ws) ∙ every-map (λ t. not (eqb (t .strike) h)) standingOf ws
 
 every-not : {A : Type 0} (test : A → Bool) (d : A) (xs : List A) (i : ℕ) → i < length xs → test (getD xs i d) ≡ false → every test xs ≡ false
 every-not test d [] i l e = absurd (omega arith)
@@ -62,21 +62,21 @@ module _ {s : Setting} {ws : List ℕ} {from h : ℕ} (t : Triable s ws from h) 
               omega arith;
         }
 
-    pub near-permits : isPermittedBeside s (map standingIn (take (to - from) (drop from ws))) h ≡ isPermittedBeside s (map standingIn ws) h
+    pub near-permits : isPermittedBeside s (map standingOf (take (to - from) (drop from ws))) h ≡ isPermittedBeside s (map standingOf ws) h
     near-permits = words-permitted between
 
   -- an open strike is permitted where the first that isn't below is beyond reach
-  pub open-permitted : isOpen s h ≡ true → h + reachOf s < strikeAt ws from → true ≡ isPermittedBeside s (map standingIn ws) h
+  pub open-permitted : isOpenStrike s h ≡ true → h + reachOf s < standingStrike ws from → true ≡ isPermittedBeside s (map standingOf ws) h
   open-permitted is-open beyond =
       let above : from < length ws → h + reachOf s < strikeIn (getD ws from 0) = λ l. (rw (lt-ltb from (length ws) l) at beyond) in
       let ahead : Ahead s ws from from h = record { start = omega arith; end = t .behind .within; above = above } in
       let none : from - from ≡ 0 = omega arith in
       sym is-open ∙ (rw none at (near-permits ahead))
 
-  pub standing-refused : strikeAt ws from ≡ h → false ≡ isPermittedBeside s (map standingIn ws) h
+  pub standing-refused : standingStrike ws from ≡ h → false ≡ isPermittedBeside s (map standingOf ws) h
   standing-refused = go (ltb from (length ws)) refl
     where
-      go : (u : Bool) → ltb from (length ws) ≡ u → cond {A = ℕ} u (strikeIn (getD ws from 0)) 65535 ≡ h → false ≡ isPermittedBeside s (map standingIn ws) h
+      go : (u : Bool) → ltb from (length ws) ≡ u → cond {A = ℕ} u (strikeIn (getD ws from 0)) 65535 ≡ h → false ≡ isPermittedBeside s (map standingOf ws) h
       go true q e =
           let none = absent-words ws h ∙ every-not (λ w. not (eqb (strikeIn w) h)) 0 ws from (ltb-true from (length ws) q) (rw (eq-eqb _ _ e)) in
           rw none

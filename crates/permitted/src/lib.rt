@@ -1,24 +1,26 @@
-// The permitted strikes of an expiration: the multiples that the rules can accept, tried one after another beside the standing strikes near them.
+// The permitted strikes of an expiration: the multiples that the rules can accept, tried one after another beside the
+// standing strikes near them.
 ghost use mathlib.Core.Path.{_≡_};
-ghost use mathlib.Core.Bool.{not, true};
+ghost use mathlib.Core.Bool.{not};
 ghost use mathlib.Core.List.{map};
 ghost use Prim.Native.Nat.{_≤_};
 ghost use lib.Dec.{eqb};
 ghost use lib.ListN.{length, set};
 ghost use lib.Seq.{sets};
 ghost use Rattle.logic.specs.Lists.{some};
-ghost use Rattle.rule.specs.Ends.{reachOf, isOpen};
-ghost use Rattle.rule.specs.Spacing.{standingIn};
-ghost use Rattle.rule.specs.Judgement.{isPermittedBeside, permitted};
-ghost use Rattle.permitted.specs.Listing.{Listable, Triable, Continuable, Continued, strikeAt, strikeFrom, Filled};
-use rule::bounds::fine_end;
-use rule::bounds::fine_step;
-use rule::bounds::half_end;
+ghost use Rattle.rule.specs.Spacing.{standingOf};
+ghost use Rattle.rule.specs.Judgement.{isPermittedBeside};
+ghost use Rattle.permitted.specs.Listing.{Listable, Triable, OpenTriable, Continuable, Climbable, Continued};
+ghost use Rattle.permitted.specs.Listing.{standingStrike, strikeFrom, permittedBeside, Filled};
+use rule::bounds::RUNGS;
+use rule::bounds::Rung;
+use rule::bounds::Rungs;
 use rule::bounds::high_end;
 use rule::bounds::higher_of;
-use rule::bounds::is_program_class;
 use rule::bounds::low_end;
 use rule::bounds::lower_of;
+use rule::bounds::most_open;
+use rule::bounds::rungs_of;
 use rule::judgement::is_accepted;
 use rule::terms::Setting;
 use rule::terms::is_long;
@@ -27,10 +29,17 @@ use word::answer::Refusal;
 use word::field::field_of;
 use word::strike::Strike;
 
-// How far a list is: the standing strikes before `from` are far below the strikes to come, and `count` strikes are listed.
+// How far a list is: the standing strikes before `from` are far below the strikes to come, and `count` strikes are
+// listed.
 struct Progress {
     from: usize,
     count: u32,
+}
+
+// The strikes from `low` to `high`.
+struct Range {
+    low: u32,
+    high: u32,
 }
 
 // The first index from `at` on whose strike is at least `low`, or the length.
@@ -50,7 +59,7 @@ fn strike_from(standing: &[u32], at: usize, low: u32) -> usize
 
 // The strike at an index, or one above all strikes where the words end.
 fn strike_at(standing: &[u32], at: usize) -> u32
-    ensures { λ r. ⌜ r ≡ strikeAt (now (standing .entry)) at ⌝ }
+    ensures { λ r. ⌜ r ≡ standingStrike (now (standing .entry)) at ⌝ }
 {
     if at < standing.len() {
         return field_of(standing[at], 0, 15);
@@ -60,7 +69,7 @@ fn strike_at(standing: &[u32], at: usize) -> u32
 
 // Whether the strike h is none of those of the words.
 fn is_absent(near: &[u32], h: u32) -> bool
-    ensures { λ r. ⌜ r ≡ not (some (λ t. eqb (t .strike) h) (map standingIn (now (near .entry)))) ⌝ }
+    ensures { λ r. ⌜ r ≡ not (some (λ t. eqb (t .strike) h) (map standingOf (now (near .entry)))) ⌝ }
 {
     let mut i: usize = 0;
     while i < near.len() {
@@ -75,7 +84,7 @@ fn is_absent(near: &[u32], h: u32) -> bool
 // Whether `J` would accept the strike h, where the standing strikes before `from` are far below it.
 fn is_permitted_at(s: Setting, standing: &[u32], from: usize, h: u32) -> bool
     requires { ⌜ Triable s (now standing) from h ⌝ }
-    ensures { λ r. ⌜ r ≡ isPermittedBeside s (map standingIn (now (standing .entry))) h ⌝ }
+    ensures { λ r. ⌜ r ≡ isPermittedBeside s (map standingOf (now (standing .entry))) h ⌝ }
 {
     let to = strike_from(standing, from, h + 3);
     let near = &standing[from..to];
@@ -83,9 +92,16 @@ fn is_permitted_at(s: Setting, standing: &[u32], from: usize, h: u32) -> bool
 }
 
 // The same of a strike that the rules accept beside none, by the standing strike at `from`, where that decides.
-fn is_open_at(s: Setting, standing: &[u32], from: usize, next: u32, h: u32, reach: u32) -> bool
-    requires { ⌜ (Triable s (now standing) from h × (next ≡ strikeAt (now standing) from)) × ((reach ≡ reachOf s) × (isOpen s h ≡ true)) ⌝ }
-    ensures { λ r. ⌜ r ≡ isPermittedBeside s (map standingIn (now (standing .entry))) h ⌝ }
+fn is_open_strike_at(
+    s: Setting,
+    standing: &[u32],
+    from: usize,
+    next: u32,
+    h: u32,
+    reach: u32,
+) -> bool
+    requires { ⌜ OpenTriable s (now standing) from next h reach ⌝ }
+    ensures { λ r. ⌜ r ≡ isPermittedBeside s (map standingOf (now (standing .entry))) h ⌝ }
 {
     if h + reach < next {
         return true;
@@ -97,7 +113,7 @@ fn is_open_at(s: Setting, standing: &[u32], from: usize, next: u32, h: u32, reac
 }
 
 // Writes a strike where the run has a place for it.
-fn put(out: &mut [u32], at: usize, h: u32)
+fn write_strike(out: &mut [u32], at: usize, h: u32)
     ensures { λ _. ⌜ now (out .exit) ≡ set (now (out .entry)) at h ⌝ }
 {
     if at < out.len() {
@@ -105,37 +121,36 @@ fn put(out: &mut [u32], at: usize, h: u32)
     }
 }
 
-// Goes on with the permitted strikes from `low` to `high`, which are multiples of `step`. `all` says that the rules accept each of those multiples where none stands.
+// Goes on with the permitted strikes of the range, which are multiples of the rung's step.
 fn write_multiples(
     s: Setting,
     standing: &[u32],
-    all: bool,
-    low: u32,
-    high: u32,
-    step: u32,
+    rung: Rung,
+    range: Range,
     done: Progress,
     out: &mut [u32],
 ) -> Progress
-    requires { ⌜ Continuable s (now standing) all low high step done ⌝ }
-    ensures { λ r. ⌜ Continued s (now (standing .entry)) low high done (now (out .entry)) r (now (out .exit)) ⌝ }
+    requires { ⌜ Continuable s (now standing) rung range done ⌝ }
+    ensures { λ r. ⌜ Continued s (now (standing .entry)) range done (now (out .entry)) r (now (out .exit)) ⌝ }
 {
+    let step = rung.step;
     let reach = if is_long(s) { 2 } else { 1 };
     let mut from = done.from;
     let mut count = done.count;
-    let mut h = (low + (step - 1)) / step * step;
+    let mut h = (range.low + (step - 1)) / step * step;
     let mut next = strike_at(standing, from);
-    while h <= high {
+    while h <= range.high {
         if next <= h + reach {
             from = strike_from(standing, from, h - reach);
             next = strike_at(standing, from);
         }
-        let permitted = if all {
-            is_open_at(s, standing, from, next, h, reach)
+        let permitted = if rung.all {
+            is_open_strike_at(s, standing, from, next, h, reach)
         } else {
             is_permitted_at(s, standing, from, h)
         };
         if permitted {
-            put(out, count as usize, h);
+            write_strike(out, count as usize, h);
             count += 1;
         }
         h += step;
@@ -143,45 +158,53 @@ fn write_multiples(
     Progress { from, count }
 }
 
-// Writes the permitted strikes, rising, as far as `out` has places, and answers how many there are. Most stretches are empty, and are passed without a call.
+// Goes on with the permitted strikes of the range, rung by rung.
+fn write_range(
+    s: Setting,
+    standing: &[u32],
+    rungs: Rungs,
+    range: Range,
+    done: Progress,
+    out: &mut [u32],
+) -> Progress
+    requires { ⌜ Climbable s (now standing) rungs range done ⌝ }
+    ensures { λ r. ⌜ Continued s (now (standing .entry)) range done (now (out .entry)) r (now (out .exit)) ⌝ }
+{
+    let mut reached = done;
+    let mut low = range.low;
+    let mut i: usize = 0;
+    while i < RUNGS {
+        let rung = rungs[i];
+        let high = lower_of(rung.to, range.high);
+        if low <= high {
+            reached = write_multiples(s, standing, rung, Range { low, high }, reached, out);
+            low = high + 1;
+        }
+        i += 1;
+    }
+    reached
+}
+
+// Writes the permitted strikes, rising, as far as `out` has places, and answers how many there are.
 pub fn write_permitted(s: Setting, standing: &[u32], out: &mut [u32]) -> u32
     requires { ⌜ Listable s (now standing) ⌝ }
-    ensures { λ r. ⌜ r ≡ length (permitted s (map standingIn (now (standing .entry)))) ⌝ }
-    ensures { λ _. ⌜ now (out .exit) ≡ sets (now (out .entry)) 0 (permitted s (map standingIn (now (standing .entry)))) ⌝ }
+    ensures { λ r. ⌜ r ≡ length (permittedBeside s (now (standing .entry))) ⌝ }
+    ensures { λ _. ⌜ now (out .exit) ≡ sets (now (out .entry)) 0 (permittedBeside s (now (standing .entry))) ⌝ }
 {
-    let class = s.class;
-    let half = half_end(s);
-    let low = higher_of(low_end(class.close), half + 1);
+    let low = higher_of(low_end(s.class.close), 1);
     let high = high_end(s);
-    let end = fine_end(class);
-    let open = !(is_long(s) & is_program_class(class));
-    let mut done = Progress { from: 0, count: 0 };
-    if 0 < half {
-        done = write_multiples(s, standing, true, 1, half, 1, done, out);
-    }
-    let fine = lower_of(high, end);
-    if low <= fine {
-        done = write_multiples(s, standing, open, low, fine, fine_step(class), done, out);
-    }
-    let fives = higher_of(low, end + 1);
-    let last = lower_of(high, 400);
-    if fives <= last {
-        done = write_multiples(s, standing, true, fives, last, 10, done, out);
-    }
-    let tens = higher_of(low, 401);
-    if tens <= high {
-        done = write_multiples(s, standing, true, tens, high, 20, done, out);
-    }
+    let none = Progress { from: 0, count: 0 };
+    let done = write_range(s, standing, rungs_of(s), Range { low, high }, none, out);
     done.count
 }
 
-// Writes the permitted strikes to the second run where it has places for all of them, and nothing else: unless it has a place for each multiple, they are counted before, by a first turn that has no place.
+// Writes the permitted strikes to the second run where it has places for all of them, and nothing else: unless it has a
+// place for each that there can be, they are counted before, by a first turn that has no place.
 pub fn list_permitted(s: Setting, standing: &[u32], second: &mut [u32]) -> Answer
     requires { ⌜ Listable s (now standing) ⌝ }
-    ensures { λ r. ⌜ Filled (permitted s (map standingIn (now (standing .entry)))) (now (second .entry)) r (now (second .exit)) ⌝ }
+    ensures { λ r. ⌜ Filled (permittedBeside s (now (standing .entry))) (now (second .entry)) r (now (second .exit)) ⌝ }
 {
-    let most = half_end(s) + high_end(s) / 2;
-    let mut room = if second.len() < most as usize {
+    let mut room = if second.len() < most_open(s) as usize {
         0
     } else {
         second.len()

@@ -1,16 +1,18 @@
--- The ranges in half dollars: a strike in range stands from the lowest end to the highest, and each strike of the range grid between them is in range, so that on each grid the ends tell the range. Assumes nothing.
+-- The ranges in half dollars: a strike in range stands from the lowest end to the highest, and each strike of the range
+-- grid between them is in range, so that on each grid the ends tell the range. Assumes nothing.
 use mathlib.Core.Path.{_≡_, refl, sym, _∙_}
-use mathlib.Core.Bool.{Bool, true, false, cond, _&&_, _||_}
+use mathlib.Core.Bool.{Bool, true, false, not, cond, _&&_, _||_}
 use mathlib.Core.Logic.{⊎-elim}
 use Prim.Native.Nat.{ℕ, _+_, _*_, _/_, _%_, _≤_, _<_, min, max}
 use native.Mathlib.Omega.{arith}
 use lib.Dec.{leb, ltb}
 use borrow.Author.Tests.{ltb-false, leb-true, leb-false, le-leb, lt-ltb, le-ltb, eq-eqb}
+use Rattle.word.specs.Limits.{highestStrike}
 use Rattle.rule.specs.declared.terms.Setting.{Setting}
-use Rattle.rule.specs.Terms.{cents, isDollarClass, isHalfClass, isNear, price}
+use Rattle.rule.specs.Terms.{cents, isDollarClass, isHalfClass, isLong, isNear, price}
 use Rattle.rule.specs.Grids.{multiple, standardGrid, dollarGrid, halfDollars, halfGrid, wingBase, wingGrid}
 use Rattle.rule.specs.Ranges.{amongFive, rangeBy, rangeGrid, standardRange, rangeOf}
-use Rattle.rule.specs.Ends.{fifthAbove, halfEnd, lowEnd, highEnd}
+use Rattle.rule.specs.Ends.{fifthAbove, halfEnd, lowEnd, highEnd, reachOf}
 use Rattle.rule.proofs.Tests.{and-left, and-right, or-cases, same}
 use Rattle.rule.proofs.Five.{five, five-half-dollars}
 use Rattle.rule.proofs.Steps.{times, standard-five, fives-standard, Wing, wing-stepped}
@@ -20,7 +22,8 @@ module _ (whole dollar : Bool) (q : ℕ) where
   fifth-most : q ≤ 40 → fifthAbove whole dollar q ≤ 100
   fifth-most l = go whole dollar (ltb q 30)
     where
-      go : (w d t : Bool) → cond w (q / 2 * 2 + 10) (cond d (q / 10 * 10 + 50) (cond t (q / 5 * 5 + 25) (q / 5 * 10))) ≤ 100
+      go : (w d t : Bool) →
+          cond w (q / 2 * 2 + 10) (cond d (q / 10 * 10 + 50) (cond t (q / 5 * 5 + 25) (q / 5 * 10))) ≤ 100
       go true d t = omega arith
       go false true t = omega arith
       go false false true = omega arith
@@ -47,16 +50,23 @@ module _ (s : Setting) where
   -- where a strike in range stands
   pub record Ranged (h : ℕ) : Type 0 where
     pub low : lowEnd p ≤ h
-    pub high : h ≤ 19999 → h ≤ highEnd s
+    pub high : h ≤ highestStrike → h ≤ highEnd s
 
   pub standard-ranged : (h : ℕ) → standardRange s h ≡ true → Ranged h
   standard-ranged h = go (ltb 2000 p) refl
     where
-      go : (t : Bool) → ltb 2000 p ≡ t → cond t (leb p (2 * cents h) && leb (2 * cents h) (3 * p)) (leb (cents h) (2 * p) || amongFive (rangeGrid s) p h) ≡ true → Ranged h
+      above : Bool
+      above = leb p (2 * cents h)
+
+      below : Bool
+      below = leb (2 * cents h) (3 * p)
+
+      go : (t : Bool) → ltb 2000 p ≡ t →
+          cond t (above && below) (leb (cents h) (2 * p) || amongFive (rangeGrid s) p h) ≡ true → Ranged h
       go true q e =
           record {
-            low = rw q (omega (arith, leb-true p (2 * cents h) (and-left (leb p (2 * cents h)) (leb (2 * cents h) (3 * p)) e)));
-            high = λ l. rw q (omega (arith, leb-true (2 * cents h) (3 * p) (and-right (leb p (2 * cents h)) (leb (2 * cents h) (3 * p)) e)));
+            low = rw q (omega (arith, leb-true p (2 * cents h) (and-left above below e)));
+            high = λ l. rw q (omega (arith, leb-true (2 * cents h) (3 * p) (and-right above below e)));
           }
       go false q e =
           record {
@@ -69,14 +79,20 @@ module _ (s : Setting) where
 
           among : amongFive (rangeGrid s) p h ≡ true → h ≤ max (p / 25) fifth
           among a =
-              let b : (ltb (p / 50) h && leb h fifth) ≡ true = and-left (ltb (p / 50) h && leb h fifth) (rangeGrid s (cents h)) (sym (five s h (ltb-false 2000 p q)) ∙ a) in
+              let b : (ltb (p / 50) h && leb h fifth) ≡ true =
+              and-left (ltb (p / 50) h && leb h fifth) (rangeGrid s (cents h))
+              (sym (five s h (ltb-false 2000 p q)) ∙ a) in
               omega (arith, leb-true h fifth (and-right (ltb (p / 50) h) (leb h fifth) b))
 
   pub ranged-standard : (h : ℕ) → rangeGrid s (cents h) ≡ true → lowEnd p ≤ h → h ≤ highEnd s → standardRange s h ≡ true
   ranged-standard h on = go (ltb 2000 p) refl (leb (cents h) (2 * p)) refl
     where
-      go : (t : Bool) → ltb 2000 p ≡ t → (u : Bool) → leb (cents h) (2 * p) ≡ u → cond {A = ℕ} t ((p + 99) / 100) 0 ≤ h →
-          h ≤ cond {A = ℕ} t (min (3 * p / 100) 19999) (max (p / 25) fifth) → cond t (leb p (2 * cents h) && leb (2 * cents h) (3 * p)) (leb (cents h) (2 * p) || amongFive (rangeGrid s) p h) ≡ true
+      go : (t : Bool) → ltb 2000 p ≡ t → (u : Bool) → leb (cents h) (2 * p) ≡ u →
+          cond {A = ℕ} t ((p + 99) / 100) 0 ≤ h →
+          h ≤ cond {A = ℕ} t (min (3 * p / 100) highestStrike) (max (p / 25) fifth) →
+          cond t (leb p (2 * cents h) && leb (2 * cents h) (3 * p))
+          (leb (cents h) (2 * p) || amongFive (rangeGrid s) p h)
+          ≡ true
       go true q u a low high = rw (le-leb p (2 * cents h) (omega arith), le-leb (2 * cents h) (3 * p) (omega arith))
       go false q true a low high = rw a
       go false q false a low high =
@@ -84,7 +100,8 @@ module _ (s : Setting) where
           rw (a, five s h (ltb-false 2000 p q), on, lt-ltb (p / 50) h (omega arith), le-leb h fifth (omega arith))
 
   -- on the range grid the ends tell the range
-  range-ends : (h : ℕ) → rangeGrid s (cents h) ≡ true → h ≤ 19999 → standardRange s h ≡ (leb (lowEnd p) h && leb h (highEnd s))
+  range-ends : (h : ℕ) → rangeGrid s (cents h) ≡ true → h ≤ highestStrike →
+      standardRange s h ≡ (leb (lowEnd p) h && leb h (highEnd s))
   range-ends h on most = same (standardRange s h) (leb (lowEnd p) h && leb h (highEnd s)) to from
     where
       to : standardRange s h ≡ true → (leb (lowEnd p) h && leb h (highEnd s)) ≡ true
@@ -102,21 +119,25 @@ module _ (s : Setting) where
   pub standard-range-grid : (h : ℕ) → standardGrid (s .class) (cents h) ≡ true → rangeGrid s (cents h) ≡ true
   standard-range-grid h e = go (isNear s && dollar) refl
     where
-      go : (t : Bool) → (isNear s && dollar) ≡ t → cond t (multiple 100 (cents h)) (standardGrid (s .class) (cents h)) ≡ true
+      go : (t : Bool) → (isNear s && dollar) ≡ t →
+          cond t (multiple 100 (cents h)) (standardGrid (s .class) (cents h)) ≡ true
       go true q = eq-eqb (cents h % 100) 0 (omega (arith, standard-five (s .class) h (and-right (isNear s) dollar q) e))
       go false q = e
 
-  pub standard-ends : (h : ℕ) → standardGrid (s .class) (cents h) ≡ true → h ≤ 19999 → standardRange s h ≡ (leb (lowEnd p) h && leb h (highEnd s))
+  pub standard-ends : (h : ℕ) → standardGrid (s .class) (cents h) ≡ true → h ≤ highestStrike →
+      standardRange s h ≡ (leb (lowEnd p) h && leb h (highEnd s))
   standard-ends h e most = range-ends h (standard-range-grid h e) most
 
   -- a Dollar strike is a whole dollar in a near $1 class
-  pub dollar-ends : (h : ℕ) → dollarGrid s (cents h) ≡ true → h ≤ 19999 → standardRange s h ≡ (leb (lowEnd p) h && leb h (highEnd s))
+  pub dollar-ends : (h : ℕ) → dollarGrid s (cents h) ≡ true → h ≤ highestStrike →
+      standardRange s h ≡ (leb (lowEnd p) h && leb h (highEnd s))
   dollar-ends h e most =
       let asked : Bool = isNear s && dollar && ltb p 5000 in
       let whole : Bool = multiple 100 (cents h) in
       let a : asked ≡ true = and-left asked (whole && leb 100 (cents h) && leb (cents h) 5000) e in
       let b : (whole && leb 100 (cents h)) ≡ true =
-      and-left (whole && leb 100 (cents h)) (leb (cents h) 5000) (and-right asked (whole && leb 100 (cents h) && leb (cents h) 5000) e) in
+      and-left (whole && leb 100 (cents h)) (leb (cents h) 5000)
+      (and-right asked (whole && leb 100 (cents h) && leb (cents h) 5000) e) in
       range-ends h (rw (and-left (isNear s && dollar) (ltb p 5000) a, and-left whole (leb 100 (cents h)) b)) most
 
   -- the L of a wing and the strike $5 above it are Standard strikes
@@ -128,29 +149,39 @@ module _ (s : Setting) where
       l = wingBase (cents h) / 50
 
       in-range : (n : ℕ) → n % 10 ≡ 0 → n ≤ 100 → lowEnd p ≤ n → n ≤ highEnd s → standardRange s n ≡ true
-      in-range n m k = ranged-standard n (standard-range-grid n (fives-standard (s .class) n m (λ j. absurd (omega arith))))
+      in-range n m k =
+          ranged-standard n (standard-range-grid n (fives-standard (s .class) n m (λ j. absurd (omega arith))))
 
       to : rangeOf s 3 h ≡ true → (leb (lowEnd p) l && leb (l + 10) (highEnd s)) ≡ true
       to r =
           let w : Wing s h = wing-stepped s h e in
           let low : lowEnd p ≤ l = standard-ranged l (and-left (standardRange s l) (standardRange s (l + 10)) r) .low in
-          let high : l + 10 ≤ highEnd s = standard-ranged (l + 10) (and-right (standardRange s l) (standardRange s (l + 10)) r) .high (omega (arith, w .most)) in
+          let high : l + 10 ≤ highEnd s =
+          standard-ranged (l + 10) (and-right (standardRange s l) (standardRange s (l + 10)) r) .high
+          (omega (arith, w .most)) in
           rw (le-leb (lowEnd p) l low, le-leb (l + 10) (highEnd s) high)
 
       from : (leb (lowEnd p) l && leb (l + 10) (highEnd s)) ≡ true → rangeOf s 3 h ≡ true
       from r =
           let w : Wing s h = wing-stepped s h e in
           let low : lowEnd p ≤ l = leb-true (lowEnd p) l (and-left (leb (lowEnd p) l) (leb (l + 10) (highEnd s)) r) in
-          let high : l + 10 ≤ highEnd s = leb-true (l + 10) (highEnd s) (and-right (leb (lowEnd p) l) (leb (l + 10) (highEnd s)) r) in
+          let high : l + 10 ≤ highEnd s =
+          leb-true (l + 10) (highEnd s) (and-right (leb (lowEnd p) l) (leb (l + 10) (highEnd s)) r) in
           let m : l % 10 ≡ 0 = times 10 l (cents h / 500) (omega arith) in
-          rw (in-range l m (omega (arith, w .most)) low (omega arith), in-range (l + 10) (omega arith) (omega (arith, w .most)) (omega arith) high)
+          rw (
+            in-range l m (omega (arith, w .most)) low (omega arith),
+            in-range (l + 10) (omega arith) (omega (arith, w .most)) (omega arith) high,
+          )
 
-  pub high-strike : highEnd s ≤ 19999
+  pub high-strike : highEnd s ≤ highestStrike
   high-strike = go (ltb 2000 p) refl
     where
-      go : (t : Bool) → ltb 2000 p ≡ t → cond {A = ℕ} t (min (3 * p / 100) 19999) (max (p / 25) fifth) ≤ 19999
+      go : (t : Bool) → ltb 2000 p ≡ t →
+          cond {A = ℕ} t (min (3 * p / 100) highestStrike) (max (p / 25) fifth) ≤ highestStrike
       go true q = omega arith
-      go false q = omega (arith, ltb-false 2000 p q, fifth-most (isNear s && dollar) dollar (p / 50) (omega (arith, ltb-false 2000 p q)))
+      go false q =
+          let cheap : p ≤ 2000 = ltb-false 2000 p q in
+          omega (arith, fifth-most (isNear s && dollar) dollar (p / 50) (omega arith))
 
   abbrev halfAsked : Bool
   halfAsked = isNear s && isHalfClass (s .class) && leb p 500 && leb 1000 (s .class .volume)
@@ -166,8 +197,28 @@ module _ (s : Setting) where
       go : (t : Bool) → halfAsked ≡ t → cond {A = ℕ} t (min (max (p / 25) (p / 50 + 5)) 11) 0 ≤ highEnd s
       go true a =
           let l : p ≤ 500 = half-price a in
-          rw (le-ltb 2000 p (omega arith)) (omega (arith, fifth-least (isNear s && dollar) dollar (p / 50) (omega arith)))
+          rw (le-ltb 2000 p (omega arith))
+          (omega (arith, fifth-least (isNear s && dollar) dollar (p / 50) (omega arith)))
       go false a = omega arith
+
+  -- on the grid of Half the price sets no lowest strike
+  pub half-low : (h : ℕ) → halfGrid s (cents h) ≡ true → lowEnd p ≡ 0
+  half-low h grid =
+      let cheap : p ≤ 500 = half-price (and-left halfAsked (halfDollars (cents h)) grid) in
+      rw (le-ltb 2000 p (omega arith))
+
+  -- Half gives strikes in near expirations only
+  pub half-reach : 1 ≤ halfEnd s → reachOf s ≤ 1
+  half-reach = go (isLong s)
+    where
+      go : (long : Bool) →
+          1
+          ≤ cond {A = ℕ} (not long && isHalfClass (s .class) && leb p 500 && leb 1000 (s .class .volume))
+          (min (max (p / 25) (p / 50 + 5)) 11)
+          0 →
+          cond {A = ℕ} long 2 1 ≤ 1
+      go true l = absurd (omega arith)
+      go false l = omega arith
 
   pub half-ranged : (h : ℕ) → halfGrid s (cents h) ≡ true → rangeBy halfDollars p h ≡ true → h ≤ halfEnd s
   half-ranged h grid range =
@@ -189,13 +240,16 @@ module _ (s : Setting) where
           and-left (ltb (p / 50) h && leb h (p / 50 + 5)) (halfDollars (cents h)) (sym (five-half-dollars p h) ∙ b) in
           omega (arith, leb-true h (p / 50 + 5) (and-right (ltb (p / 50) h) (leb h (p / 50 + 5)) c))
 
-  half-near : (h : ℕ) → halfAsked ≡ true → h ≤ min (max (p / 25) (p / 50 + 5)) 11 → (halfGrid s (cents h) ≡ true) × (rangeBy halfDollars p h ≡ true)
+  half-near : (h : ℕ) → halfAsked ≡ true → h ≤ min (max (p / 25) (p / 50 + 5)) 11 →
+      (halfGrid s (cents h) ≡ true) × (rangeBy halfDollars p h ≡ true)
   half-near h a m =
       let cheap : p ≤ 500 = half-price a in
-      let on : halfDollars (cents h) ≡ true = rw (eq-eqb (cents h % 50) 0 (omega arith), le-leb (cents h) 550 (omega arith)) in
+      let on : halfDollars (cents h) ≡ true =
+      rw (eq-eqb (cents h % 50) 0 (omega arith), le-leb (cents h) 550 (omega arith)) in
       (rw (a, on), rw (le-ltb 2000 p (omega arith)) (near (leb (cents h) (2 * p)) refl on))
     where
-      near : (u : Bool) → leb (cents h) (2 * p) ≡ u → halfDollars (cents h) ≡ true → (leb (cents h) (2 * p) || amongFive halfDollars p h) ≡ true
+      near : (u : Bool) → leb (cents h) (2 * p) ≡ u → halfDollars (cents h) ≡ true →
+          (leb (cents h) (2 * p) || amongFive halfDollars p h) ≡ true
       near true q on = rw q
       near false q on =
           let above : 2 * p < cents h = leb-false (cents h) (2 * p) q in

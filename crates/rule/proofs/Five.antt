@@ -1,4 +1,5 @@
--- The five lowest strikes above a price end at a closed form: a walk finds the strikes that pass up to where it ends, and the ends are computed for each price of at most $20. Assumes nothing.
+-- The five lowest strikes above a price end at a closed form: a walk finds the strikes that pass up to where it ends,
+-- and the ends are computed for each price of at most $20. Assumes nothing.
 use mathlib.Core.Path.{_≡_, refl, sym, ap, _∙_, fun-ext}
 use mathlib.Core.Bool.{Bool, true, false, cond, not, _&&_, _||_, and-false, true≢false}
 use mathlib.Core.List.{_∷_}
@@ -6,6 +7,7 @@ use Prim.Native.Nat.{ℕ, zero, suc, _+_, _/_, _≤_, _<_}
 use native.Mathlib.Omega.{arith}
 use borrow.Author.Tests.{leb-true, ltb-true, ltb-false, eqb-true, eqb-false, lt-ltb, le-ltb, le-leb}
 use lib.Dec.{leb, ltb, eqb, leb·suc-suc}
+use Rattle.word.specs.Limits.{highestStrike}
 use Rattle.rule.specs.declared.terms.Setting.{Setting}
 use Rattle.logic.specs.Lists.{some}
 use Rattle.rule.specs.Terms.{cents, isDollarClass, isNear, price}
@@ -45,7 +47,8 @@ end-low test zero n a = omega arith
 end-low test (suc left) zero a = omega arith
 end-low test (suc left) (suc n) a = go (test a) refl (end-low test left n (suc a)) (end-low test left (suc n) (suc a))
   where
-    go : (b : Bool) → test a ≡ b → suc a ≤ endOf test left n (suc a) → suc a ≤ endOf test left (suc n) (suc a) → a ≤ endOf test (suc left) (suc n) a
+    go : (b : Bool) → test a ≡ b → suc a ≤ endOf test left n (suc a) → suc a ≤ endOf test left (suc n) (suc a) →
+        a ≤ endOf test (suc left) (suc n) a
     go true e x y = omega (arith, end-on test left n a e)
     go false e x y = omega (arith, end-off test left n a e)
 
@@ -62,10 +65,12 @@ module _ (test : ℕ → Bool) (a end h : ℕ) where
   from-next : (h ≡ a → ⊥) → leb (suc a) h ≡ leb a h
   from-next ne = same-leb (suc a) h a h (λ l. omega arith) (λ l. omega (arith, ne))
 
-  step-on : test a ≡ true → suc a ≤ end → (eqb h a || (leb (suc a) h && ltb h end && test h)) ≡ (leb a h && ltb h end && test h)
+  step-on : test a ≡ true → suc a ≤ end →
+      (eqb h a || (leb (suc a) h && ltb h end && test h)) ≡ (leb a h && ltb h end && test h)
   step-on on low = go (eqb h a) refl
     where
-      go : (t : Bool) → eqb h a ≡ t → (eqb h a || (leb (suc a) h && ltb h end && test h)) ≡ (leb a h && ltb h end && test h)
+      go : (t : Bool) → eqb h a ≡ t →
+          (eqb h a || (leb (suc a) h && ltb h end && test h)) ≡ (leb a h && ltb h end && test h)
       go true e =
           let p : h ≡ a = eqb-true h a e in
           rw (e, p, le-leb a a (omega arith), lt-ltb a end low) (sym on)
@@ -81,7 +86,8 @@ module _ (test : ℕ → Bool) (a end h : ℕ) where
       go false e = rw (from-next (eqb-false h a e))
 
 -- the strikes that `lowest` finds are those that pass, up to where it ends
-among : (test : ℕ → Bool) (left n a h : ℕ) → some (eqb h) (lowest test left n a) ≡ (leb a h && ltb h (endOf test left n a) && test h)
+among : (test : ℕ → Bool) (left n a h : ℕ) →
+    some (eqb h) (lowest test left n a) ≡ (leb a h && ltb h (endOf test left n a) && test h)
 unfolding lowest endOf
 among test zero n a h = none a h (test h)
 among test (suc left) zero a h = none a h (test h)
@@ -89,29 +95,32 @@ among test (suc left) (suc n) a h = go (test a) refl (among test left n (suc a) 
   where
     go : (b : Bool) → test a ≡ b →
         some (eqb h) (lowest test left n (suc a)) ≡ (leb (suc a) h && ltb h (endOf test left n (suc a)) && test h) →
-        some (eqb h) (lowest test left (suc n) (suc a)) ≡ (leb (suc a) h && ltb h (endOf test left (suc n) (suc a)) && test h) →
+        some (eqb h) (lowest test left (suc n) (suc a))
+        ≡ (leb (suc a) h && ltb h (endOf test left (suc n) (suc a)) && test h) →
         some (eqb h) (lowest test (suc left) (suc n) a) ≡ (leb a h && ltb h (endOf test (suc left) (suc n) a) && test h)
     go true e x y =
         rw (lowest-on test left n a e, end-on test left n a e)
-        (ap (λ (t : Bool). eqb h a || t) x ∙ step-on test a (endOf test left n (suc a)) h e (end-low test left n (suc a)))
+        (ap (λ (t : Bool). eqb h a || t) x
+        ∙ step-on test a (endOf test left n (suc a)) h e (end-low test left n (suc a)))
     go false e x y =
         rw (lowest-off test left n a e, end-off test left n a e)
         (y ∙ step-off test a (endOf test left (suc n) (suc a)) h e)
 
 -- where the walk ends that looks for the five lowest strikes above the strike q
 endAbove : (ℕ → Bool) → ℕ → ℕ
-endAbove grid q = endOf (λ x. ltb q x && grid (cents x)) 19999 5 1
+endAbove grid q = endOf (λ x. ltb q x && grid (cents x)) highestStrike 5 1
 
 -- a strike is above a price when it is above the highest strike at or below the price
 above : (p h : ℕ) → ltb p (cents h) ≡ ltb (p / 50) h
 above p h = same-leb (suc p) (cents h) (suc (p / 50)) h (λ l. omega arith) (λ l. omega arith)
 
-among-above : (grid : ℕ → Bool) (p h : ℕ) → amongFive grid p h ≡ (ltb (p / 50) h && ltb h (endAbove grid (p / 50)) && grid (cents h))
+among-above : (grid : ℕ → Bool) (p h : ℕ) →
+    amongFive grid p h ≡ (ltb (p / 50) h && ltb h (endAbove grid (p / 50)) && grid (cents h))
 unfolding amongFive endAbove
 among-above grid p h =
-    ap (λ (test : ℕ → Bool). some (eqb h) (lowest test 19999 5 1))
+    ap (λ (test : ℕ → Bool). some (eqb h) (lowest test highestStrike 5 1))
     (fun-ext (λ x. ap (λ (t : Bool). t && grid (cents x)) (above p x)))
-    ∙ among (λ x. ltb (p / 50) x && grid (cents x)) 19999 5 1 h
+    ∙ among (λ x. ltb (p / 50) x && grid (cents x)) highestStrike 5 1 h
     ∙ and-implied (leb 1 h) (ltb h (endAbove grid (p / 50))) (ltb (p / 50) h) (grid (cents h))
     (λ e. le-leb 1 h (omega (arith, ltb-true (p / 50) h e)))
 
@@ -124,7 +133,8 @@ below : (test : ℕ → Bool) (n : ℕ) → allBelow test n ≡ true → (q : �
 below test zero all q l = absurd (omega arith)
 below test (suc n) all q l = go (λ u m. below test n u q m) (test n) refl (eqb q n) refl
   where
-    go : (allBelow test n ≡ true → q < n → test q ≡ true) → (b : Bool) → test n ≡ b → (t : Bool) → eqb q n ≡ t → test q ≡ true
+    go : (allBelow test n ≡ true → q < n → test q ≡ true) → (b : Bool) → test n ≡ b → (t : Bool) → eqb q n ≡ t →
+        test q ≡ true
     go rest true e true k = rw (eqb-true q n k) e
     go rest true e false k =
         let ne : q ≡ n → ⊥ = eqb-false q n k in
@@ -147,7 +157,8 @@ ends false true = refl
 ends false false = refl
 
 five-by : (whole dollar : Bool) (p h : ℕ) → p ≤ 2000 →
-    amongFive (gridBy whole dollar) p h ≡ (ltb (p / 50) h && leb h (fifthAbove whole dollar (p / 50)) && gridBy whole dollar (cents h))
+    amongFive (gridBy whole dollar) p h
+    ≡ (ltb (p / 50) h && leb h (fifthAbove whole dollar (p / 50)) && gridBy whole dollar (cents h))
 unfolding endTest
 five-by whole dollar p h cheap =
     let fifth : ℕ = fifthAbove whole dollar (p / 50) in
@@ -157,7 +168,10 @@ five-by whole dollar p h cheap =
     ∙ ap (λ (t : Bool). ltb (p / 50) h && t && gridBy whole dollar (cents h)) (ap (ltb h) end ∙ leb·suc-suc h fifth)
 
 pub five : (s : Setting) (h : ℕ) → price s ≤ 2000 →
-    amongFive (rangeGrid s) (price s) h ≡ (ltb (price s / 50) h && leb h (fifthAbove (isNear s && isDollarClass (s .class)) (isDollarClass (s .class)) (price s / 50)) && rangeGrid s (cents h))
+    amongFive (rangeGrid s) (price s) h
+    ≡ (ltb (price s / 50) h
+    && leb h (fifthAbove (isNear s && isDollarClass (s .class)) (isDollarClass (s .class)) (price s / 50))
+    && rangeGrid s (cents h))
 five s h cheap = five-by (isNear s && isDollarClass (s .class)) (isDollarClass (s .class)) (price s) h cheap
 
 -- from $3.50 up the half dollars to $5.50 are fewer than five: the walk then goes on to the highest strike
@@ -172,7 +186,8 @@ half-end : (q h : ℕ) → q < h → h ≤ 11 → ltb h (endAbove halfDollars q)
 unfolding halfEndTest
 half-end q h low high = go (ltb q 7) refl (eqb-true _ _ (below halfEndTest 11 half-ends q (omega arith)))
   where
-    go : (t : Bool) → ltb q 7 ≡ t → endAbove halfDollars q ≡ cond t (q + 6) 20000 → ltb h (endAbove halfDollars q) ≡ leb h (q + 5)
+    go : (t : Bool) → ltb q 7 ≡ t → endAbove halfDollars q ≡ cond t (q + 6) 20000 →
+        ltb h (endAbove halfDollars q) ≡ leb h (q + 5)
     go true e end = same-leb (suc h) (endAbove halfDollars q) h (q + 5) (λ l. omega arith) (λ l. omega arith)
     go false e end =
         lt-ltb h (endAbove halfDollars q) (omega arith) ∙ sym (le-leb h (q + 5) (omega (arith, ltb-false q 7 e)))

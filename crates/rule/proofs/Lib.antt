@@ -1,4 +1,5 @@
 pub mod Tests
+pub mod Rungs
 pub mod Steps
 pub mod Five
 pub mod Grounds

@@ -12,12 +12,12 @@ use lib.Seq.{getD-take, getD-drop, drop-drop}
 use borrow.Author.Tests.{ltb-true, leb-false, lt-ltb, lt-leb, ne-eqb, not-true}
 use Rattle.logic.proofs.Lists.{not-some}
 use Rattle.rule.specs.declared.terms.Setting.{Setting}
-use Rattle.logic.specs.Lists.{some, every, Rising}
+use Rattle.logic.specs.Lists.{every, Rising}
 use Rattle.rule.specs.Terms.{cents, isLong}
 use Rattle.rule.specs.Ends.{reachOf}
 use Rattle.rule.specs.Grids.{grounds, gridOf}
 use Rattle.rule.specs.Ranges.{rangeOf}
-use Rattle.rule.specs.Spacing.{Standing, standingIn, apart, crowds, clears, spacingOf}
+use Rattle.rule.specs.Spacing.{Standing, standingOf, apart, crowds, clears, spacingOf}
 use Rattle.word.specs.Answers.{isAccepted}
 use Rattle.rule.specs.Judgement.{decided, judgement, isPermittedBeside}
 use Rattle.rule.proofs.Tests.{and-left, and-right, or-cases}
@@ -126,7 +126,7 @@ module _ (s : Setting) (h : ℕ) where
 
 -- the strike of the word at the index i
 abbrev strikeAt : List ℕ → ℕ → ℕ
-strikeAt ws i = standingIn (getD ws i 0) .strike
+strikeAt ws i = standingOf (getD ws i 0) .strike
 
 -- the strikes before the index `from` and those from the index `to` on stand out of reach of h
 pub record Between (s : Setting) (h : ℕ) (ws : List ℕ) (from to : ℕ) : Type 0 where
@@ -145,7 +145,7 @@ each-at test d (x ∷ xs) (suc i) l e = each-at test d xs i (omega arith) (and-r
 
 -- the strikes before, between and after two indices
 parted : (ws : List ℕ) (from to : ℕ) → from ≤ to →
-    map standingIn (take from ws) ++ (map standingIn (take (to - from) (drop from ws)) ++ map standingIn (drop to ws)) ≡ map standingIn ws
+    map standingOf (take from ws) ++ (map standingOf (take (to - from) (drop from ws)) ++ map standingOf (drop to ws)) ≡ map standingOf ws
 parted ws from to order =
     let near : List ℕ = take (to - from) (drop from ws) in
     let l : from + (to - from) ≡ to = omega arith in
@@ -157,30 +157,30 @@ module _ {s : Setting} {h : ℕ} {ws : List ℕ} {from to : ℕ} (between : Betw
   abbrev near : List ℕ
   near = take (to - from) (drop from ws)
 
-  far-before : every (isFar s h) (map standingIn (take from ws)) ≡ true
-  far-before = every-map (isFar s h) standingIn (take from ws) ∙ every-by-index (λ w. isFar s h (standingIn w)) 0 (take from ws) far
+  far-before : every (isFar s h) (map standingOf (take from ws)) ≡ true
+  far-before = every-map (isFar s h) standingOf (take from ws) ∙ every-by-index (λ w. isFar s h (standingOf w)) 0 (take from ws) far
     where
-      far : (i : ℕ) → i < length (take from ws) → isFar s h (standingIn (getD (take from ws) i 0)) ≡ true
+      far : (i : ℕ) → i < length (take from ws) → isFar s h (standingOf (getD (take from ws) i 0)) ≡ true
       far i l =
           let k : i < from = omega (arith, length-take from ws) in
           rw (getD-take from ws i 0 k, lt-ltb (strikeAt ws i + reachOf s) h (between .below i k))
 
-  far-after : every (isFar s h) (map standingIn (drop to ws)) ≡ true
-  far-after = every-map (isFar s h) standingIn (drop to ws) ∙ every-by-index (λ w. isFar s h (standingIn w)) 0 (drop to ws) far
+  far-after : every (isFar s h) (map standingOf (drop to ws)) ≡ true
+  far-after = every-map (isFar s h) standingOf (drop to ws) ∙ every-by-index (λ w. isFar s h (standingOf w)) 0 (drop to ws) far
     where
-      far : (i : ℕ) → i < length (drop to ws) → isFar s h (standingIn (getD (drop to ws) i 0)) ≡ true
+      far : (i : ℕ) → i < length (drop to ws) → isFar s h (standingOf (getD (drop to ws) i 0)) ≡ true
       far i l =
           let k : to + i < length ws = omega (arith, length-drop to ws) in
           rw (getD-drop to ws i 0, lt-ltb (h + reachOf s) (strikeAt ws (to + i)) (between .above (to + i) (omega arith) k), or-true)
 
-  words-spaced : (g : ℕ) → spacingOf s (map standingIn ws) g h ≡ spacingOf s (map standingIn near) g h
+  words-spaced : (g : ℕ) → spacingOf s (map standingOf ws) g h ≡ spacingOf s (map standingOf near) g h
   words-spaced g =
       ap (λ (standing : List Standing). spacingOf s standing g h) (sym (parted ws from to (between .order)))
-      ∙ near-spaced s h g (map standingIn (take from ws)) (map standingIn near) (map standingIn (drop to ws)) far-before far-after
+      ∙ near-spaced s h g (map standingOf (take from ws)) (map standingOf near) (map standingOf (drop to ws)) far-before far-after
 
-  pub words-permitted : isPermittedBeside s (map standingIn near) h ≡ isPermittedBeside s (map standingIn ws) h
+  pub words-permitted : isPermittedBeside s (map standingOf near) h ≡ isPermittedBeside s (map standingOf ws) h
   words-permitted =
-      sym (near-permitted s h (map standingIn (take from ws)) (map standingIn near) (map standingIn (drop to ws)) far-before far-after)
+      sym (near-permitted s h (map standingOf (take from ws)) (map standingOf near) (map standingOf (drop to ws)) far-before far-after)
       ∙ ap (λ (standing : List Standing). isPermittedBeside s standing h) (parted ws from to (between .order))
 
 -- ---- strikes that rise
@@ -199,12 +199,12 @@ rising-at f d (x ∷ y ∷ ys) r (suc i) (suc j) l k =
     omega arith
 
 -- where the strikes before the index k are below h and the others above it, a judgement beside some that have the one before k and the one at k is one beside all
-pub nearest-judged : (s : Setting) (h : ℕ) (ws : List ℕ) (k from to : ℕ) → Rising (map (λ w. standingIn w .strike) ws) → k ≤ length ws →
+pub nearest-judged : (s : Setting) (h : ℕ) (ws : List ℕ) (k from to : ℕ) → Rising (map (λ w. standingOf w .strike) ws) → k ≤ length ws →
     ((i : ℕ) → i < k → strikeAt ws i < h) → ((i : ℕ) → k ≤ i → i < length ws → h < strikeAt ws i) →
     from ≤ k - 1 → min (k + 1) (length ws) ≤ to →
-    judgement s (map standingIn (take (to - from) (drop from ws))) h ≡ judgement s (map standingIn ws) h
+    judgement s (map standingOf (take (to - from) (drop from ws))) h ≡ judgement s (map standingOf ws) h
 nearest-judged s h ws k from to rising within under over start stop =
-    sym (spaced-judged s h (map standingIn ws) (map standingIn lent) (λ g. spaced g (spacingOf s (map standingIn lent) g h) refl))
+    sym (spaced-judged s h (map standingOf ws) (map standingOf lent) (λ g. spaced g (spacingOf s (map standingOf lent) g h) refl))
   where
     lent : List ℕ
     lent = take (to - from) (drop from ws)
@@ -213,7 +213,7 @@ nearest-judged s h ws k from to rising within under over start stop =
     order = omega arith
 
     -- the strike at an index of the part that is lent is no nearer than the reach, where h clears the part
-    reached : (g : ℕ) → spacingOf s (map standingIn lent) g h ≡ true → (i : ℕ) → from ≤ i → i < to → i < length ws →
+    reached : (g : ℕ) → spacingOf s (map standingOf lent) g h ≡ true → (i : ℕ) → from ≤ i → i < to → i < length ws →
         0 < apart h (strikeAt ws i) → reachOf s ≤ apart h (strikeAt ws i)
     reached g clear i l m n other =
         let j : ℕ = i - from in
@@ -222,28 +222,28 @@ nearest-judged s h ws k from to rising within under over start stop =
         let inside : j < length lent = omega (arith, length-take (to - from) (drop from ws), length-drop from ws) in
         let here : getD lent j 0 ≡ getD ws i 0 =
         getD-take (to - from) (drop from ws) j 0 b ∙ getD-drop from ws j 0 ∙ ap (λ (n : ℕ). getD ws n 0) a in
-        clears-apart s h g (standingIn (getD ws i 0))
-        (ap (λ (w : ℕ). clears s g h (standingIn w)) (sym here)
-        ∙ each-at (λ w. clears s g h (standingIn w)) 0 lent j inside (sym (every-map (clears s g h) standingIn lent) ∙ clear))
+        clears-apart s h g (standingOf (getD ws i 0))
+        (ap (λ (w : ℕ). clears s g h (standingOf w)) (sym here)
+        ∙ each-at (λ w. clears s g h (standingOf w)) 0 lent j inside (sym (every-map (clears s g h) standingOf lent) ∙ clear))
         other
 
-    between : (g : ℕ) → spacingOf s (map standingIn lent) g h ≡ true → Between s h ws from to
+    between : (g : ℕ) → spacingOf s (map standingOf lent) g h ≡ true → Between s h ws from to
     between g clear =
         record {
           order = order;
           below = λ i l.
               let a = under (k - 1) (omega arith) in
-              let b = rising-at (λ w. standingIn w .strike) 0 ws rising i (k - 1) (omega arith) (omega arith) in
+              let b = rising-at (λ w. standingOf w .strike) 0 ws rising i (k - 1) (omega arith) (omega arith) in
               omega (arith, reached g clear (k - 1) (omega arith) (omega arith) (omega arith) (omega arith));
           above = λ i l m.
               let a = over k (omega arith) (omega arith) in
-              let b = rising-at (λ w. standingIn w .strike) 0 ws rising k i (omega arith) m in
+              let b = rising-at (λ w. standingOf w .strike) 0 ws rising k i (omega arith) m in
               omega (arith, reached g clear k (omega arith) (omega arith) (omega arith) (omega arith));
         }
 
-    spaced : (g : ℕ) (b : Bool) → spacingOf s (map standingIn lent) g h ≡ b → spacingOf s (map standingIn ws) g h ≡ spacingOf s (map standingIn lent) g h
+    spaced : (g : ℕ) (b : Bool) → spacingOf s (map standingOf lent) g h ≡ b → spacingOf s (map standingOf ws) g h ≡ spacingOf s (map standingOf lent) g h
     spaced g true e = words-spaced (between g e) g
     spaced g false e =
         ap (λ (standing : List Standing). spacingOf s standing g h) (sym (parted ws from to order))
-        ∙ every-failed (clears s g h) (map standingIn (take from ws)) (map standingIn lent) (map standingIn (drop to ws)) e
+        ∙ every-failed (clears s g h) (map standingOf (take from ws)) (map standingOf lent) (map standingOf (drop to ws)) e
         ∙ sym e

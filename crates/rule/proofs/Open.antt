@@ -1,33 +1,44 @@
--- The open strikes, those that the rules accept where none stands: up to an end all strikes, on Half; from there on multiples of a step between two ends. Assumes nothing.
+-- The open strikes, those that the rules accept where none stands: each is in range and a multiple of the step at its
+-- height, by one law for each ground; where the rung says so each such multiple is open, by one law for each rung.
+-- Assumes nothing.
 use mathlib.Core.Path.{_≡_, refl, sym, ap, _∙_}
 use mathlib.Core.Bool.{Bool, true, false, not, _&&_, and-true, true≢false}
 use mathlib.Core.List.{List, [], _∷_, map}
-use mathlib.Core.Logic.{_⊎_, inl, inr, ⊎-elim}
-use Prim.Native.Nat.{ℕ, zero, suc, _+_, _*_, _/_, _%_, _≤_, _<_, min, max}
+use mathlib.Core.Logic.{⊎-elim}
+use Prim.Native.Nat.{ℕ, zero, suc, _+_, _*_, _/_, _%_, _≤_, _<_, min}
 use native.Mathlib.Omega.{arith}
-use native.Mathlib.Nat.{mod-one}
 use lib.Dec.{ltb, eqb}
 use borrow.Author.Tests.{le-leb, eq-eqb}
-use Rattle.word.specs.declared.class.ClassRecord.{ClassRecord}
+use Rattle.word.specs.Limits.{highestStrike}
 use Rattle.rule.specs.declared.terms.Setting.{Setting}
 use Rattle.logic.specs.Lists.{some}
-use Rattle.rule.specs.Terms.{cents, isDollarClass, isLong, isNear, price}
-use Rattle.rule.specs.Grids.{multiple, standardGrid, dollarGrid, wingBase, gridOf, grounds}
-use Rattle.rule.specs.Ranges.{standardRange, rangeOf}
-use Rattle.rule.specs.Ends.{isProgramClass, halfEnd, lowEnd, highEnd, fineStep, fineEnd, isOpen, Multiples}
+use Rattle.rule.specs.Terms.{cents, isDollarClass, isNear, price}
+use Rattle.rule.specs.Grids.{multiple, standardGrid, dollarGrid, halfDollars, halfGrid, wingBase, wingGrid}
+use Rattle.rule.specs.Grids.{gridOf, grounds}
+use Rattle.rule.specs.Ranges.{rangeBy, standardRange, rangeOf}
+use Rattle.rule.specs.declared.bounds.Rung.{Rung}
+use Rattle.rule.specs.Ends.{isProgramClass, halfEnd, lowEnd, highEnd, rungs, rungAt, isOpenStrike, Multiples, Fit, Climbs}
+use Rattle.rule.specs.Ends.{lastDollar, lastTwoFifty}
 use Rattle.rule.specs.Spacing.{Standing, spacingOf}
 use Rattle.word.specs.Answers.{isAccepted}
 use Rattle.rule.specs.Judgement.{rowOf, rowsOf, passes, judgement, isPermittedBeside}
 use Rattle.rule.proofs.Tests.{and-left, and-right, or-left, or-right, or-cases}
 use Rattle.rule.proofs.Rows.{accepted-passes}
-use Rattle.rule.proofs.Steps.{times, InSteps, end-most, Wing, standard-each, standard-stepped, dollar-stepped, wing-stepped}
-use Rattle.rule.proofs.Bound.{Ranged, standard-ranged, ranged-standard, standard-range-grid, half-ranged, half-each}
+use Rattle.rule.proofs.Rungs.{On, _▹_, at-rung, same-rung}
+use Rattle.rule.proofs.Near.{reach-most}
+use Rattle.rule.proofs.Steps.{times, standard-of, fives-standard, dollar-reached, ladder-reached, standard-on}
+use Rattle.rule.proofs.Steps.{half-on, whole-on, dollar-whole, Wing, wing-stepped}
+use Rattle.rule.proofs.Bound.{Ranged, standard-ranged, ranged-standard, standard-range-grid, half-ranged}
+use Rattle.rule.proofs.Bound.{high-strike, half-each, half-within, half-low, half-reach}
 
-some-cases : {A B P : Type 0} (test : B → Bool) (f : A → B) (xs : List A) → ((x : A) → test (f x) ≡ true → P) → some test (map f xs) ≡ true → P
+some-cases : {A B P : Type 0} (test : B → Bool) (f : A → B) (xs : List A) → ((x : A) → test (f x) ≡ true → P) →
+    some test (map f xs) ≡ true → P
 some-cases test f [] each e = absurd (true≢false (sym e))
-some-cases test f (x ∷ xs) each e = ⊎-elim (each x) (some-cases test f xs each) (or-cases (test (f x)) (some test (map f xs)) e)
+some-cases test f (x ∷ xs) each e =
+    ⊎-elim (each x) (some-cases test f xs each) (or-cases (test (f x)) (some test (map f xs)) e)
 
-some-more : {A B : Type 0} (test : B → Bool) (f g : A → B) (xs : List A) → ((x : A) → test (f x) ≡ true → test (g x) ≡ true) →
+some-more : {A B : Type 0} (test : B → Bool) (f g : A → B) (xs : List A) →
+    ((x : A) → test (f x) ≡ true → test (g x) ≡ true) →
     some test (map f xs) ≡ true → some test (map g xs) ≡ true
 some-more test f g [] each e = e
 some-more test f g (x ∷ xs) each e =
@@ -45,85 +56,91 @@ module _ (s : Setting) (h : ℕ) where
   beside-none g e = and-true (gives g) ∙ e
 
   -- spacing only takes away
-  pub accepted-open : (standing : List Standing) → isAccepted (judgement s standing h) ≡ true → isOpen s h ≡ true
+  pub accepted-open : (standing : List Standing) → isAccepted (judgement s standing h) ≡ true → isOpenStrike s h ≡ true
   accepted-open standing e =
       accepted-passes (rowsOf s [] h)
       ∙ some-more passes (rowOf s standing h) (rowOf s [] h) grounds
       (λ g a. beside-none g (and-left (gives g) (spacingOf s standing g h) a))
       (sym (accepted-passes (rowsOf s standing h)) ∙ e)
 
-  pub permitted-open : (standing : List Standing) → isPermittedBeside s standing h ≡ true → isOpen s h ≡ true
+  pub permitted-open : (standing : List Standing) → isPermittedBeside s standing h ≡ true → isOpenStrike s h ≡ true
   permitted-open standing e =
-      accepted-open standing (and-right (not (some (λ t. eqb (t .strike) h) standing)) (isAccepted (judgement s standing h)) e)
+      accepted-open standing
+      (and-right (not (some (λ t. eqb (t .strike) h) standing)) (isAccepted (judgement s standing h)) e)
 
   -- the rows from the ground on that gives it
-  first : gives 0 ≡ true → isOpen s h ≡ true
+  first : gives 0 ≡ true → isOpenStrike s h ≡ true
   first e = accepted-passes (rowsOf s [] h) ∙ or-left (passes (rowOf s [] h 0)) _ (beside-none 0 e)
 
-  second : gives 1 ≡ true → isOpen s h ≡ true
+  second : gives 1 ≡ true → isOpenStrike s h ≡ true
   second e =
       accepted-passes (rowsOf s [] h)
       ∙ or-right (passes (rowOf s [] h 0)) _ (or-left (passes (rowOf s [] h 1)) _ (beside-none 1 e))
 
-  third : gives 2 ≡ true → isOpen s h ≡ true
+  third : gives 2 ≡ true → isOpenStrike s h ≡ true
   third e =
       accepted-passes (rowsOf s [] h)
       ∙ or-right (passes (rowOf s [] h 0)) _
       (or-right (passes (rowOf s [] h 1)) _ (or-left (passes (rowOf s [] h 2)) _ (beside-none 2 e)))
 
-  -- where an open strike stands that Half does not give
-  pub record Between : Type 0 where
-    pub range : Ranged s h
-    pub steps : InSteps (s .class) h
+  -- ---- where an open strike stands: in range, and on the rung of its height
 
-  open-cases : isOpen s h ≡ true → (h ≤ halfEnd s) ⊎ Between
-  open-cases e = some-cases passes (rowOf s [] h) grounds row (sym (accepted-passes (rowsOf s [] h)) ∙ e)
+  pub record Given : Type 0 where
+    pub low : lowEnd (price s) ≤ h
+    pub high : h ≤ highestStrike → h ≤ highEnd s
+    pub on : On (rungs s) h
+
+  standard-given : standardGrid (s .class) (cents h) ≡ true → standardRange s h ≡ true → Given
+  standard-given a b =
+      let r : Ranged s h = standard-ranged s h b in
+      record { low = r .low; high = r .high; on = standard-on s h a }
+
+  dollar-given : dollarGrid s (cents h) ≡ true → standardRange s h ≡ true → Given
+  dollar-given a b =
+      let r : Ranged s h = standard-ranged s h b in
+      record { low = r .low; high = r .high; on = whole-on s h (dollar-whole s h a) }
+
+  half-given : halfGrid s (cents h) ≡ true → rangeBy halfDollars (price s) h ≡ true → Given
+  half-given a b =
+      let l : h ≤ halfEnd s = half-ranged s h a b in
+      record { low = omega (arith, half-low s h a); high = λ k. omega (arith, half-within s); on = half-on s h l }
+
+  wing-given : wingGrid s (cents h) ≡ true → rangeOf s 3 h ≡ true → Given
+  wing-given a b =
+      let l : ℕ = wingBase (cents h) / 50 in
+      let w : Wing s h = wing-stepped s h a in
+      let r : Ranged s l = standard-ranged s l (and-left (standardRange s l) (standardRange s (l + 10)) b) in
+      let t : Ranged s (l + 10) =
+      standard-ranged s (l + 10) (and-right (standardRange s l) (standardRange s (l + 10)) b) in
+      record {
+        low = omega (arith, w .least, r .low);
+        high = λ k. omega (arith, w .most, t .high (omega arith));
+        on = whole-on s h (w .whole);
+      }
+
+  ground-given : (g : ℕ) → gridOf s g h ≡ true → rangeOf s g h ≡ true → Given
+  ground-given zero = standard-given
+  ground-given (suc zero) = dollar-given
+  ground-given (suc (suc zero)) = half-given
+  ground-given (suc (suc (suc g))) = wing-given
+
+  pub open-given : isOpenStrike s h ≡ true → Given
+  open-given e = some-cases passes (rowOf s [] h) grounds row (sym (accepted-passes (rowsOf s [] h)) ∙ e)
     where
-      given : (g : ℕ) → gridOf s g h ≡ true → rangeOf s g h ≡ true → (h ≤ halfEnd s) ⊎ Between
-      given zero a b = inr record { range = standard-ranged s h b; steps = standard-stepped (s .class) h a }
-      given (suc zero) a b = inr record { range = standard-ranged s h b; steps = dollar-stepped s h a }
-      given (suc (suc zero)) a b = inl (half-ranged s h a b)
-      given (suc (suc (suc g))) a b =
-          let l : ℕ = wingBase (cents h) / 50 in
-          let w : Wing s h = wing-stepped s h a in
-          let r : Ranged s l = standard-ranged s l (and-left (standardRange s l) (standardRange s (l + 10)) b) in
-          let t : Ranged s (l + 10) = standard-ranged s (l + 10) (and-right (standardRange s l) (standardRange s (l + 10)) b) in
-          inr record {
-            range = record { low = omega (arith, w .least, r .low); high = λ k. omega (arith, w .most, t .high (omega arith)) };
-            steps = w .steps;
-          }
-
-      row : (g : ℕ) → passes (rowOf s [] h g) ≡ true → (h ≤ halfEnd s) ⊎ Between
+      row : (g : ℕ) → passes (rowOf s [] h g) ≡ true → Given
       row g a =
           let b : gives g ≡ true = and-left (gives g) true a in
-          given g (and-left (gridOf s g h) (rangeOf s g h) b) (and-right (gridOf s g h) (rangeOf s g h) b)
+          ground-given g (and-left (gridOf s g h) (rangeOf s g h) b) (and-right (gridOf s g h) (rangeOf s g h) b)
 
-  pub open-between : halfEnd s < h → isOpen s h ≡ true → Between
-  open-between l e = ⊎-elim (λ (k : h ≤ halfEnd s). absurd (omega arith)) (λ (b : Between). b) (open-cases e)
+  -- ---- which strikes are open
 
-  closed : (isOpen s h ≡ true → ⊥) → isOpen s h ≡ false
-  closed none = go (isOpen s h) refl
-    where
-      go : (t : Bool) → isOpen s h ≡ t → t ≡ false
-      go true e = absurd (none e)
-      go false e = refl
-
-  pub closed-below : halfEnd s < h → h < lowEnd (price s) → isOpen s h ≡ false
-  closed-below l k = closed (λ e. omega (arith, open-between l e .range .low))
-
-  pub closed-above : halfEnd s < h → highEnd s < h → h ≤ 19999 → isOpen s h ≡ false
-  closed-above l k m = closed (λ e. omega (arith, open-between l e .range .high m))
-
-  -- each multiple between the ends is open that Standard holds
-  standard-open : (h ≤ fineEnd (s .class) → isProgramClass (s .class) ≡ false) → InSteps (s .class) h → lowEnd (price s) ≤ h → h ≤ highEnd s → isOpen s h ≡ true
-  standard-open coarse steps low high =
-      let grid : standardGrid (s .class) (cents h) ≡ true = standard-each (s .class) h coarse steps in
-      let range : standardRange s h ≡ true = ranged-standard s h (standard-range-grid s h grid) low high in
-      first (rw (grid, range))
+  pub standard-open : standardGrid (s .class) (cents h) ≡ true → lowEnd (price s) ≤ h → h ≤ highEnd s →
+      isOpenStrike s h ≡ true
+  standard-open grid low high = first (rw (grid, ranged-standard s h (standard-range-grid s h grid) low high))
 
   -- in a near $1 class whose close allows it each whole dollar to $50
-  dollar-open : isNear s ≡ true → isProgramClass (s .class) ≡ true → h % 2 ≡ 0 → 1 ≤ h → h ≤ 100 → lowEnd (price s) ≤ h → h ≤ highEnd s →
-      isOpen s h ≡ true
+  dollar-open : isNear s ≡ true → isProgramClass (s .class) ≡ true → h % 2 ≡ 0 → 1 ≤ h → h ≤ lastDollar →
+      lowEnd (price s) ≤ h → h ≤ highEnd s → isOpenStrike s h ≡ true
   dollar-open near program m l k low high =
       let dollar : isDollarClass (s .class) ≡ true = and-left (isDollarClass (s .class)) (ltb (price s) 5000) program in
       let cheap : ltb (price s) 5000 ≡ true = and-right (isDollarClass (s .class)) (ltb (price s) 5000) program in
@@ -133,57 +150,80 @@ module _ (s : Setting) (h : ℕ) where
       let range : standardRange s h ≡ true = ranged-standard s h (rw (near, dollar, whole)) low high in
       second (rw (grid, range))
 
-module _ (s : Setting) where
-  abbrev c : ClassRecord
-  c = s .class
+  half-open : 1 ≤ h → h ≤ halfEnd s → isOpenStrike s h ≡ true
+  half-open l k =
+      let g = half-each s h l k in
+      third (rw (g .0, g .1))
 
-  -- the lowest strike past those of Half
-  abbrev low : ℕ
-  low = max (lowEnd (price s)) (halfEnd s + 1)
-
-  pub open-half : Multiples s true 1 (halfEnd s) 1
-  open-half =
-      record {
-        among = λ h l k e. mod-one h;
-        each =
-            λ a h l k m.
-            let g = half-each s h l k in
-            third s h (rw (g .0, g .1));
-      }
-
-  pub open-fine : Multiples s (not (isLong s && isProgramClass c)) low (min (highEnd s) (fineEnd c)) (fineStep c)
-  open-fine =
-      record {
-        among = λ h l k e. open-between s h (omega arith) e .steps .fine (omega arith);
-        each = λ a h l k m. go h l k m (isProgramClass c) refl a;
-      }
+  -- where the rung says so each multiple of its step in range is open
+  pub rung-open : 1 ≤ h → lowEnd (price s) ≤ h → h ≤ highEnd s → rungAt (rungs s) h .all ≡ true → On (rungs s) h →
+      isOpenStrike s h ≡ true
+  rung-open least low high =
+      at-rung (λ r. r .all ≡ true → h % r .step ≡ 0 → isOpenStrike s h ≡ true) (rungs s) h
+      ((λ a l all m. half-open least l) ▹
+      (λ a l near m. dollars (dollar-reached (s .class) h least l) near m) ▹
+      (λ a l all m. ladder (ladder-reached (s .class) h least l) m) ▹
+      (λ a l all m. standard-open (fives-standard (s .class) h m (λ j. absurd (omega arith))) low high) ▹
+      (λ a all m. standard-open (fives-standard (s .class) h (tens m) (λ j. m)) low high))
     where
-      go : (h : ℕ) → low ≤ h → h ≤ min (highEnd s) (fineEnd c) → h % fineStep c ≡ 0 → (t : Bool) → isProgramClass c ≡ t →
-          not (isLong s && t) ≡ true → isOpen s h ≡ true
-      go h l k m true q a =
-          let most : h ≤ min (highEnd s) 100 = rw q at k in
-          dollar-open s h (sym (ap not (and-true (isLong s))) ∙ a) q (rw q at m) (omega arith) (omega arith) (omega arith) (omega arith)
-      go h l k m false q a =
-          standard-open s h (λ j. q) record { fine = λ j. m; fives = λ j. absurd (omega arith); tens = λ j. absurd (omega (arith, end-most c)) }
-          (omega arith) (omega arith)
+      tens : h % 20 ≡ 0 → h % 10 ≡ 0
+      tens m = times 10 h (2 * (h / 20)) (omega arith)
 
-  pub open-fives : Multiples s true (max low (fineEnd c + 1)) (min (highEnd s) 400) 10
-  open-fives =
-      record {
-        among = λ h l k e. open-between s h (omega arith) e .steps .fives (omega arith);
-        each =
-            λ a h l k m.
-            standard-open s h (λ j. absurd (omega arith)) record { fine = λ j. absurd (omega arith); fives = λ j. m; tens = λ j. absurd (omega arith) }
-            (omega arith) (omega arith);
-      }
+      dollars : (isProgramClass (s .class) ≡ true) × (h ≤ lastDollar) → isNear s ≡ true → h % 2 ≡ 0 → isOpenStrike s h ≡ true
+      dollars p near m = dollar-open near (p .0) m least (p .1) low high
 
-  pub open-tens : Multiples s true (max low 401) (highEnd s) 20
-  open-tens =
-      record {
-        among = λ h l k e. open-between s h (omega arith) e .steps .tens (omega arith);
-        each =
-            λ a h l k m.
-            standard-open s h (λ j. absurd (omega (arith, end-most c)))
-            record { fine = λ j. absurd (omega (arith, end-most c)); fives = λ j. times 10 h (2 * (h / 20)) (omega arith); tens = λ j. m }
-            (omega arith) (omega arith);
-      }
+      ladder : (isDollarClass (s .class) ≡ false) × (h ≤ lastTwoFifty) → h % 5 ≡ 0 → isOpenStrike s h ≡ true
+      ladder p m =
+          standard-open
+          (standard-of (s .class) h (λ d. absurd (true≢false (sym d ∙ p .0)))
+          record { fine = λ j. m; fives = λ j. absurd (omega (arith, p .1)); tens = λ j. absurd (omega (arith, p .1)) })
+          low high
+
+closed : (s : Setting) (h : ℕ) → (isOpenStrike s h ≡ true → ⊥) → isOpenStrike s h ≡ false
+closed s h none = go (isOpenStrike s h) refl
+  where
+    go : (t : Bool) → isOpenStrike s h ≡ t → t ≡ false
+    go true e = absurd (none e)
+    go false e = refl
+
+pub closed-below : (s : Setting) (h : ℕ) → h < lowEnd (price s) → isOpenStrike s h ≡ false
+closed-below s h l = closed s h (λ e. omega (arith, open-given s h e .low))
+
+pub closed-above : (s : Setting) (h : ℕ) → highEnd s < h → h ≤ highestStrike → isOpenStrike s h ≡ false
+closed-above s h l k = closed s h (λ e. omega (arith, open-given s h e .high k))
+
+-- the open strikes from a height in range on, up to where its rung or the range ends
+open-multiples : (s : Setting) (low : ℕ) → 1 ≤ low → lowEnd (price s) ≤ low →
+    let r = rungAt (rungs s) low in
+    Multiples s r low (min (r .to) (highEnd s))
+open-multiples s low least start =
+    record {
+      among = λ h l k e. ap (λ (r : Rung). h % r .step) (sym (same h l k)) ∙ open-given s h e .on;
+      each =
+          λ a h l k m.
+          rung-open s h (omega arith) (omega arith) (omega arith)
+          (ap (λ (r : Rung). r .all) (same h l k) ∙ a)
+          (ap (λ (r : Rung). h % r .step) (same h l k) ∙ m);
+    }
+  where
+    same : (h : ℕ) → low ≤ h → h ≤ min (rungAt (rungs s) low .to) (highEnd s) →
+        rungAt (rungs s) h ≡ rungAt (rungs s) low
+    same h l k = same-rung (rungs s) low h l (omega arith)
+
+rung-fit : (s : Setting) (h : ℕ) → 1 ≤ h → h ≤ highestStrike → Fit s h (rungAt (rungs s) h)
+rung-fit s h least most =
+    at-rung (Fit s h) (rungs s) h
+    ((λ a l. record { reaches = l; least = omega arith; most = omega arith; reach = half-reach s (omega arith) }) ▹
+    (λ a l. record { reaches = l; least = omega arith; most = omega arith; reach = reach-most s }) ▹
+    (λ a l. record { reaches = l; least = omega arith; most = omega arith; reach = omega (arith, reach-most s) }) ▹
+    (λ a l. record { reaches = l; least = omega arith; most = omega arith; reach = omega (arith, reach-most s) }) ▹
+    (λ a. record { reaches = most; least = omega arith; most = omega arith; reach = omega (arith, reach-most s) }))
+
+-- from each height in range the strikes can be tried by its rung
+pub rungs-climb : (s : Setting) (h : ℕ) → 1 ≤ h → lowEnd (price s) ≤ h → h ≤ highEnd s →
+    Climbs s (highEnd s) h (rungAt (rungs s) h)
+rungs-climb s h least low high =
+    record {
+      fit = rung-fit s h least (omega (arith, high-strike s));
+      multiples = open-multiples s h least low;
+    }

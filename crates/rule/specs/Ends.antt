@@ -1,11 +1,15 @@
--- Closed forms that the code computes. Nothing of document 01 is said here: proofs/Five.antt and proofs/Open.antt show that they are right. Assumes nothing.
+-- Inner: closed forms that the code computes, and the table of rungs; proofs/Five.antt, proofs/Open.antt and
+-- proofs/Most.antt show that they are right. Assumes nothing.
 use Prim.Native.Nat.{ℕ, _+_, _*_, _/_, _%_, _≤_, min, max}
 use mathlib.Core.Path.{_≡_}
-use mathlib.Core.Bool.{Bool, true, cond, _&&_}
-use mathlib.Core.List.{[]}
+use mathlib.Core.Bool.{Bool, true, false, cond, _&&_}
+use mathlib.Core.List.{List, [], _∷_}
 use lib.Dec.{leb, ltb}
+use lib.ListN.{length}
+use Rattle.word.specs.Limits.{highestStrike}
 use Rattle.word.specs.declared.class.ClassRecord.{ClassRecord}
 use Rattle.rule.specs.declared.terms.Setting.{Setting}
+use Rattle.rule.specs.declared.bounds.Rung.{Rung}
 use Rattle.rule.specs.Terms.{isDollarClass, isHalfClass, isLong, isNear}
 use Rattle.word.specs.Answers.{isAccepted}
 use Rattle.rule.specs.Judgement.{judgement}
@@ -34,26 +38,74 @@ lowEnd p = cond {A = ℕ} (ltb 2000 p) ((p + 99) / 100) 0
 -- the highest strike in range on the other grounds, of those on their grids
 abbrev pub highEnd : Setting → ℕ
 highEnd s =
-    cond {A = ℕ} (ltb 2000 (s .class .close)) (min (3 * s .class .close / 100) 19999)
-    (max (s .class .close / 25) (fifthAbove (isNear s && isDollarClass (s .class)) (isDollarClass (s .class)) (s .class .close / 50)))
+    cond {A = ℕ} (ltb 2000 (s .class .close)) (min (3 * s .class .close / 100) highestStrike)
+    (max (s .class .close / 25)
+    (fifthAbove (isNear s && isDollarClass (s .class)) (isDollarClass (s .class)) (s .class .close / 50)))
 
--- what the strikes up to `fineEnd` are multiples of: $1 in a $1 class that allows it, else $5 in a $1 class, else $2.50
-abbrev pub fineStep : ClassRecord → ℕ
-fineStep c = cond {A = ℕ} (isProgramClass c) 2 (cond {A = ℕ} (isDollarClass c) 10 5)
+-- the last strikes of these, in half dollars: "whole dollars from $1 to $50"; "multiples of $2.50 to $25, of $5 above
+-- $25 to $200"
+abbrev pub lastDollar : ℕ
+lastDollar = 100
 
--- above this strike they are multiples of $5, and above $200 of $10
-abbrev pub fineEnd : ClassRecord → ℕ
-fineEnd c = cond {A = ℕ} (isProgramClass c) 100 (cond {A = ℕ} (isDollarClass c) 400 50)
+abbrev pub lastTwoFifty : ℕ
+lastTwoFifty = 50
+
+abbrev pub lastFive : ℕ
+lastFive = 400
+
+-- the last strike that whole dollars reach, 0 where the class has none
+abbrev pub dollarEnd : ClassRecord → ℕ
+dollarEnd c = cond {A = ℕ} (isProgramClass c) lastDollar 0
+
+-- the last strike that multiples of $2.50 reach, 0 in a $1 class
+abbrev pub ladderEnd : ClassRecord → ℕ
+ladderEnd c = cond {A = ℕ} (isDollarClass c) 0 lastTwoFifty
+
+abbrev pub rung : ℕ → ℕ → Bool → Rung
+rung to step all = record { to = to; step = step; all = all }
+
+-- the table of rungs, each from where the one before it ends: half dollars, whole dollars, multiples of $2.50,
+-- of $5, of $10; of a rung that is marked each such multiple in range is open
+abbrev pub rungs : Setting → List Rung
+rungs s =
+    rung (halfEnd s) 1 true ∷
+    rung (dollarEnd (s .class)) 2 (isNear s) ∷
+    rung (ladderEnd (s .class)) 5 true ∷
+    rung lastFive 10 true ∷
+    rung highestStrike 20 true ∷ []
+
+-- how many strikes are open at most: all that Half gives, and half of those above, rounded up on each rung
+abbrev pub mostOpen : Setting → ℕ
+mostOpen s = (halfEnd s + highEnd s + length (rungs s)) / 2
+
+-- the rung at the height h: the first that reaches it, else the last
+abbrev pub rungAt : List Rung → ℕ → Rung
+rungAt [] h = rung h 1 false
+rungAt (r ∷ []) h = r
+rungAt (r ∷ q ∷ rs) h = cond {A = Rung} (leb h (r .to)) r (rungAt (q ∷ rs) h)
 
 -- how many half dollars away a standing strike can bear on a new one: $1 in a long expiration, else $0.50
 abbrev pub reachOf : Setting → ℕ
 reachOf s = cond {A = ℕ} (isLong s) 2 1
 
 -- the rules accept the strike where none stands
-abbrev pub isOpen : Setting → ℕ → Bool
-isOpen s h = isAccepted (judgement s [] h)
+abbrev pub isOpenStrike : Setting → ℕ → Bool
+isOpenStrike s h = isAccepted (judgement s [] h)
 
--- the open strikes from `low` to `high` are multiples of `step`; and where `all` says so, each of those multiples is open
-pub record Multiples (s : Setting) (all : Bool) (low high step : ℕ) : Type 0 where
-  pub among : (h : ℕ) → low ≤ h → h ≤ high → isOpen s h ≡ true → h % step ≡ 0
-  pub each : all ≡ true → (h : ℕ) → low ≤ h → h ≤ high → h % step ≡ 0 → isOpen s h ≡ true
+-- the open strikes from `low` to `high` are multiples of the rung's step; and where `all` says so, each of those
+-- multiples is open
+pub record Multiples (s : Setting) (r : Rung) (low high : ℕ) : Type 0 where
+  pub among : (h : ℕ) → low ≤ h → h ≤ high → isOpenStrike s h ≡ true → h % r .step ≡ 0
+  pub each : r .all ≡ true → (h : ℕ) → low ≤ h → h ≤ high → h % r .step ≡ 0 → isOpenStrike s h ≡ true
+
+-- what the code asks of the rung at the height h: it reaches there, and no step is below the reach
+pub record Fit (s : Setting) (h : ℕ) (r : Rung) : Type 0 where
+  pub reaches : h ≤ r .to
+  pub least : 1 ≤ r .step
+  pub most : r .step ≤ highestStrike
+  pub reach : reachOf s ≤ r .step
+
+-- from the height h the strikes can be tried by the rung r, up to its end or `high`
+pub record Climbs (s : Setting) (high h : ℕ) (r : Rung) : Type 0 where
+  pub fit : Fit s h r
+  pub multiples : Multiples s r h (min (r .to) high)

@@ -36,7 +36,8 @@ halfGrid s k = isNear s && isHalfClass (s .class) && leb (price s) 500 && leb 10
 abbrev pub wingBase : ℕ → ℕ
 wingBase k = k / 500 * 500
 
--- "L + $2 if L is at or above P; L + $3 if L + $5 is at or below P; and L + $2 if L is the largest multiple of $5 strictly below P."
+-- "L + $2 if L is at or above P; L + $3 if L + $5 is at or below P; and L + $2 if L is the largest multiple of $5
+-- strictly below P."
 abbrev pub wingAt : ℕ → ℕ → ℕ → Bool
 wingAt p l k =
     eqb k (l + 200) && leb p l || eqb k (l + 300) && leb (l + 500) p || eqb k (l + 200) && (ltb l p && leb p (l + 500))

@@ -1,9 +1,11 @@
--- Document 01, end of "Spacing": the ground of a strike, or 11, 12 or 13, and the list of permitted strikes. Assumes nothing.
+-- Document 01, end of "Spacing": the ground of a strike, or 11, 12 or 13, and the list of permitted strikes. Assumes
+-- nothing.
 use Prim.Native.Nat.{ℕ, zero, suc, _+_, _≤_}
 use mathlib.Core.Bool.{Bool, false, cond, not, _&&_}
 use mathlib.Core.List.{List, [], _∷_, map}
 use lib.Dec.{eqb}
-use lib.ListN.{getD}
+use lib.ListN.{getD, length}
+use Rattle.word.specs.Limits.{highestStrike}
 use Rattle.word.specs.Answers.{isAccepted}
 use Rattle.word.specs.declared.answer.Refusal.{Refusal}
 use Rattle.word.specs.declared.answer.Refusal.the-variants.{OffGrid, OutOfRange, TooClose}
@@ -48,7 +50,7 @@ decided rows = groundFrom (Refused (refusalOf rows)) 0 rows
 abbrev pub foundRow : Setting → ℕ → ℕ → ℕ → List Bool
 foundRow s h found g = gridOf s g h ∷ (gridOf s g h && rangeOf s g h) ∷ eqb g found ∷ []
 
--- the rows from which the code decides; no ground was found where `found` is 4
+-- the rows from which the code decides; no ground was found where `found` is their number
 abbrev pub foundRows : Setting → ℕ → ℕ → List (List Bool)
 foundRows s h found = map (foundRow s h found) grounds
 
@@ -57,9 +59,9 @@ abbrev pub firstFrom : (ℕ → Bool) → ℕ → ℕ → ℕ
 firstFrom test zero g = g
 firstFrom test (suc n) g = cond (test g) g (firstFrom test n (g + 1))
 
--- the first ground that passes grid, range and spacing; 4 where none does
+-- the first ground that passes grid, range and spacing; their number where none does
 abbrev pub firstGround : Setting → List Standing → ℕ → ℕ
-firstGround s standing h = firstFrom (λ g. passes (rowOf s standing h g)) 4 0
+firstGround s standing h = firstFrom (λ g. passes (rowOf s standing h g)) (length grounds) 0
 
 abbrev pub judgement : Setting → List Standing → ℕ → Answer
 judgement s standing h = decided (rowsOf s standing h)
@@ -70,10 +72,10 @@ isPermittedBeside s standing h = not (some (λ t. eqb (t .strike) h) standing) &
 
 -- the permitted strikes, rising
 unfoldable pub permitted : Setting → List Standing → List ℕ
-permitted s standing = only (isPermittedBeside s standing) (upFrom 19999 1)
+permitted s standing = only (isPermittedBeside s standing) (upFrom highestStrike 1)
 
 -- what can be judged: the close and `now` of a book, and a strike
 pub record Judged (s : Setting) (h : ℕ) : Type 0 where
   pub close : s .class .close ≤ 999999
   pub current : s .current ≤ 1023
-  pub strike : h ≤ 19999
+  pub strike : h ≤ highestStrike

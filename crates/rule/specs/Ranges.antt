@@ -3,6 +3,7 @@ use Prim.Native.Nat.{ℕ, zero, suc, _+_, _*_, _/_}
 use mathlib.Core.Bool.{Bool, true, false, cond, _&&_, _||_}
 use mathlib.Core.List.{List, [], _∷_}
 use lib.Dec.{leb, ltb, eqb}
+use Rattle.word.specs.Limits.{highestStrike}
 use Rattle.rule.specs.declared.terms.Setting.{Setting}
 use Rattle.logic.specs.Lists.{some}
 use Rattle.rule.specs.Terms.{cents, isDollarClass, isNear, price}
@@ -17,16 +18,18 @@ lowest test (suc left) (suc n) h =
 
 -- "K is among the five lowest strikes above P of the *range grid*": of all strikes from 1 to 19,999
 unfoldable pub amongFive : (ℕ → Bool) → ℕ → ℕ → Bool
-amongFive grid p h = some (eqb h) (lowest (λ x. ltb p (cents x) && grid (cents x)) 19999 5 1)
+amongFive grid p h = some (eqb h) (lowest (λ x. ltb p (cents x) && grid (cents x)) highestStrike 5 1)
 
--- "At P above 2,000, K is in range when P ≤ 2K ≤ 3P. At P of 2,000 or less, K is in range when K ≤ 2P, or when K is among the five"
+-- "At P above 2,000, K is in range when P ≤ 2K ≤ 3P. At P of 2,000 or less, K is in range when K ≤ 2P, or when K is
+-- among the five"
 abbrev pub rangeBy : (ℕ → Bool) → ℕ → ℕ → Bool
 rangeBy grid p h =
     cond (ltb 2000 p)
     (leb p (2 * cents h) && leb (2 * cents h) (3 * p))
     (leb (cents h) (2 * p) || amongFive grid p h)
 
--- document 01's term: "That grid is: whole dollars for Standard and Dollar in a near $1 class; the Standard grid otherwise for Standard"
+-- document 01's term: "That grid is: whole dollars for Standard and Dollar in a near $1 class; the Standard grid
+-- otherwise for Standard"
 abbrev pub rangeGrid : Setting → ℕ → Bool
 rangeGrid s k = cond (isNear s && isDollarClass (s .class)) (multiple 100 k) (standardGrid (s .class) k)
 
@@ -38,4 +41,5 @@ abbrev pub rangeOf : Setting → ℕ → ℕ → Bool
 rangeOf s zero h = standardRange s h
 rangeOf s (suc zero) h = standardRange s h
 rangeOf s (suc (suc zero)) h = rangeBy halfDollars (price s) h
-rangeOf s (suc (suc (suc g))) h = standardRange s (wingBase (cents h) / 50) && standardRange s (wingBase (cents h) / 50 + 10)
+rangeOf s (suc (suc (suc g))) h =
+    standardRange s (wingBase (cents h) / 50) && standardRange s (wingBase (cents h) / 50 + 10)

@@ -14,17 +14,19 @@ pub record Standing : Type 0 where
   pub ground : ℕ
 
 -- the strike of a strike word: "h in bits 0–14, ground in 15–17"
-abbrev pub standingIn : ℕ → Standing
-standingIn w = record { strike = field w 0 15; ground = field w 15 3 }
+abbrev pub standingOf : ℕ → Standing
+standingOf w = record { strike = field w 0 15; ground = field w 15 3 }
 
 abbrev pub apart : ℕ → ℕ → ℕ
 apart a b = (a - b) + (b - a)
 
--- "a Dollar strike and a Standard strike at an odd multiple of $2.50 stay more than $0.50 from each other": here they don't
+-- "a Dollar strike and a Standard strike at an odd multiple of $2.50 stay more than $0.50 from each other": here they
+-- don't
 abbrev pub crowds : ℕ → ℕ → Bool
 crowds dollar standard = eqb (cents standard % 500) 250 && leb (apart (cents dollar) (cents standard)) 50
 
--- the new strike h on ground g may stand beside t: "whichever came first"; "In a long expiration a new strike stays more than $1 from every standing one, on any ground."
+-- the new strike h on ground g may stand beside t: "whichever came first"; "In a long expiration a new strike stays
+-- more than $1 from every standing one, on any ground."
 abbrev pub clears : Setting → ℕ → ℕ → Standing → Bool
 clears s g h t =
     not (eqb g 1 && eqb (t .ground) 0 && crowds h (t .strike))

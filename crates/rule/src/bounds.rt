@@ -1,14 +1,20 @@
-// Which strikes the rules can accept where none stands near: up to a first end all of them, and from a lowest to a
-// highest the multiples of a step.
+// The open strikes, those that the rules accept where none stands: from a lowest to a highest, multiples of a step that
+// goes by the height.
 ghost use mathlib.Core.Path.{_≡_};
 ghost use Prim.Native.Nat.{_^_, _<_, _≤_, min, max};
-ghost use Rattle.rule.specs.Ends.{fifthAbove, isProgramClass, halfEnd, lowEnd, highEnd, fineStep, fineEnd};
+ghost use Rattle.rule.specs.Ends.{fifthAbove, isProgramClass, halfEnd, lowEnd, highEnd, dollarEnd, ladderEnd};
+ghost use Rattle.rule.specs.Ends.{rungs, mostOpen};
 use crate::terms::Setting;
 use crate::terms::is_dollar_class;
 use crate::terms::is_half_class;
 use crate::terms::is_long;
 use word::class::ClassRecord;
 use word::strike::Strike;
+
+// Where multiples of $2.50 end on the ladder, and those of $5.
+const TWENTY_FIVE_DOLLARS: Strike = Strike(50);
+
+const TWO_HUNDRED_DOLLARS: Strike = Strike(400);
 
 pub fn lower_of(a: u32, b: u32) -> u32
     ensures { λ r. ⌜ r ≡ min a b ⌝ }
@@ -41,7 +47,7 @@ fn fifth_above(whole: bool, dollar: bool, q: u32) -> u32
 }
 
 // A $1 class whose close allows strikes of $1.
-pub fn is_program_class(class: ClassRecord) -> bool
+fn is_program_class(class: ClassRecord) -> bool
     ensures { λ r. ⌜ r ≡ isProgramClass class ⌝ }
 {
     is_dollar_class(class) & (class.close < 5000)
@@ -75,28 +81,86 @@ pub fn high_end(s: Setting) -> u32
 {
     let p = s.class.close;
     if 2000 < p {
-        return lower_of(3 * p / 100, 19999);
+        return lower_of(3 * p / 100, Strike::HIGHEST.0);
     }
     let dollar = is_dollar_class(s.class);
     higher_of(p / 25, fifth_above(!is_long(s) & dollar, dollar, p / 50))
 }
 
-// What the low strikes are multiples of: $1 in a $1 class that allows it, else $5 in a $1 class, else $2.50.
-pub fn fine_step(class: ClassRecord) -> u32
-    ensures { λ r. ⌜ r ≡ fineStep class ⌝ }
-{
-    if is_program_class(class) {
-        return 2;
-    }
-    if is_dollar_class(class) { 10 } else { 5 }
+// Up to the strike `to`, from the rung before on, the open strikes are multiples of `step`. `all` says that each such
+// multiple in range is open.
+pub struct Rung {
+    pub to: u32,
+    pub step: u32,
+    pub all: bool,
 }
 
-// Where they end: above $50, $200 or $25 strikes are multiples of $5, and above $200 of $10.
-pub fn fine_end(class: ClassRecord) -> u32
-    ensures { λ r. ⌜ r ≡ fineEnd class ⌝ }
+// The last strike that whole dollars reach, 0 where the class has none.
+fn dollar_end(class: ClassRecord) -> u32
+    ensures { λ r. ⌜ r ≡ dollarEnd class ⌝ }
 {
     if is_program_class(class) {
-        return Strike::FIFTY_DOLLARS.0;
+        Strike::FIFTY_DOLLARS.0
+    } else {
+        0
     }
-    if is_dollar_class(class) { 400 } else { 50 }
+}
+
+// The last strike that multiples of $2.50 reach, 0 in a $1 class.
+fn ladder_end(class: ClassRecord) -> u32
+    ensures { λ r. ⌜ r ≡ ladderEnd class ⌝ }
+{
+    if is_dollar_class(class) {
+        0
+    } else {
+        TWENTY_FIVE_DOLLARS.0
+    }
+}
+
+// How many rungs there are.
+pub const RUNGS: usize = 5;
+
+// The rungs of a setting.
+pub type Rungs = [Rung; RUNGS];
+
+// What the open strikes are multiples of, rung by rung.
+pub fn rungs_of(s: Setting) -> Rungs
+    requires { ⌜ s .current ≤ 1023 ⌝ }
+    ensures { λ r. ⌜ r ≡ rungs s ⌝ }
+{
+    [
+        Rung {
+            to: half_end(s),
+            step: 1,
+            all: true,
+        },
+        Rung {
+            to: dollar_end(s.class),
+            step: 2,
+            all: !is_long(s),
+        },
+        Rung {
+            to: ladder_end(s.class),
+            step: 5,
+            all: true,
+        },
+        Rung {
+            to: TWO_HUNDRED_DOLLARS.0,
+            step: 10,
+            all: true,
+        },
+        Rung {
+            to: Strike::HIGHEST.0,
+            step: 20,
+            all: true,
+        },
+    ]
+}
+
+// At most so many strikes are open: all that Half gives, and half of those above, rounded up on each rung.
+pub fn most_open(s: Setting) -> u32
+    requires { ⌜ (s .class .close ≤ 999999) × (s .current ≤ 1023) ⌝ }
+    ensures { λ r. ⌜ r ≡ mostOpen s ⌝ }
+{
+    (half_end(s) + high_end(s) + RUNGS as u32) / 2
 }

@@ -1,7 +1,9 @@
 // The judgement of a strike beside the standing strikes of its expiration.
 ghost use mathlib.Core.Path.{_≡_};
 ghost use mathlib.Core.List.{map};
-ghost use Rattle.rule.specs.Spacing.{standingIn};
+ghost use lib.ListN.{length};
+ghost use Rattle.rule.specs.Grids.{grounds};
+ghost use Rattle.rule.specs.Spacing.{standingOf};
 ghost use Rattle.word.specs.Answers.{isAccepted};
 ghost use Rattle.rule.specs.Judgement.{Judged, decided, judgement, firstGround, foundRows};
 use crate::bounds::half_end;
@@ -18,14 +20,20 @@ use word::answer::Answer;
 use word::answer::Refusal;
 use word::strike::Strike;
 
-// The ground or the refusal, from the grid, the range and the spacing of each of the four grounds.
-pub fn decide(rows: [[bool; 3]; 4]) -> Answer
+// How many grounds there are.
+const GROUNDS: u32 = 4;
+
+// The grid, the range and the spacing of each ground.
+pub type Rows = [[bool; 3]; GROUNDS as usize];
+
+// The ground or the refusal, from the rows of the grounds.
+pub fn decide(rows: Rows) -> Answer
     ensures { λ r. ⌜ r ≡ decided rows ⌝ }
 {
     let mut some_grid = false;
     let mut some_range = false;
     let mut g: u32 = 0;
-    while g < 4 {
+    while g < GROUNDS {
         let row = rows[g as usize];
         if row[0] {
             some_grid = true;
@@ -49,9 +57,9 @@ pub fn decide(rows: [[bool; 3]; 4]) -> Answer
 
 // Grid and range of each ground. The range counts only on the grid, where it is told by its ends. The spacing is still
 // to be found.
-fn rows_of(s: Setting, strike: Strike) -> [[bool; 3]; 4]
+fn rows_of(s: Setting, strike: Strike) -> Rows
     requires { ⌜ Judged s (strike .0) ⌝ }
-    ensures { λ r. ⌜ r ≡ foundRows s (strike .0) 4 ⌝ }
+    ensures { λ r. ⌜ r ≡ foundRows s (strike .0) (length grounds) ⌝ }
 {
     let h = strike.0;
     let k = strike.cents();
@@ -80,15 +88,15 @@ fn rows_of(s: Setting, strike: Strike) -> [[bool; 3]; 4]
 }
 
 // The first ground that passes the grid and the range of its row, and the spacing beside the words of the standing
-// strikes; 4 where none does.
-fn first_ground(s: Setting, strike: Strike, rows: [[bool; 3]; 4], standing: &[u32]) -> u32
-    requires { ⌜ Judged s (strike .0) × (rows ≡ foundRows s (strike .0) 4) ⌝ }
-    ensures { λ r. ⌜ r ≡ firstGround s (map standingIn (now (standing .entry))) (strike .0) ⌝ }
+// strikes; their number where none does.
+fn first_ground(s: Setting, strike: Strike, rows: Rows, standing: &[u32]) -> u32
+    requires { ⌜ Judged s (strike .0) × (rows ≡ foundRows s (strike .0) (length grounds)) ⌝ }
+    ensures { λ r. ⌜ r ≡ firstGround s (map standingOf (now (standing .entry))) (strike .0) ⌝ }
 {
     let mut g: u32 = 0;
     let found: u32 = 'grounds: loop {
-        if g == 4 {
-            break 'grounds 4;
+        if g == GROUNDS {
+            break 'grounds GROUNDS;
         }
         let row = rows[g as usize];
         if row[0] & row[1] {
@@ -112,11 +120,11 @@ fn first_ground(s: Setting, strike: Strike, rows: [[bool; 3]; 4], standing: &[u3
 // third result of the ground that the search finds is noted.
 pub fn judge(s: Setting, strike: Strike, standing: &[u32]) -> Answer
     requires { ⌜ Judged s (strike .0) ⌝ }
-    ensures { λ r. ⌜ r ≡ judgement s (map standingIn (now (standing .entry))) (strike .0) ⌝ }
+    ensures { λ r. ⌜ r ≡ judgement s (map standingOf (now (standing .entry))) (strike .0) ⌝ }
 {
     let mut rows = rows_of(s, strike);
     let found = first_ground(s, strike, rows, standing);
-    if found < 4 {
+    if found < GROUNDS {
         let row = rows[found as usize];
         rows[found as usize] = [row[0], row[1], true];
     }
@@ -126,7 +134,7 @@ pub fn judge(s: Setting, strike: Strike, standing: &[u32]) -> Answer
 // Whether the rules accept the strike beside the words of the standing strikes of its expiration.
 pub fn is_accepted(s: Setting, strike: Strike, standing: &[u32]) -> bool
     requires { ⌜ Judged s (strike .0) ⌝ }
-    ensures { λ r. ⌜ r ≡ isAccepted (judgement s (map standingIn (now (standing .entry))) (strike .0)) ⌝ }
+    ensures { λ r. ⌜ r ≡ isAccepted (judgement s (map standingOf (now (standing .entry))) (strike .0)) ⌝ }
 {
     judge(s, strike, standing).is_accepted()
 }

@@ -1,7 +1,7 @@
 // The distance that a new strike keeps from those of its expiration.
 ghost use mathlib.Core.Path.{_≡_};
 ghost use Prim.Native.Nat.{_<_};
-ghost use Rattle.rule.specs.Spacing.{apart, crowds, clears, standingIn};
+ghost use Rattle.rule.specs.Spacing.{apart, crowds, clears, standingOf};
 ghost use Rattle.rule.specs.Judgement.{Judged};
 use crate::terms::Setting;
 use crate::terms::is_long;
@@ -30,7 +30,7 @@ fn is_crowded(dollar: Strike, standard: Strike) -> bool
 // Whether the strike, on the ground g, may stand beside the strike of the word w.
 pub fn is_clear(s: Setting, g: u32, strike: Strike, w: u32) -> bool
     requires { ⌜ Judged s (strike .0) ⌝ }
-    ensures { λ r. ⌜ r ≡ clears s g (strike .0) (standingIn w) ⌝ }
+    ensures { λ r. ⌜ r ≡ clears s g (strike .0) (standingOf w) ⌝ }
 {
     let other = Strike(field_of(w, 0, 15));
     let ground = field_of(w, 15, 3);

@@ -1,61 +1,43 @@
--- `list_permitted` writes the strikes where they have places: where it is not plain that they have, a first turn counts them (`Turn`). Assumes nothing.
-use Prim.Native.Nat.{ℕ, _+_, _-_, _/_, _≤_}
+-- `list_permitted` writes the strikes where they have places: where it is not plain that they have, a first turn counts
+-- them (`Turn`). Assumes nothing.
+use Prim.Native.Nat.{_-_}
 use mathlib.Core.Path.{refl}
-use mathlib.Core.List.{List, map}
+use mathlib.Core.List.{map}
 use mathlib.Core.Logic.{inl, inr, ⊎-elim}
-use native.Mathlib.Nat.{mul-le-mul-left, div-mul-le-self}
 use native.Mathlib.Omega.{arith}
 use lib.ListN.{length}
 use borrow.Author.Needs.{needs}
-use Rattle.rule.specs.declared.terms.Setting.{Setting}
-use Rattle.rule.specs.Ends.{halfEnd, highEnd, fineStep}
-use Rattle.rule.specs.Spacing.{standingIn}
+use Rattle.rule.specs.Spacing.{standingOf}
 use Rattle.rule.specs.Judgement.{permitted}
-use Rattle.rule.proofs.Bound.{high-strike, half-within}
-use Rattle.rule.proofs.Steps.{step-bounds}
 use Rattle.rule.proofs.Most.{permitted-most}
 use Rattle.permitted.proofs.Filled.{Turn, turn-within, same-long, filled-not, filled-all, turn-less, turn-again}
 use Rattle.permitted.proofs.list_permitted.Statement.{statement}
 use Rattle.permitted.proofs.list_permitted.Tie as tie
 
 abbrev Inv-loop : tie.InvT-loop
-Inv-loop s standing second₀ most room₀ second room = Turn (permitted s (map standingIn standing)) second₀ second room
+Inv-loop s standing second₀ room₀ second room =
+    Turn (permitted s (map standingOf standing)) second₀ second room
 
 abbrev μ-loop : tie.MeasureT-loop
-μ-loop s standing second₀ most room₀ second room = length second - room
+μ-loop s standing second₀ room₀ second room = length second - room
 
--- the smallest step is at least 2
-permitted-few : (s : Setting) (ws : List ℕ) → length (permitted s (map standingIn ws)) ≤ halfEnd s + highEnd s / 2
-permitted-few s ws =
-    let most = permitted-most s (map standingIn ws) in
-    let steps = mul-le-mul-left (highEnd s / fineStep (s .class)) (step-bounds (s .class) .0) in
-    omega (arith, div-mul-le-self (highEnd s) (fineStep (s .class)))
-
-most-few : (c : tie.After-high-end Inv-loop μ-loop) → c .before .half-end .result + c .high-end .result / 2 ≤ 40000
-most-few c =
-    let s = c .before .before .before .before .args .s in
-    omega (arith, half-within s, high-strike s, c .high-end .ensures, c .before .half-end .ensures)
-
-half-end-requires : tie.Need-half-end-requires Inv-loop μ-loop
-half-end-requires c κs = search needs
-
-high-end-requires : tie.Need-high-end-requires Inv-loop μ-loop
-high-end-requires c κs = search needs
-
-add-most : tie.Need-add-most Inv-loop μ-loop
-add-most c = let few = most-few c in search needs
+most-open-requires : tie.Need-most-open-requires Inv-loop μ-loop
+most-open-requires c κs = search needs
 
 cast-if1 : tie.Need-cast-if1 Inv-loop μ-loop
-cast-if1 c = let few = most-few c in search needs
+cast-if1 c = search needs
 
 loop-holds : tie.Need-loop-holds Inv-loop μ-loop
 loop-holds c =
-    let e = c .before in
-    let a = e .before .before .before .before .args in
-    let few = permitted-few (a .s) (a .standing .now) in
+    let most = c .before in
+    let args = most .before .before .before .args in
+    let few = permitted-most (args .s) (map standingOf (args .standing .now)) in
     record {
       same = refl;
-      lent = ⊎-elim (λ w. inl (w .1)) (λ w. inr (w .1, omega (arith, w .0 .left, e .high-end .ensures, e .before .half-end .ensures))) (c .if1 .came);
+      lent =
+          ⊎-elim (λ w. inl (w .1))
+          (λ w. inr (w .1, omega (arith, w .0 .left, most .most-open .ensures)))
+          (c .if1 .came);
     }
 
 sub-write-permitted : tie.Need-sub-write-permitted Inv-loop μ-loop
@@ -109,9 +91,7 @@ list-permitted-spec =
     (tie.spec
     Inv-loop
     μ-loop
-    half-end-requires
-    high-end-requires
-    add-most
+    most-open-requires
     cast-if1
     loop-holds
     sub-write-permitted

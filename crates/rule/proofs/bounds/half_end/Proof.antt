@@ -1,6 +1,7 @@
 -- `half_end` answers the closed form: what it asks first is that one of the four conditions of Half fails. Assumes nothing.
 use borrow.Author.Needs.{needs}
-use Rattle.rule.proofs.Tests.{leb-not, none-fails}
+use Rattle.logic.proofs.Tests.{at-most}
+use Rattle.rule.proofs.Tests.{none-fails}
 use Rattle.rule.proofs.bounds.half_end.Statement.{statement}
 use Rattle.rule.proofs.bounds.half_end.Tie as tie
 
@@ -16,8 +17,8 @@ returns c =
     rw (
       ← half .before .is-long .ensures,
       ← half .is-half-class .ensures,
-      leb-not _ 500,
-      leb-not 1000 _,
+      at-most _ 500,
+      at-most 1000 _,
       none-fails,
       c .if1 .taken,
     )
@@ -38,8 +39,8 @@ returns-2 c =
     rw (
       ← half .before .is-long .ensures,
       ← half .is-half-class .ensures,
-      leb-not _ 500,
-      leb-not 1000 _,
+      at-most _ 500,
+      at-most 1000 _,
       none-fails,
       first .if1 .left,
       ← c .before .higher-of .ensures,

@@ -10,7 +10,7 @@ use borrow.Author.Needs.{needs}
 use borrow.Author.Tests.{not-true, not-false}
 use lib.ListN.{length, getD}
 use Rattle.logic.specs.Lists.{every}
-use Rattle.rule.specs.Spacing.{clears, standingIn}
+use Rattle.rule.specs.Spacing.{clears, standingOf}
 use Rattle.rule.specs.Judgement.{passes, passesRange, rowOf}
 use Rattle.rule.proofs.Rows.{found-range}
 use Rattle.rule.proofs.Walks.{every-map, Passed, passed-none, passed-here, passed-next, passed-all, Cleared, cleared-none, cleared-next, cleared-not, cleared-all}
@@ -18,13 +18,13 @@ use Rattle.rule.proofs.judgement.first_ground.Statement.{statement}
 use Rattle.rule.proofs.judgement.first_ground.Tie as tie
 
 abbrev Inv-standing : tie.InvT-standing
-Inv-standing s strike standing rows g i₀ i = Cleared (λ w. clears s g (strike .0) (standingIn w)) standing i
+Inv-standing s strike standing rows g i₀ i = Cleared (λ w. clears s g (strike .0) (standingOf w)) standing i
 
 abbrev μ-standing : tie.MeasureT-standing
 μ-standing s strike standing rows g i₀ i = length standing - i
 
 abbrev Inv-grounds : tie.InvT-grounds
-Inv-grounds s strike standing rows g₀ g = Passed (λ x. passes (rowOf s (map standingIn standing) (strike .0) x)) 0 4 g
+Inv-grounds s strike standing rows g₀ g = Passed (λ x. passes (rowOf s (map standingOf standing) (strike .0) x)) 0 4 g
 
 abbrev μ-grounds : tie.MeasureT-grounds
 μ-grounds s strike standing rows g₀ g = 4 - g
@@ -34,8 +34,8 @@ row-at : (c : tie.Else1 Inv-standing μ-standing Inv-grounds μ-grounds) (t : Bo
     let args = c .before .before .before .args in
     let g = c .before .grounds .g in
     passesRange (getD (args .t3) g []) ≡ t →
-    passes (rowOf (args .s) (map standingIn (args .standing .now)) (args .strike .0) g)
-    ≡ (t && every (λ w. clears (args .s) g (args .strike .0) (standingIn w)) (args .standing .now))
+    passes (rowOf (args .s) (map standingOf (args .standing .now)) (args .strike .0) g)
+    ≡ (t && every (λ w. clears (args .s) g (args .strike .0) (standingOf w)) (args .standing .now))
 row-at c t e =
     let start = c .before .before .before in
     let args = start .args in
@@ -44,7 +44,7 @@ row-at c t e =
     ap (λ (rows : List (List Bool)). passesRange (getD rows g [])) (start .pre .1)
     ∙ found-range (args .s) (args .strike .0) g (omega arith) in
     ap₂ _&&_ (sym both ∙ e)
-    (every-map (clears (args .s) g (args .strike .0)) standingIn (args .standing .now))
+    (every-map (clears (args .s) g (args .strike .0)) standingOf (args .standing .now))
 
 grounds-holds : tie.Need-grounds-holds Inv-standing μ-standing Inv-grounds μ-grounds
 grounds-holds c = passed-none _ 0 4 (omega arith)

@@ -5,7 +5,7 @@ use mathlib.Core.List.{map}
 use mathlib.Core.Logic.{⊎-elim}
 use native.Mathlib.Omega.{arith}
 use borrow.Author.Needs.{needs}
-use Rattle.rule.specs.Spacing.{standingIn}
+use Rattle.rule.specs.Spacing.{standingOf}
 use Rattle.rule.specs.Judgement.{decided, firstGround, foundRows}
 use Rattle.rule.proofs.Rows.{note, found-noted, first-most, found-judgement}
 use Rattle.rule.proofs.judgement.judge.Statement.{statement}
@@ -52,7 +52,7 @@ returns c =
     let args = searched .before .before .before .args in
     let s = args .s in
     let h = args .strike .0 in
-    let standing = map standingIn (args .standing .now) in
+    let standing = map standingOf (args .standing .now) in
     let noted : c .before .if1 .rows ≡ foundRows s h (firstGround s standing h) =
     ⊎-elim
     (λ w.

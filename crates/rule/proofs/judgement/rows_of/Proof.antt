@@ -3,10 +3,11 @@
 use mathlib.Core.Path.{_≡_, sym, _∙_}
 use mathlib.Core.Bool.{Bool, true, false, _&&_, and-assoc}
 use mathlib.Core.List.{[], _∷_}
-use Prim.Native.Nat.{ℕ, _+_, _*_, _/_, _≤_}
+use Prim.Native.Nat.{ℕ, _+_, _/_, _≤_}
 use native.Mathlib.Omega.{arith}
 use lib.Dec.{leb}
 use borrow.Author.Needs.{needs}
+use Rattle.word.specs.Limits.{highestStrike}
 use Rattle.rule.specs.declared.terms.Setting.{Setting}
 use Rattle.rule.specs.Terms.{cents, isLong, price}
 use Rattle.rule.specs.Grids.{gridOf, wingBase}
@@ -23,10 +24,10 @@ module _ (s : Setting) (h : ℕ) where
   abbrev between : Bool
   between = leb (lowEnd (price s)) h && leb h (highEnd s)
 
-  standard-row : h ≤ 19999 → (gridOf s 0 h && between) ≡ (gridOf s 0 h && rangeOf s 0 h)
+  standard-row : h ≤ highestStrike → (gridOf s 0 h && between) ≡ (gridOf s 0 h && rangeOf s 0 h)
   standard-row most = and-where (gridOf s 0 h) between (rangeOf s 0 h) (λ e. sym (standard-ends s h e most))
 
-  dollar-row : h ≤ 19999 → (gridOf s 1 h && between) ≡ (gridOf s 1 h && rangeOf s 1 h)
+  dollar-row : h ≤ highestStrike → (gridOf s 1 h && between) ≡ (gridOf s 1 h && rangeOf s 1 h)
   dollar-row most = and-where (gridOf s 1 h) between (rangeOf s 1 h) (λ e. sym (dollar-ends s h e most))
 
   half-row : (gridOf s 2 h && leb h (halfEnd s)) ≡ (gridOf s 2 h && rangeOf s 2 h)
@@ -37,11 +38,13 @@ module _ (s : Setting) (h : ℕ) where
   wing-row {base} e =
       let low : Bool = leb (lowEnd (price s)) base in
       let high : Bool = leb (base + 10) (highEnd s) in
-      and-assoc (gridOf s 3 h) low high ∙ and-where (gridOf s 3 h) (low && high) (rangeOf s 3 h) (λ on. sym (wing-ends s h on ∙ rw e))
+      and-assoc (gridOf s 3 h) low high
+      ∙ and-where (gridOf s 3 h) (low && high) (rangeOf s 3 h) (λ on. sym (wing-ends s h on ∙ rw e))
 
   -- where the expiration is long Dollar and Half are empty
-  long-rows : {base : ℕ} → isLong s ≡ true → h ≤ 19999 → base ≡ wingBase (cents h) / 50 →
-      (gridOf s 0 h ∷ (gridOf s 0 h && between) ∷ false ∷ []) ∷ (false ∷ false ∷ false ∷ []) ∷ (false ∷ false ∷ false ∷ [])
+  long-rows : {base : ℕ} → isLong s ≡ true → h ≤ highestStrike → base ≡ wingBase (cents h) / 50 →
+      (gridOf s 0 h ∷ (gridOf s 0 h && between) ∷ false ∷ []) ∷ (false ∷ false ∷ false ∷ [])
+      ∷ (false ∷ false ∷ false ∷ [])
       ∷ (gridOf s 3 h ∷ (gridOf s 3 h && leb (lowEnd (price s)) base && leb (base + 10) (highEnd s)) ∷ false ∷ []) ∷ []
       ≡ foundRows s h 4
   long-rows long most e = rw (standard-row most, wing-row e, long)

@@ -1,9 +1,9 @@
--- `put` stores the strike, for a store past the end changes nothing. Assumes nothing.
+-- `write_strike` stores the strike, for a store past the end changes nothing. Assumes nothing.
 use mathlib.Core.Path.{sym}
 use lib.Seq.{set-out}
 use borrow.Author.Needs.{needs}
-use Rattle.permitted.proofs.put.Statement.{statement}
-use Rattle.permitted.proofs.put.Tie as tie
+use Rattle.permitted.proofs.write_strike.Statement.{statement}
+use Rattle.permitted.proofs.write_strike.Tie as tie
 
 mul-out : tie.Need-mul-out
 mul-out c = search needs
@@ -20,5 +20,5 @@ returns c = search needs
 returns-2 : tie.Need-returns-2
 returns-2 c = sym (set-out _ _ _ (c .if1 .left))
 
-pub put-spec : {M : Type 1} → statement M
-put-spec = tie.close (tie.spec mul-out slice-write-out same-length returns returns-2)
+pub write-strike-spec : {M : Type 1} → statement M
+write-strike-spec = tie.close (tie.spec mul-out slice-write-out same-length returns returns-2)

@@ -1,0 +1,31 @@
+-- `rungs_of` answers the rungs: its callees ensure their ends. Assumes nothing.
+use borrow.Author.Needs.{needs}
+use Rattle.rule.proofs.bounds.rungs_of.Statement.{statement}
+use Rattle.rule.proofs.bounds.rungs_of.Tie as tie
+
+half-end-requires : tie.Need-half-end-requires
+half-end-requires c κs = search needs
+
+dollar-end-requires : tie.Need-dollar-end-requires
+dollar-end-requires c κs = search needs
+
+is-long-requires : tie.Need-is-long-requires
+is-long-requires c κs = search needs
+
+ladder-end-requires : tie.Need-ladder-end-requires
+ladder-end-requires c κs = search needs
+
+returns : tie.Need-returns
+returns c =
+    let long = c .before in
+    rw (
+      c .ladder-end .ensures,
+      long .is-long .ensures,
+      long .before .dollar-end .ensures,
+      long .before .before .half-end .ensures,
+    )
+
+pub rungs-of-spec : {M : Type 1} → statement M
+rungs-of-spec =
+    tie.close
+    (tie.spec half-end-requires dollar-end-requires is-long-requires ladder-end-requires returns)
