@@ -31,7 +31,7 @@ use Rattle.book.specs.Books.{isListed, isSeries, areFigures, isClass, is
 use Rattle.book.specs.Views.{viewOf, class, isNotOpen, isStanding, setting, standingIn, rows, groundOf, isNew, isReviewed}
 use Rattle.book.specs.Changes.{update, monthSet, classOpened, classGrown}
 use Rattle.book.specs.Calls.{Call, callM, on, callO, callC, callV, callD, callL, callJ, callX, callI, callR, callA, malformed, effectOn, isCapReached, isGranted, step, steps, after, acceptedFacts}
-use Rattle.book.specs.Permission.{withStrike}
+use Rattle.book.specs.Permission.{factsWithStrike}
 use Rattle.logic.proofs.Tests.{and-intro, ands, true-T, nor-left, nor-right, not-not}
 use Rattle.logic.proofs.Lists.{every-imply, every-map, length-only, sum-map, same-keys, every-inserted, rises-inserted, sum-inserted}
 use Rattle.logic.proofs.Parts.{only-all, map-same}
@@ -221,25 +221,25 @@ module _
 leb-shifted : (a b c k : ℕ) → b ≤ c → T (leb a (b + k)) → T (leb a (c + k))
 leb-shifted a b c k l t = le→leb a (c + k) (omega (arith, leb→le a (b + k) t))
 
-abbrev isFrom : ℕ → Series → Bool
-isFrom m s = leb m (s .month)
+abbrev isFromMonth : ℕ → Series → Bool
+isFromMonth m s = leb m (s .month)
 
 abbrev expired : ℕ → OpenClass → OpenClass
-expired m x = withSeries (only (isFrom m) (x .series)) x
+expired m x = withSeries (only (isFromMonth m) (x .series)) x
 
 module _ (n : ℕ) (f : Facts) (m : ℕ) (w : Well n f) (l : f .now ≤ m) where
-  later-limits : (s : Series) → T (isFrom m s) → T (isSeries (f .now) s) → T (isSeries m s)
+  later-limits : (s : Series) → T (isFromMonth m s) → T (isSeries (f .now) s) → T (isSeries m s)
   later-limits s k t = search (ands, and-intro, leb-shifted) depth 12
 
   class-expired : (x : OpenClass) → T (isClass (f .now) x) → T (isClass m (expired m x))
   class-expired x t =
       let a : T (areFigures (x .figures)) = search ands in
-      let b : T (areSeries m (only (isFrom m) (x .series))) =
-      series-only (f .now) m (isFrom m) later-limits (x .series) (search ands) in
+      let b : T (areSeries m (only (isFromMonth m) (x .series))) =
+      series-only (f .now) m (isFromMonth m) later-limits (x .series) (search ands) in
       search and-intro
 
   words-expired : (x : OpenClass) → wordsOf (expired m x) ≤ wordsOf x
-  words-expired x = omega (arith, expirations-only (isFrom m) (x .series), length-only (isFrom m) (x .series))
+  words-expired x = omega (arith, expirations-only (isFromMonth m) (x .series), length-only (isFromMonth m) (x .series))
 
   keep-month : T (isMonth m) → Well n (record { now = m; classes = map (expired m) (f .classes) })
   keep-month t =
@@ -264,8 +264,8 @@ month-again n f w =
     none-expires : (x : OpenClass) → T (isClass (f .now) x) → expired (f .now) x ≡ x
     none-expires x t =
         let series =
-        only-all (isFrom (f .now)) (x .series)
-        (every-imply (isSeries (f .now)) (isFrom (f .now)) (λ s u. search ands) (x .series) (search ands)) in
+        only-all (isFromMonth (f .now)) (x .series)
+        (every-imply (isSeries (f .now)) (isFromMonth (f .now)) (λ s u. search ands) (x .series) (search ands)) in
         λ i. record { figures = x .figures; series = series i }
 
 -- ---- a new class
@@ -336,7 +336,7 @@ ground-limit s standing h =
 keep-strike :
     (n c m h : ℕ) (f : Facts) → Well n f → T (isClassNumber c) → T (not (isNotOpen (viewOf c f))) → T (isMonth m)
     → T (isStrike h) → T (not (isOutside (setting (viewOf c f) m))) → T (not (isStanding (viewOf c f) m h))
-    → wordsTaken (withStrike c m h f) ≤ n → Well n (withStrike c m h f)
+    → wordsTaken (factsWithStrike c m h f) ≤ n → Well n (factsWithStrike c m h f)
 unfolding classGrown
 keep-strike n c m h f w number o month strike inside new room =
     let s : Series = record { month = m; strike = h; ground = groundOf (viewOf c f) m h; put = 0; call = 0 } in
@@ -363,7 +363,7 @@ effect-well n (on c (callD p d)) f w t =
     keep-designation n f c w (search ands) (search ands) p d (search ands) (search ands) (search ands)
 effect-well n (on c (callL m h)) f w t =
     keep-strike n c m h f w (search ands) (search ands) (search ands) (search ands) (search ands) (search ands)
-    (nltb→le n (wordsTaken (withStrike c m h f)) (search ands depth 12))
+    (nltb→le n (wordsTaken (factsWithStrike c m h f)) (search ands depth 12))
 effect-well n (on c (callJ m h)) f w t = w
 effect-well n (on c (callX m h)) f w t = keep-only n f c w (search ands) (search ands) (λ s. not (isAt m h s))
 effect-well n (on c (callI m h a b)) f w t =

@@ -11,12 +11,11 @@ use borrow.Author.Tests.{eqb-true}
 use Rattle.logic.specs.Lists.{sum, every}
 use Rattle.word.specs.Codec.{Word, Head, Invalid, isLegal, packed, reading}
 use Rattle.word.specs.Limits.{isLength, isMonth}
-use Rattle.word.proofs.Tests.{and-both}
+use Rattle.logic.proofs.Tests.{and-both, and-intro, ands, T-true}
 use Rattle.word.proofs.Words.{reading-packed}
 use Rattle.book.specs.Facts.{Series, OpenClass, Facts, fresh, expirations, wordsTaken}
-use Rattle.book.specs.Layout.{strikeWord, expirationUnless, seriesWords, figuresWords, classesWords, used, layout, Tail, begun, addClass, addSeries, setClose, setVolume, readFrom, factsIn, factsOf}
+use Rattle.book.specs.Layout.{strikeWord, expirationUnless, seriesWords, figuresWords, classesWords, used, layout, Tail, tailOf, addClass, addSeries, setClose, setVolume, readFrom, factsIn, factsOf}
 use Rattle.book.specs.Books.{isSeries, areFigures, isClass, isWellFormed, sameWords, isBook}
-use Rattle.logic.proofs.Tests.{and-intro, ands, T-true}
 use Rattle.book.proofs.LegalWords.{strike-legal, month-legal}
 
 -- ---- reading the words of facts
@@ -25,22 +24,22 @@ use Rattle.book.proofs.LegalWords.{strike-legal, month-legal}
 read-strike :
     (p : ℕ) (s : Series) (rest : List Word) (ss : List Series) (xs : List OpenClass) (stands : Bool)
     → eqb p (suc (s .month)) ≡ stands
-    → readFrom (suc (s .month)) rest ≡ begun ss xs
-    → readFrom p (expirationUnless stands (s .month) (strikeWord s ∷ rest)) ≡ begun (s ∷ ss) xs
+    → readFrom (suc (s .month)) rest ≡ tailOf ss xs
+    → readFrom p (expirationUnless stands (s .month) (strikeWord s ∷ rest)) ≡ tailOf (s ∷ ss) xs
 read-strike p s rest ss xs true e next = rw (eqb-true p (suc (s .month)) e) (ap (addSeries s) next)
 read-strike p s rest ss xs false e next = ap (addSeries s) next
 
 read-series :
-    (p : ℕ) (ss : List Series) (rest : List Word) (xs : List OpenClass) → ((q : ℕ) → readFrom q rest ≡ begun [] xs)
-    → readFrom p (seriesWords p ss rest) ≡ begun ss xs
+    (p : ℕ) (ss : List Series) (rest : List Word) (xs : List OpenClass) → ((q : ℕ) → readFrom q rest ≡ tailOf [] xs)
+    → readFrom p (seriesWords p ss rest) ≡ tailOf ss xs
 read-series p [] rest xs ends = ends p
 read-series p (s ∷ ss) rest xs ends =
     read-strike p s (seriesWords (suc (s .month)) ss rest) ss xs (eqb p (suc (s .month))) refl
     (read-series (suc (s .month)) ss rest xs ends)
 
 read-classes :
-    (xs : List OpenClass) (rest : List Word) → ((q : ℕ) → readFrom q rest ≡ begun [] [])
-    → (q : ℕ) → readFrom q (classesWords xs rest) ≡ begun [] xs
+    (xs : List OpenClass) (rest : List Word) → ((q : ℕ) → readFrom q rest ≡ tailOf [] [])
+    → (q : ℕ) → readFrom q (classesWords xs rest) ≡ tailOf [] xs
 read-classes [] rest ends q = ends q
 read-classes (x ∷ xs) rest ends q =
     let r = x .figures in
@@ -49,7 +48,7 @@ read-classes (x ∷ xs) rest ends q =
 
 -- reading the words of any facts, before words that add none, gives the facts back
 pub factsIn-layout :
-    (f : Facts) (rest : List Word) → ((q : ℕ) → readFrom q rest ≡ begun [] [])
+    (f : Facts) (rest : List Word) → ((q : ℕ) → readFrom q rest ≡ tailOf [] [])
     → factsIn (Head (f .now) (used f) ∷ classesWords (f .classes) rest) ≡ f
 factsIn-layout f rest ends =
     ap (λ (t : Tail). record { now = f .now; classes = t .classes }) (read-classes (f .classes) rest ends 0)
@@ -159,7 +158,7 @@ unfolding reading
 read-zeros zero = refl
 read-zeros (suc k) = ap (λ (l : List Word). Invalid ∷ l) (read-zeros k)
 
-invalid-ends : (k q : ℕ) → readFrom q (replicate k Invalid) ≡ begun [] []
+invalid-ends : (k q : ℕ) → readFrom q (replicate k Invalid) ≡ tailOf [] []
 invalid-ends zero q = refl
 invalid-ends (suc k) q = refl
 

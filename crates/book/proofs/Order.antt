@@ -15,12 +15,11 @@ use Rattle.word.specs.declared.answer.Refusal.{Refusal}
 use Rattle.word.specs.declared.answer.Refusal.the-variants.{BeyondLimits, OutOfWords}
 use Rattle.word.specs.Answers.{refusalNumber, answerNumber, rank, isAccepted, strikesListed}
 use Rattle.word.proofs.Refusals.{accepted-zero}
-use Rattle.word.proofs.Tests.{and-both}
+use Rattle.logic.proofs.Tests.{and-both, and-intro, ands, T-true, equal-test, or-left, or-right}
 use Rattle.book.specs.Facts.{Facts, number}
 use Rattle.book.specs.Views.{View, viewOf}
 use Rattle.book.specs.Changes.{Deed, monthBecomes, opens, becomes, grows, designates, writes, nothing, factsAfter, listOf}
 use Rattle.book.specs.Calls.{ClassCall, Call, callM, on, callO, callC, callV, callD, callL, callJ, callX, callI, callR, callA, malformed, named, Condition, draws, firstOr, noneApplies, Effect, effectOn, effect, asked, conditions, answerTo, written, isGranted, step, acceptedFacts}
-use Rattle.logic.proofs.Tests.{and-intro, ands, T-true, equal-test, or-left, or-right}
 
 -- the number k applies
 abbrev pub applies : ℕ → List Condition → Bool

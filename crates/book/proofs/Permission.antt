@@ -11,7 +11,7 @@ use Rattle.word.specs.declared.answer.Answer.the-variants.{Ground, Listed, Refu
 use Rattle.word.specs.declared.answer.Refusal.the-variants.{BeyondLimits, NotOpen, MonthOutside, NoClose, OutOfWords}
 use Rattle.word.specs.Answers.{answerNumber, answerValue, isAccepted}
 use Rattle.word.specs.Limits.{isClassNumber, isMonth}
-use Rattle.word.proofs.Tests.{and-both}
+use Rattle.logic.proofs.Tests.{and-both, ands, T-true, at-most}
 use Rattle.logic.specs.Lists.{some, Rising}
 use Rattle.rule.specs.Terms.{isOutside}
 use Rattle.rule.proofs.Permitted.{only-rises, only-exactly}
@@ -22,9 +22,8 @@ use Rattle.book.specs.Books.{isBook}
 use Rattle.book.specs.Views.{View, viewOf, class, isNotOpen, hasNoClose, setting, groundOf, isNew}
 use Rattle.book.specs.Changes.{classOpened, listOf}
 use Rattle.book.specs.Calls.{Call, on, callO, callD, callL, callJ, callA, Condition, draws, firstOr, noneApplies, isPlace, judging, permittedIn, effect, isCapReached, asked, conditions, answerTo, written, isGranted, effectOn}
-use Rattle.book.specs.Permission.{isPermitted, areWordsLeft, withStrike}
+use Rattle.book.specs.Permission.{isPermitted, areWordsLeft, factsWithStrike}
 use Rattle.book.specs.Made.{over, Made}
-use Rattle.logic.proofs.Tests.{ands, T-true, at-most}
 use Rattle.book.proofs.Order.{applies, drawn-applies, none-last, first-after, effect-zero, accepted-answer, accepted-exactly}
 use Rattle.book.proofs.Permits.{none-permitted}
 
@@ -39,10 +38,10 @@ pub listing-exactly :
 unfolding effectOn
 listing-exactly n c m h f =
     go (isPlace c m h)
-    ∙ (λ i. judged-exactly n c m h f i && sym (at-most (wordsTaken (withStrike c m h f)) n) i)
+    ∙ (λ i. judged-exactly n c m h f i && sym (at-most (wordsTaken (factsWithStrike c m h f)) n) i)
   where
     short : Bool
-    short = ltb n (wordsTaken (withStrike c m h f))
+    short = ltb n (wordsTaken (factsWithStrike c m h f))
 
     go :
         (b : Bool)
@@ -86,18 +85,18 @@ module _ {w w′ : List ℕ} {r : Answer} (book : T (isBook w)) where
     unfolding effectOn answerTo
     listed-exactly left =
         go (isPermitted c m h (factsOf w)) (judged-exactly (length w) c m h (factsOf w))
-        (ltb (length w) (wordsTaken (withStrike c m h (factsOf w)))) refl
+        (ltb (length w) (wordsTaken (factsWithStrike c m h (factsOf w)))) refl
         (exactly refl made
         ∙ listing-exactly (length w) c m h (factsOf w)
         ∙ ap (λ (b : Bool). isPermitted c m h (factsOf w) && b)
-        (at-most (wordsTaken (withStrike c m h (factsOf w))) (length w)))
+        (at-most (wordsTaken (factsWithStrike c m h (factsOf w))) (length w)))
       where
         asked : List Condition
         asked = draws BeyondLimits (not (isPlace c m h)) ∷ judging m h (viewOf c (factsOf w))
 
         go :
             (permitted : Bool) → isGranted (length w) (on c (callJ m h)) (factsOf w) ≡ permitted
-            → (short : Bool) → ltb (length w) (wordsTaken (withStrike c m h (factsOf w))) ≡ short
+            → (short : Bool) → ltb (length w) (wordsTaken (factsWithStrike c m h (factsOf w))) ≡ short
             → isAccepted r ≡ (permitted && not short) → isAccepted r ≡ permitted
         go false p short s e = e
         go true p false s e = e
@@ -117,11 +116,11 @@ module _ {w w′ : List ℕ} {r : Answer} (book : T (isBook w)) where
     listed-ground e = granted made e
 
     -- 15 is drawn only where the words needed exceed the run
-    pub listed-room : answerNumber r ≡ 15 → length w < wordsTaken (withStrike c m h (factsOf w))
+    pub listed-room : answerNumber r ≡ 15 → length w < wordsTaken (factsWithStrike c m h (factsOf w))
     unfolding effectOn
     listed-room e =
-        ltb→lt (length w) (wordsTaken (withStrike c m h (factsOf w)))
-        (last-applies (ltb (length w) (wordsTaken (withStrike c m h (factsOf w)))) (drawn made 14 e))
+        ltb→lt (length w) (wordsTaken (factsWithStrike c m h (factsOf w)))
+        (last-applies (ltb (length w) (wordsTaken (factsWithStrike c m h (factsOf w)))) (drawn made 14 e))
 
   -- `J` gives the same judgement
   module _ {c m h : ℕ} (made : Made (on c (callJ m h)) w [] r w′ []) where

@@ -13,7 +13,7 @@ use Rattle.word.specs.Field.{field}
 use Rattle.word.proofs.Fields.{field-packed}
 use Rattle.word.proofs.Words.{strike-fields}
 use Rattle.logic.specs.Lists.{every, some, only}
-use Rattle.rule.specs.Spacing.{standingIn as standingOf}
+use Rattle.rule.specs.Spacing.{standingOf}
 use Rattle.book.specs.Facts.{Series, Facts, number, isOpen, isAt, isMarked, inMonth}
 use Rattle.book.specs.Layout.{strikeWord, expirationUnless, seriesWords, figuresWords, classesWords, used, layout}
 use Rattle.book.specs.Books.{isSeries, isWellFormed}

@@ -11,7 +11,7 @@ use Rattle.word.specs.declared.answer.Answer.the-variants.{Done, Ground, Remove
 use Rattle.word.specs.declared.answer.Refusal.{Refusal}
 use Rattle.word.specs.declared.answer.Refusal.the-variants.{BeyondLimits, AlreadyOpen, NotOpen, MonthOutside, AlreadyStanding, NotStanding, NoClose, NotQualified, CapReached, OffGrid, OutOfRange, TooClose, OpenInterest, OutOfWords}
 use Rattle.word.specs.declared.class.ClassRecord.{ClassRecord}
-use Rattle.word.specs.Limits.{isPrice, isStrike, isMonth, isClassNumber, isVolume, isDesignation, isMark}
+use Rattle.word.specs.Limits.{highestStrike, isPrice, isStrike, isMonth, isClassNumber, isVolume, isDesignation, isMark}
 use Rattle.word.specs.Answers.{isAccepted}
 use Rattle.logic.specs.Lists.{some, only, upFrom}
 use Rattle.rule.specs.Terms.{isOutside}
@@ -100,7 +100,7 @@ judging m h v =
 
 -- document 01's term: "A strike that `J` would accept is *permitted*"; all of them, rising
 unfoldable pub permittedIn : ℕ → View → List ℕ
-permittedIn m v = only (λ h. noneApplies (judging m h v)) (upFrom 19999 1)
+permittedIn m v = only (λ h. noneApplies (judging m h v)) (upFrom highestStrike 1)
 
 -- one row for each call on the class c, by what it sees
 unfoldable pub effectOn : ℕ → ClassCall → View → Effect

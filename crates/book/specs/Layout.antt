@@ -55,12 +55,12 @@ pub record Tail : Type 0 where
   pub series : List Series
   pub classes : List OpenClass
 
-abbrev pub begun : List Series → List OpenClass → Tail
-begun ss xs = record { close = 0; volume = 0; series = ss; classes = xs }
+abbrev pub tailOf : List Series → List OpenClass → Tail
+tailOf ss xs = record { close = 0; volume = 0; series = ss; classes = xs }
 
 abbrev pub addClass : ℕ → List ℕ → Tail → Tail
 addClass n ds t =
-    begun []
+    tailOf []
     (record {
       figures = record { number = n; close = t .close; volume = t .volume; designations = ds };
       series = t .series;
@@ -83,15 +83,15 @@ monthBefore (suc m) = m
 
 -- the words after the head, to the first that is none; p is the expiration that the strikes belong to
 abbrev pub readFrom : ℕ → List Word → Tail
-readFrom p [] = begun [] []
-readFrom p (Head now k ∷ ws) = begun [] []
+readFrom p [] = tailOf [] []
+readFrom p (Head now k ∷ ws) = tailOf [] []
 readFrom p (Class n ds ∷ ws) = addClass n ds (readFrom 0 ws)
 readFrom p (Close price ∷ ws) = setClose price (readFrom p ws)
 readFrom p (Volume v ∷ ws) = setVolume v (readFrom p ws)
 readFrom p (Expiration m ∷ ws) = readFrom (suc m) ws
 readFrom p (Strike h g a b ∷ ws) =
     addSeries (record { month = monthBefore p; strike = h; ground = g; put = a; call = b }) (readFrom p ws)
-readFrom p (Invalid ∷ ws) = begun [] []
+readFrom p (Invalid ∷ ws) = tailOf [] []
 
 abbrev pub headMonth : Word → ℕ
 headMonth (Head now k) = now

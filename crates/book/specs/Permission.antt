@@ -22,9 +22,9 @@ abbrev pub isPermitted : ℕ → ℕ → ℕ → Facts → Bool
 isPermitted c m h f = isPlace c m h && isPermittedBy m h (viewOf c f)
 
 -- the facts with the strike that `L` adds
-abbrev pub withStrike : ℕ → ℕ → ℕ → Facts → Facts
-withStrike c m h f = classGrown (strikeAdded (newSeries m h (groundOf (viewOf c f) m h)) (class f c)) f
+abbrev pub factsWithStrike : ℕ → ℕ → ℕ → Facts → Facts
+factsWithStrike c m h f = classGrown (strikeAdded (newSeries m h (groundOf (viewOf c f) m h)) (class f c)) f
 
 -- "words are left for it", in a run of n words: those that the facts would take with it are not more
 abbrev pub areWordsLeft : ℕ → ℕ → ℕ → ℕ → Facts → Bool
-areWordsLeft n c m h f = leb (wordsTaken (withStrike c m h f)) n
+areWordsLeft n c m h f = leb (wordsTaken (factsWithStrike c m h f)) n

@@ -26,7 +26,7 @@ use Rattle.logic.proofs.Tests.{true-T}
 use Rattle.book.proofs.Layouts.{factsOf-layout, book-layout, book-facts, fresh-well-formed}
 use Rattle.book.proofs.Followed.{next-book, layout-size}
 use Rattle.history.specs.Records.{callAt, callsOf}
-use Rattle.history.specs.Runs.{lentWithin, Lent, Continued, Ran}
+use Rattle.history.specs.Runs.{lentWithin, Lent, MadeInTurn, Ran}
 
 -- ---- the records of a list
 
@@ -101,7 +101,7 @@ going-step {held} {start} {calls} {run} {pool} {run′} {pool′} {i} g h m long
 
 pub going-end :
     {held start calls run pool : List ℕ} {i : ℕ} → Going held start calls run pool i → length calls ≤ i + 7
-    → Continued held start calls run pool
+    → MadeInTurn held start calls run pool
 unfolding steps secondAfter
 going-end {held} {start} {calls} {run} {pool} {i} g h =
     let none : callsOf (drop i calls) ≡ [] = no-record (drop i calls) (simp length-drop (omega arith)) in
@@ -139,7 +139,7 @@ module _ {w w′ : List ℕ} {r : Answer} (begun : Begun w r w′) where
     pub begun-book : T (isBook w′)
     begun-book = rw fresh-words (book-layout (length w) fresh well-formed)
 
-    pub ran-done : {pool calls w″ pool′ : List ℕ} → Continued w′ pool calls w″ pool′ → Ran w pool calls r w″ pool′
+    pub ran-done : {pool calls w″ pool′ : List ℕ} → MadeInTurn w′ pool calls w″ pool′ → Ran w pool calls r w″ pool′
     ran-done made =
         let size = layout-size (length w) fresh well-formed in
         let facts = factsOf-layout (length w) fresh well-formed in

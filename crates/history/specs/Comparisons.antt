@@ -19,8 +19,8 @@ use Rattle.history.specs.Records.{callsOf}
 use Rattle.history.specs.Runs.{lentWithin}
 
 -- "the facts that the plain book reads" from the length and the list alone
-abbrev pub factsAfter : ℕ → List ℕ → Facts
-factsAfter n calls = after n (callsAlone (callsOf calls))
+abbrev pub factsOfCalls : ℕ → List ℕ → Facts
+factsOfCalls n calls = after n (callsAlone (callsOf calls))
 
 -- the pool after a list of calls on a fresh book
 abbrev pub poolAfter : ℕ → List ℕ → List ℕ → List ℕ
@@ -28,13 +28,13 @@ poolAfter n calls pool = secondAfter n (map (lentWithin (length pool)) (callsOf 
 
 -- two runs of n words that two lists of calls have left
 pub record Both (n : ℕ) (pool calls others : List ℕ) (r : Comparison) (left′ right′ pool′ : List ℕ) : Type 0 where
-  pub left : left′ ≡ layout n (factsAfter n calls)
-  pub right : right′ ≡ layout n (factsAfter n others)
+  pub left : left′ ≡ layout n (factsOfCalls n calls)
+  pub right : right′ ≡ layout n (factsOfCalls n others)
   pub second : pool′ ≡ poolAfter n others (poolAfter n calls pool)
   pub run : r ≡ BadLength → ⊥
   pub by-words : (r ≡ Equal) ↔ (left′ ≡ right′)
-  pub by-facts : (r ≡ Equal) ↔ (factsAfter n calls ≡ factsAfter n others)
-  pub by-points : (r ≡ Equal) ↔ SameFacts (factsAfter n calls) (factsAfter n others)
+  pub by-facts : (r ≡ Equal) ↔ (factsOfCalls n calls ≡ factsOfCalls n others)
+  pub by-points : (r ≡ Equal) ↔ SameFacts (factsOfCalls n calls) (factsOfCalls n others)
 
 -- both runs are of one length, and it is one that a book can have
 abbrev pub areLengths : ℕ → ℕ → Bool

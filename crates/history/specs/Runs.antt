@@ -29,7 +29,7 @@ pub record Lent (x : LentCall) (w pool : List ℕ) (r : Answer) (w′ pool′ : 
   pub second : pool′ ≡ over (written (length w) (lentWithin (length pool) x .room) (x .call) (factsOf w)) pool
 
 -- the calls made in turn on a run w that is a book
-pub record Continued (w pool calls w′ pool′ : List ℕ) : Type 0 where
+pub record MadeInTurn (w pool calls w′ pool′ : List ℕ) : Type 0 where
   pub words : w′ ≡ layout (length w) (steps (length w) (callsAlone (callsOf calls)) (factsOf w))
   pub second : pool′ ≡ secondAfter (length w) (map (lentWithin (length pool)) (callsOf calls)) (factsOf w) pool
 

@@ -5,7 +5,7 @@ ghost use lib.Dec.{T};
 ghost use lib.ListN.{length};
 ghost use Rattle.book.specs.Books.{isBook, sameWords};
 ghost use Rattle.history.specs.Records.{callAt};
-ghost use Rattle.history.specs.Runs.{Lent, Continued, Ran};
+ghost use Rattle.history.specs.Runs.{Lent, MadeInTurn, Ran};
 ghost use Rattle.history.specs.Comparisons.{Compared};
 use dispatch::make_call;
 use scan::fresh;
@@ -52,7 +52,7 @@ fn make_record(run: &mut [u32], pool: &mut [u32], calls: &[u32], at: usize) -> A
 // Makes the calls of a list of records in turn, on a run that is a book.
 fn make_calls(run: &mut [u32], pool: &mut [u32], calls: &[u32])
     requires { ⌜ T (isBook (now run)) ⌝ }
-    ensures { λ _. ⌜ Continued (now (run .entry)) (now (pool .entry)) (now (calls .entry))
+    ensures { λ _. ⌜ MadeInTurn (now (run .entry)) (now (pool .entry)) (now (calls .entry))
         (now (run .exit)) (now (pool .exit)) ⌝ }
 {
     let mut i = 0;

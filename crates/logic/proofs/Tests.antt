@@ -1,12 +1,12 @@
 -- Tests joined by `and` and `or`, tests that fail, the test of equal numbers and numbers in order: by cases on the tests.
 -- Assumes nothing.
-use Prim.Native.Nat.{ℕ, _<_}
+use Prim.Native.Nat.{ℕ, _≤_, _<_}
 use mathlib.Core.Path.{_≡_, refl, sym}
 use mathlib.Core.Bool.{Bool, true, false, not, _&&_, _||_}
-use mathlib.Core.Logic.{_⊎_, inl, inr}
+use mathlib.Core.Logic.{_⊎_, inl, inr, ⊎-elim}
 use native.Mathlib.Omega.{arith}
 use lib.Dec.{T, eqb, leb, ltb, eqb→eq, eqb-refl}
-use borrow.Author.Tests.{ltb-true, ltb-false, leb-true, leb-false, lt-ltb, le-ltb}
+use borrow.Author.Tests.{ltb-true, ltb-false, leb-true, leb-false, lt-ltb, le-ltb, eqb-true, eqb-false}
 
 pub and-left : (a b : Bool) → T (a && b) → T a
 and-left true b t = tt
@@ -93,3 +93,32 @@ or-none false b e = (refl, e)
 pub refuted : (a : Bool) → (T a → ⊥) → false ≡ a
 refuted true fails = absurd (fails tt)
 refuted false fails = refl
+
+-- ---- a test as `true` or `false`, as the branches of code give it
+
+pub and-both : (a b : Bool) → (a && b) ≡ true → (a ≡ true) × (b ≡ true)
+and-both true b h = (refl, h)
+and-both false b h = (h, cc)
+
+pub bool-cases : (t : Bool) → (t ≡ true) ⊎ (t ≡ false)
+bool-cases true = inl refl
+bool-cases false = inr refl
+
+pub lt-or-le : (m n : ℕ) → (m < n) ⊎ (n ≤ m)
+lt-or-le m n = ⊎-elim (λ e. inl (ltb-true m n e)) (λ e. inr (ltb-false m n e)) (bool-cases (ltb m n))
+
+pub eq-or-not : (m n : ℕ) → (m ≡ n) ⊎ (m ≡ n → ⊥)
+eq-or-not m n = ⊎-elim (λ e. inl (eqb-true m n e)) (λ e. inr (eqb-false m n e)) (bool-cases (eqb m n))
+
+pub one-of : (a b : Bool) → (a || b) ≡ true → (a ≡ true) ⊎ (b ≡ true)
+one-of true b h = inl refl
+one-of false b h = inr h
+
+module _ (low high n : ℕ) where
+  pub outside : (ltb n low || ltb high n) ≡ true → (n < low) ⊎ (high < n)
+  outside h = ⊎-elim (λ e. inl (ltb-true n low e)) (λ e. inr (ltb-true high n e)) (one-of (ltb n low) (ltb high n) h)
+
+  pub inside : (ltb n low || ltb high n) ≡ false → (low ≤ n) × (n ≤ high)
+  inside h =
+      let both = or-none (ltb n low) (ltb high n) h in
+      (ltb-false n low (both .0), ltb-false high n (both .1))

@@ -8,7 +8,7 @@ use lib.ListN.{length, take, drop, getD}
 use lib.Dec.{T, eqb, ltb}
 use borrow.Author.Tests.{not-true, not-false, ltb-true, lt-ltb, le-ltb}
 use Rattle.word.specs.Codec.{Expiration as ExpirationWord, packed}
-use Rattle.word.proofs.Tests.{and-both}
+use Rattle.logic.proofs.Tests.{and-both}
 use Rattle.logic.specs.Lists.{some, only}
 use Rattle.book.specs.Facts.{Series, Facts, isOpen, inMonth}
 use Rattle.book.specs.Layout.{used, factsOf}

@@ -9,12 +9,11 @@ use lib.Dec.{T, eqb, leb, ltb}
 use borrow.Author.Tests.{eqb-true, leb-true, ltb-true, le-leb, lt-leb}
 use Rattle.word.specs.Codec.{Word, Class, isLegal, packed}
 use Rattle.word.specs.Field.{field}
-use Rattle.word.proofs.Tests.{and-both}
+use Rattle.logic.proofs.Tests.{and-both, and-intro, ands, T-true}
 use Rattle.word.proofs.Words.{legal-fits, kindIn, kind-packed}
 use Rattle.logic.specs.Lists.{every}
 use Rattle.book.specs.Facts.{Series, OpenClass, isBelow}
 use Rattle.book.specs.Layout.{strikeWord, expirationUnless, seriesWords, classesWords}
-use Rattle.logic.proofs.Tests.{and-intro, ands, T-true}
 use Rattle.logic.proofs.Lists.{every-true, ordered}
 use Rattle.place.specs.Search.{firstAt, isOfKind, isFrom, Rises}
 use Rattle.place.proofs.Firsts.{every-at}

@@ -1,4 +1,4 @@
--- The tests of a search on words and on packed words: by the kind of a word, its lowest field and its rank. Assumes nothing.
+-- The tests of a search on words and on packed words: by the kind of a word, its lowest field and its grade. Assumes nothing.
 use Prim.Native.Nat.{ℕ, _+_, _-_, _*_, _/_, _^_, _≤_, _<_}
 use mathlib.Core.Path.{_≡_, refl, sym, ap, _∙_}
 use mathlib.Core.Bool.{Bool, true, false, cond, _&&_, _||_}
@@ -14,7 +14,7 @@ use Rattle.word.specs.Field.{field}
 use Rattle.word.proofs.Words.{class-fields, legal-fits, kindIn, kind-packed}
 use Rattle.logic.specs.Lists.{every}
 use Rattle.logic.proofs.Tests.{ands}
-use Rattle.place.specs.Search.{firstAt, isOfKind, isNoLower, rankOf, isUpTo, isFrom}
+use Rattle.place.specs.Search.{firstAt, isOfKind, isNoLower, gradeOf, isUpTo, isFrom}
 use Rattle.place.proofs.Firsts.{every-part}
 
 -- a field of `width` bits holds less than a number of more bits
@@ -33,13 +33,13 @@ module _ (kind width key : ℕ) (small : key < 2 ^ 28) where
           (a : Bool) → isOfKind kind w ≡ a → (b : Bool) → leb key (field w 0 width) ≡ b → kind ≤ kindOf w
           → isUpTo kind width key w ≡ (a && b)
       go true d true e l =
-          le-leb (rankOf width w) (kind * 2 ^ 28 + (2 ^ 28 - 1 - key))
+          le-leb (gradeOf width w) (kind * 2 ^ 28 + (2 ^ 28 - 1 - key))
           (omega (arith, eqb-true (kindOf w) kind d, leb-true key (field w 0 width) e))
       go true d false e l =
-          lt-leb (rankOf width w) (kind * 2 ^ 28 + (2 ^ 28 - 1 - key))
+          lt-leb (gradeOf width w) (kind * 2 ^ 28 + (2 ^ 28 - 1 - key))
           (omega (arith, eqb-true (kindOf w) kind d, leb-false key (field w 0 width) e))
       go false d b e l =
-          lt-leb (rankOf width w) (kind * 2 ^ 28 + (2 ^ 28 - 1 - key)) (omega (arith, eqb-false (kindOf w) kind d))
+          lt-leb (gradeOf width w) (kind * 2 ^ 28 + (2 ^ 28 - 1 - key)) (omega (arith, eqb-false (kindOf w) kind d))
 
   pub first-from : (ws : List ℕ) → T (every (isNoLower kind) ws) → firstAt (isUpTo kind width key) ws ≡ firstAt (isFrom kind width key) ws
   first-from [] t = refl

@@ -25,12 +25,12 @@ abbrev pub isNoLower : ℕ → ℕ → Bool
 isNoLower kind w = leb kind (kindOf w)
 
 -- a word by its kind, and in its kind by how little its lowest field, of `width` bits, holds
-abbrev pub rankOf : ℕ → ℕ → ℕ
-rankOf width w = kindOf w * 2 ^ 28 + (2 ^ 28 - 1 - field w 0 width)
+abbrev pub gradeOf : ℕ → ℕ → ℕ
+gradeOf width w = kindOf w * 2 ^ 28 + (2 ^ 28 - 1 - field w 0 width)
 
 -- a word of a lower kind, or of the kind and with at least `key` in its lowest field, of `width` bits
 abbrev pub isUpTo : ℕ → ℕ → ℕ → ℕ → Bool
-isUpTo kind width key w = leb (rankOf width w) (kind * 2 ^ 28 + (2 ^ 28 - 1 - key))
+isUpTo kind width key w = leb (gradeOf width w) (kind * 2 ^ 28 + (2 ^ 28 - 1 - key))
 
 -- a word of the kind whose lowest field, of `width` bits, holds at least `key`
 abbrev pub isFrom : ℕ → ℕ → ℕ → ℕ → Bool

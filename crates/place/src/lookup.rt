@@ -134,7 +134,7 @@ fn is_word_at(run: &[u32], at: usize, w: u32) -> bool
 }
 
 // Whether the words used have a strike there, and it is h.
-fn is_strike_at(run: &[u32], at: usize, h: u32) -> bool
+fn holds_strike(run: &[u32], at: usize, h: u32) -> bool
     requires { ⌜ T (isBook (now run)) ⌝ }
     ensures { λ r. ⌜ r
         ≡ (ltb at (used (factsOf (now (run .entry)))) && isHolding 6 15 h (getD (now (run .entry)) at 0)) ⌝ }
@@ -186,6 +186,6 @@ pub fn look_up_strike(run: &[u32], class: usize, m: u32, h: u32) -> StrikeSearch
     StrikeSearch {
         at,
         expiration: true,
-        standing: is_strike_at(run, at, h),
+        standing: holds_strike(run, at, h),
     }
 }

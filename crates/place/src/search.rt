@@ -7,28 +7,28 @@ ghost use lib.Dec.{T, leb};
 ghost use lib.ListN.{length};
 ghost use Rattle.word.specs.Digits.{binary};
 ghost use Rattle.logic.specs.Lists.{every};
-ghost use Rattle.place.specs.Search.{firstAt, foundNear, isFrom, isHolding, isNoLower, rankOf, isUpTo, Rises};
+ghost use Rattle.place.specs.Search.{firstAt, foundNear, isFrom, isHolding, isNoLower, gradeOf, isUpTo, Rises};
 use word::codec::kind;
 use word::field::field_of;
 
 // A word by its kind, and in its kind by how little its lowest field, of `width` bits, holds.
-fn rank(w: u32, width: u32) -> u32
+fn grade(w: u32, width: u32) -> u32
     requires { ⌜ width ≤ 28 ⌝ }
-    ensures { λ r. ⌜ r ≡ rankOf width w ⌝ }
+    ensures { λ r. ⌜ r ≡ gradeOf width w ⌝ }
 {
     kind(w) * 268435456 + (268435455 - field_of(w, 0, width))
 }
 
-// Which of 16 words are of a rank up to `most`: a bit for each, from bit 1 on. The constant lets it compile to tests of
-// many words at a time, and no word has bit 0, which would be tested alone.
-fn ranked_of_16(block: &[u32], width: u32, most: u32) -> u32
+// Which of 16 words are of a grade up to `most`: a bit for each, from bit 1 on. The constant lets it compile to tests
+// of many words at a time, and no word has bit 0, which would be tested alone.
+fn graded_of_16(block: &[u32], width: u32, most: u32) -> u32
     requires { ⌜ (length (now block) ≡ 16) × (width ≤ 28) ⌝ }
-    ensures { λ r. ⌜ r ≡ 2 * binary (map (λ w. leb (rankOf width w) most) (now (block .entry))) ⌝ }
+    ensures { λ r. ⌜ r ≡ 2 * binary (map (λ w. leb (gradeOf width w) most) (now (block .entry))) ⌝ }
 {
     let mut bits = 0;
     let mut i = 0;
     while i < 16 {
-        let bit = if rank(block[i], width) <= most {
+        let bit = if grade(block[i], width) <= most {
             2 << i
         } else {
             0
@@ -39,15 +39,15 @@ fn ranked_of_16(block: &[u32], width: u32, most: u32) -> u32
     bits
 }
 
-// The index of the first word of a rank up to `most`, or the length: word by word.
+// The index of the first word of a grade up to `most`, or the length: word by word.
 fn first_plainly(words: &[u32], width: u32, most: u32) -> usize
     requires { ⌜ width ≤ 28 ⌝ }
-    ensures { λ r. ⌜ (r ≡ firstAt (λ w. leb (rankOf width w) most) (now (words .entry)))
+    ensures { λ r. ⌜ (r ≡ firstAt (λ w. leb (gradeOf width w) most) (now (words .entry)))
         × (r ≤ length (now (words .entry))) ⌝ }
 {
     let mut i = 0;
     while i < words.len() {
-        if rank(words[i], width) <= most {
+        if grade(words[i], width) <= most {
             return i;
         }
         i += 1;
@@ -64,7 +64,7 @@ pub fn first(words: &[u32], kind: u32, width: u32, key: u32) -> usize
     let most = kind * 268435456 + (268435455 - key);
     let mut i = 0;
     while 16 <= words.len() - i {
-        let bits = ranked_of_16(&words[i..i + 16], width, most);
+        let bits = graded_of_16(&words[i..i + 16], width, most);
         if bits != 0 {
             return i + u32::trailing_zeros(bits) as usize - 1;
         }

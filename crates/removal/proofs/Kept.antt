@@ -14,11 +14,11 @@ use Rattle.book.specs.Facts.{Series}
 use Rattle.book.specs.Layout.{strikeWord, expirationUnless, seriesWords}
 use Rattle.book.proofs.Forms.{areSeries}
 use Rattle.removal.specs.declared.marks.Bounds.{Bounds}
-use Rattle.removal.specs.declared.compaction.Progress.{Progress}
+use Rattle.removal.specs.declared.compaction.CompactionState.{CompactionState}
 use Rattle.removal.specs.declared.compaction.Step.{Step}
 use Rattle.removal.specs.Runs.{run}
 use Rattle.removal.specs.Marks.{said, noneMarked, boundsIn}
-use Rattle.removal.specs.Compaction.{progress, writing, settled, expirationStep, strikeStep, otherStep, stepOf, stepAt, wordsOf, beginning}
+use Rattle.removal.specs.Compaction.{progress, writing, settled, expirationStep, strikeStep, otherStep, stepOf, stepAt, stepWords, beginning}
 use Rattle.removal.proofs.Steps.{stepping}
 use Rattle.removal.proofs.Expirations.{markedIn, widenedBy, boundsAmong, staysBy, staysAmong, staying, leaving, AllPlaced, placed-again, unmet, placed, look-series}
 
@@ -26,14 +26,14 @@ use Rattle.removal.proofs.Expirations.{markedIn, widenedBy, boundsAmong
 
 module _ (close : ℕ) where
   -- from the progress k the words ws leave those of `left`, and n strikes more are removed
-  pub record Leaves (k : Progress) (ws left : List Word) (n : ℕ) : Type 0 where
+  pub record Leaves (k : CompactionState) (ws left : List Word) (n : ℕ) : Type 0 where
     pub words : run (stepping close) k (map packed ws) .words ≡ map packed left
     pub count : run (stepping close) k (map packed ws) .state .removed ≡ k .removed + n
 
   leaves-step :
-      (k : Progress) (x : Word) (ws left left′ : List Word) (n n′ : ℕ) (o : Step) → said (packed x) ≡ x
+      (k : CompactionState) (x : Word) (ws left left′ : List Word) (n n′ : ℕ) (o : Step) → said (packed x) ≡ x
       → stepOf close k x (packed x) (map packed ws) ≡ o → Leaves (o .progress) ws left n
-      → wordsOf o ++ map packed left ≡ map packed left′ → o .progress .removed + n ≡ k .removed + n′
+      → stepWords o ++ map packed left ≡ map packed left′ → o .progress .removed + n ≡ k .removed + n′
       → Leaves k (x ∷ ws) left′ n′
   unfolding stepAt
   leaves-step k x ws left left′ n n′ o s e L ew en =
@@ -41,17 +41,17 @@ module _ (close : ℕ) where
       ap (λ (y : Word). stepOf close k y (packed x) (map packed ws)) s ∙ e in
       record {
         words =
-            (λ i. wordsOf (q i) ++ run (stepping close) (q i .progress) (map packed ws) .words)
-            ∙ ap (λ (l : List ℕ). wordsOf o ++ l) (L .words)
+            (λ i. stepWords (q i) ++ run (stepping close) (q i .progress) (map packed ws) .words)
+            ∙ ap (λ (l : List ℕ). stepWords o ++ l) (L .words)
             ∙ ew;
         count = (λ i. run (stepping close) (q i .progress) (map packed ws) .state .removed) ∙ L .count ∙ en;
       }
 
   leaves-expiration :
-      (k : Progress) (month : ℕ) (ws left : List Word) (n : ℕ) → said (packed (Expiration month)) ≡ Expiration month
+      (k : CompactionState) (month : ℕ) (ws left : List Word) (n : ℕ) → said (packed (Expiration month)) ≡ Expiration month
       → Leaves (expirationStep k (packed (Expiration month)) (map packed ws) .progress) ws left n
       → Leaves k (Expiration month ∷ ws) left n
-  unfolding wordsOf
+  unfolding stepWords
   leaves-expiration k month ws left n s L =
       leaves-step k (Expiration month) ws left left n n
       (expirationStep k (packed (Expiration month)) (map packed ws)) s refl L refl refl
@@ -68,7 +68,7 @@ module _ (close : ℕ) where
         (stood : Bool) → staysBy close b s ≡ true → Leaves (progress 0 b r) ws left n
         → Leaves (progress (waitingOf stood (s .month)) b r) (strikeWord s ∷ ws)
         (expirationUnless stood (s .month) (strikeWord s ∷ left)) n
-    unfolding wordsOf
+    unfolding stepWords
     leaves-staying true e L =
         let w = packed (strikeWord s) in
         let k = progress 0 b r in
@@ -88,7 +88,7 @@ module _ (close : ℕ) where
     leaves-leaving :
         (waiting : ℕ) → staysBy close b s ≡ false → Leaves (progress waiting b (r + 1)) ws left n
         → Leaves (progress waiting b r) (strikeWord s ∷ ws) left (suc n)
-    unfolding wordsOf
+    unfolding stepWords
     leaves-leaving waiting e L =
         let w = packed (strikeWord s) in
         let k = progress waiting b r in
@@ -100,7 +100,7 @@ module _ (close : ℕ) where
 
   module _ (all : List Series) where
     -- in the expiration `month`, where q tells the month written last
-    abbrev at : ℕ → ℕ → ℕ → Progress
+    abbrev at : ℕ → ℕ → ℕ → CompactionState
     at q month r = progress (waitingOf (eqb q (suc month)) month) (boundsAmong all month) r
 
     leaves-strike :
@@ -125,7 +125,7 @@ module _ (close : ℕ) where
         (next q (r + 1) l)
 
     leaves-series :
-        (p q : ℕ) (k : Progress) (ss : List Series) → AllPlaced p ss → q ≤ p
+        (p q : ℕ) (k : CompactionState) (ss : List Series) → AllPlaced p ss → q ≤ p
         → ((month : ℕ) → p ≡ suc month → k ≡ at q month (k .removed))
         → ((month : ℕ) → p ≤ month → markedIn month all ≡ markedIn month ss)
         → Leaves k (seriesWords p ss []) (seriesWords q (only (staysAmong close all) ss) [])
@@ -152,7 +152,7 @@ module _ (close : ℕ) where
             → Leaves (at q (s .month) (k .removed)) (strikeWord s ∷ seriesWords (suc (s .month)) ss []) left′ n′
             → Leaves k (expirationUnless stood (s .month) (strikeWord s ∷ seriesWords (suc (s .month)) ss [])) left′ n′
         enter true e left′ n′ L =
-            subst (λ (k′ : Progress). Leaves k′ (strikeWord s ∷ seriesWords (suc (s .month)) ss []) left′ n′)
+            subst (λ (k′ : CompactionState). Leaves k′ (strikeWord s ∷ seriesWords (suc (s .month)) ss []) left′ n′)
             (sym (known (s .month) (eqb-true p (suc (s .month)) e))) L
         enter false e left′ n′ L =
             let month = s .month in
@@ -165,7 +165,7 @@ module _ (close : ℕ) where
             ∙ look-series month noneMarked (s ∷ ss) (placed-again (a .0), a .1)
             ∙ sym (ap (widenedBy noneMarked) (same month new)) in
             leaves-expiration k month ws left′ n′ (a .0 .expiration)
-            (subst (λ (k′ : Progress). Leaves k′ ws left′ n′)
+            (subst (λ (k′ : CompactionState). Leaves k′ ws left′ n′)
             (λ i. progress (waitingOf (unwritten i) month) (sym looked i) (k .removed)) L)
 
   -- the series of one class

@@ -8,7 +8,7 @@ use native.Mathlib.Omega.{arith}
 use lib.ListN.{length, getD, set, take, drop, replicate, length-append, drop-of-length-le}
 use lib.Seq.{sets, sets-eq, length-sets, drop-set-lt, drop-cons, drop-drop, take-at, length-take-le}
 use borrow.Rule.Slice.PartMut.{putMid}
-use Rattle.removal.specs.Runs.{Ran, following, run, padded}
+use Rattle.removal.specs.Runs.{Pass, following, run, padded}
 use Rattle.removal.proofs.Parts.{tail-zeroed}
 
 -- stores below n leave what lies from n on
@@ -20,7 +20,7 @@ drop-sets (v ∷ vs) l i n h =
     drop-sets vs (set l i v) (suc i) n (omega arith) ∙ drop-set-lt n l i v (omega arith)
 
 -- a step may write a word more than it reads where an earlier one left room: `owed` is the room left
-module _ {S : Type 0} (step : S → ℕ → List ℕ → Ran S) (owed : S → ℕ) where
+module _ {S : Type 0} (step : S → ℕ → List ℕ → Pass S) (owed : S → ℕ) where
   -- the words xs, passed from the state z on, are now b: r are read, w written, and the state is s
   pub record Moving (z : S) (xs b : List ℕ) (s : S) (r w : ℕ) : Type 0 where
     pub within : r ≤ length xs
@@ -34,7 +34,7 @@ module _ {S : Type 0} (step : S → ℕ → List ℕ → Ran S) (owed : S → �
 
   -- a turn: the words of the step are stored at w
   pub move-more :
-      {z : S} {xs b b′ : List ℕ} {s : S} {r w w′ : ℕ} {o : Ran S} → Moving z xs b s r w → r < length b
+      {z : S} {xs b b′ : List ℕ} {s : S} {r w w′ : ℕ} {o : Pass S} → Moving z xs b s r w → r < length b
       → o ≡ step s (getD b r 0) (drop (r + 1) b) → length (o .words) + owed (o .state) ≤ owed s + 1
       → b′ ≡ sets b w (o .words) → w′ ≡ w + length (o .words) → Moving z xs b′ (o .state) (r + 1) w′
   move-more {z} {xs} {b} {b′} {s} {r} {w} {w′} {o} M h eo room eb ew =
@@ -48,7 +48,7 @@ module _ {S : Type 0} (step : S → ℕ → List ℕ → Ran S) (owed : S → �
       rw (eb, sets-eq e b w fit)
       (take-at (take w b ++ e) (drop (w + length e) b) w′
       (simp (length-append, length-take-le w b (omega arith)) (sym ew))) in
-      let rest : Ran S = run step (o .state) (drop (r + 1) xs) in
+      let rest : Pass S = run step (o .state) (drop (r + 1) xs) in
       let turned : following e rest ≡ run step s (drop r xs) =
       (λ i. following (eo i .words) (run step (eo i .state) (sym after i))) ∙ ap (run step s) (sym here) in
       record {
@@ -77,7 +77,7 @@ module _ {S : Type 0} (step : S → ℕ → List ℕ → Ran S) (owed : S → �
         let i = M .within in
         let m = M .behind in
         let l = M .long in
-        sym (length-take-le w b (omega arith)) ∙ ap (λ (t : Ran S). length (t .words)) move-done
+        sym (length-take-le w b (omega arith)) ∙ ap (λ (t : Pass S). length (t .words)) move-done
 
     -- the rest is zeroed
     pub move-zeroed :
@@ -87,4 +87,4 @@ module _ {S : Type 0} (step : S → ℕ → List ℕ → Ran S) (owed : S → �
         let i = M .within in
         let m = M .behind in
         let l = M .long in
-        tail-zeroed w b ys (omega arith) e ∙ rw (l, ap (λ (t : Ran S). t .words) move-done, move-count)
+        tail-zeroed w b ys (omega arith) e ∙ rw (l, ap (λ (t : Pass S). t .words) move-done, move-count)

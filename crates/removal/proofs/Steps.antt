@@ -9,29 +9,29 @@ use lib.ListN.{length, getD, take, drop, replicate}
 use lib.Seq.{sets, length-take-le}
 use borrow.Rule.Slice.PartMut.{putMid}
 use Rattle.word.specs.Codec.{kindOf}
-use Rattle.removal.specs.declared.compaction.Progress.{Progress}
+use Rattle.removal.specs.declared.compaction.CompactionState.{CompactionState}
 use Rattle.removal.specs.declared.compaction.Step.{Step}
-use Rattle.removal.specs.Runs.{Ran}
+use Rattle.removal.specs.Runs.{Pass}
 use Rattle.removal.specs.Marks.{said}
-use Rattle.removal.specs.Compaction.{stays, expirationStep, strikeStep, reviewedStep, otherStep, stepAt, wordsOf, ran, beginning, compacted, Compacted}
+use Rattle.removal.specs.Compaction.{stays, expirationStep, strikeStep, reviewedStep, otherStep, stepAt, stepWords, ran, beginning, compacted, Compacted}
 use Rattle.removal.proofs.Said.{choose, by-other, by-each}
 use Rattle.removal.proofs.Moving.{Moving, move-start, move-more, move-done, move-count, move-zeroed}
 
 -- an expiration that waits has left room for its word
-pub owed : Progress → ℕ
+pub owed : CompactionState → ℕ
 owed k = cond {A = ℕ} (eqb (k .waiting) 0) 0 1
 
-at-most-one : (k : Progress) → owed k ≤ 1
+at-most-one : (k : CompactionState) → owed k ≤ 1
 unfolding owed
 at-most-one k = choose (λ n. n ≤ 1) (eqb (k .waiting) 0) 0 1 (λ e. omega arith) (λ e. omega arith)
 
 -- what the loop needs of a step: two words at most, each in room that is left, and one strike removed at most
-pub record Sound (k : Progress) (o : Step) : Type 0 where
+pub record Sound (k : CompactionState) (o : Step) : Type 0 where
   pub two : o .count ≤ 2
   pub room : o .count + owed (o .progress) ≤ owed k + 1
   pub one : o .progress .removed ≤ k .removed + 1
 
-sound-strike : (stay : Bool) (k : Progress) (w : ℕ) → Sound k (strikeStep stay k w)
+sound-strike : (stay : Bool) (k : CompactionState) (w : ℕ) → Sound k (strikeStep stay k w)
 unfolding owed
 sound-strike stay k w =
     choose (Sound k) stay _ _
@@ -40,7 +40,7 @@ sound-strike stay k w =
     (λ e. let q : owed k ≡ 1 = rw e in record { two = omega arith; room = omega arith; one = omega arith }))
     (λ e. record { two = omega arith; room = omega arith; one = omega arith })
 
-sound-step : (close : ℕ) (k : Progress) (w : ℕ) (ws : List ℕ) → Sound k (stepAt close k w ws)
+sound-step : (close : ℕ) (k : CompactionState) (w : ℕ) (ws : List ℕ) → Sound k (stepAt close k w ws)
 unfolding stepAt owed
 sound-step close k w ws =
     by-each (expirationStep k w ws) (reviewedStep close k w) (otherStep k w) (Sound k)
@@ -51,21 +51,21 @@ sound-step close k w ws =
     (said w)
 
 pub step-other :
-    (close : ℕ) (k : Progress) (w : ℕ) (ws : List ℕ) → (kindOf w ≡ 6 → ⊥) → (kindOf w ≡ 5 → ⊥)
+    (close : ℕ) (k : CompactionState) (w : ℕ) (ws : List ℕ) → (kindOf w ≡ 6 → ⊥) → (kindOf w ≡ 5 → ⊥)
     → stepAt close k w ws ≡ otherStep k w
 unfolding stepAt
 step-other close k w ws n m =
     by-other (expirationStep k w ws) (reviewedStep close k w) (otherStep k w) w n (λ e. absurd (m e))
 
-words-length : (o : Step) → o .count ≤ 2 → length (wordsOf o) ≡ o .count
-unfolding wordsOf
+words-length : (o : Step) → o .count ≤ 2 → length (stepWords o) ≡ o .count
+unfolding stepWords
 words-length o h = length-take-le (o .count) (o .first ∷ o .second ∷ []) h
 
-abbrev pub stepping : ℕ → Progress → ℕ → List ℕ → Ran Progress
+abbrev pub stepping : ℕ → CompactionState → ℕ → List ℕ → Pass CompactionState
 stepping close k w ws = ran (stepAt close k w ws)
 
 -- the loop's invariant: no more strikes are removed than words read
-pub record Compacting (close : ℕ) (xs b : List ℕ) (k : Progress) (r w : ℕ) : Type 0 where
+pub record Compacting (close : ℕ) (xs b : List ℕ) (k : CompactionState) (r w : ℕ) : Type 0 where
   pub moving : Moving (stepping close) owed beginning xs b k r w
   pub few : k .removed ≤ r
 
@@ -73,7 +73,7 @@ pub compact-start : (close : ℕ) (xs : List ℕ) → Compacting close xs xs beg
 unfolding owed
 compact-start close xs = record { moving = move-start (stepping close) owed refl; few = omega arith }
 
-module _ (close : ℕ) {xs b : List ℕ} {k : Progress} {r w : ℕ} (C : Compacting close xs b k r w) where
+module _ (close : ℕ) {xs b : List ℕ} {k : CompactionState} {r w : ℕ} (C : Compacting close xs b k r w) where
   -- the words of a step fit
   pub step-fits :
       {o : Step} (x : ℕ) (ws : List ℕ) → r < length b → o ≡ stepAt close k x ws
@@ -85,10 +85,10 @@ module _ (close : ℕ) {xs b : List ℕ} {k : Progress} {r w : ℕ} (C : Compact
 
   pub compact-more :
       {b′ : List ℕ} {w′ : ℕ} {o : Step} → r < length b → o ≡ stepAt close k (getD b r 0) (drop (r + 1) b)
-      → w′ ≡ w + o .count → b′ ≡ sets b w (wordsOf o) → Compacting close xs b′ (o .progress) (r + 1) w′
+      → w′ ≡ w + o .count → b′ ≡ sets b w (stepWords o) → Compacting close xs b′ (o .progress) (r + 1) w′
   compact-more {b′} {w′} {o} h e ew eb =
       let s : Sound k o = rw e (sound-step close k (getD b r 0) (drop (r + 1) b)) in
-      let n : length (wordsOf o) ≡ o .count = words-length o (s .two) in
+      let n : length (stepWords o) ≡ o .count = words-length o (s .two) in
       record {
         moving = move-more (stepping close) owed (C .moving) h (ap ran e) (rw n (s .room)) eb (rw n ew);
         few = omega arith;
@@ -102,7 +102,7 @@ module _ (close : ℕ) {xs b : List ℕ} {k : Progress} {r w : ℕ} (C : Compact
       let M = C .moving in
       record {
         count = move-count (stepping close) owed M h;
-        removed = ap (λ (t : Ran Progress). t .state .removed) (move-done (stepping close) owed M h);
+        removed = ap (λ (t : Pass CompactionState). t .state .removed) (move-done (stepping close) owed M h);
         words = move-zeroed (stepping close) owed M h ys e;
         fewer = omega arith;
       }

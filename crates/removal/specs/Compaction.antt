@@ -9,9 +9,9 @@ use Rattle.word.specs.Codec.{Word, Head, packed}
 use Rattle.rule.specs.Terms.{cents}
 use Rattle.rule.specs.Spacing.{apart}
 use Rattle.removal.specs.declared.marks.Bounds.{Bounds}
-use Rattle.removal.specs.declared.compaction.Progress.{Progress}
+use Rattle.removal.specs.declared.compaction.CompactionState.{CompactionState}
 use Rattle.removal.specs.declared.compaction.Step.{Step}
-use Rattle.removal.specs.Runs.{Ran, run, padded}
+use Rattle.removal.specs.Runs.{Pass, run, padded}
 use Rattle.removal.specs.Marks.{said, byKind, noneMarked, marks, boundsIn}
 
 -- whether a strike stays in the review at a close, by the bounds of the marked strikes of its expiration
@@ -23,53 +23,53 @@ stays close b h ground put call =
 
 -- ---- one word
 
-abbrev pub progress : ℕ → Bounds → ℕ → Progress
+abbrev pub progress : ℕ → Bounds → ℕ → CompactionState
 progress waiting b removed = record { waiting = waiting; bounds = b; removed = removed }
 
-abbrev pub writing : Progress → ℕ → ℕ → ℕ → Step
+abbrev pub writing : CompactionState → ℕ → ℕ → ℕ → Step
 writing k count first second = record { progress = k; count = count; first = first; second = second }
 
-abbrev pub settled : Progress → Progress
+abbrev pub settled : CompactionState → CompactionState
 settled k = progress 0 (k .bounds) (k .removed)
 
 -- an expiration word waits, and its marked strikes are looked up
-abbrev pub expirationStep : Progress → ℕ → List ℕ → Step
+abbrev pub expirationStep : CompactionState → ℕ → List ℕ → Step
 expirationStep k w ws = writing (progress w (boundsIn noneMarked ws) (k .removed)) 0 0 0
 
 -- a strike that stays is written after its expiration, if that waits
-abbrev pub strikeStep : Bool → Progress → ℕ → Step
+abbrev pub strikeStep : Bool → CompactionState → ℕ → Step
 strikeStep stay k w =
     cond stay
     (cond (eqb (k .waiting) 0) (writing (settled k) 1 w 0) (writing (settled k) 2 (k .waiting) w))
     (writing (progress (k .waiting) (k .bounds) (k .removed + 1)) 0 0 0)
 
-abbrev pub reviewedStep : ℕ → Progress → ℕ → (h ground put call : ℕ) → Step
+abbrev pub reviewedStep : ℕ → CompactionState → ℕ → (h ground put call : ℕ) → Step
 reviewedStep close k w h ground put call = strikeStep (stays close (k .bounds) h ground put call) k w
 
 -- another word is kept
-abbrev pub otherStep : Progress → ℕ → Step
+abbrev pub otherStep : CompactionState → ℕ → Step
 otherStep k w = writing (settled k) 1 w 0
 
 -- the word w, which says x, before the words ws
-abbrev pub stepOf : ℕ → Progress → Word → ℕ → List ℕ → Step
+abbrev pub stepOf : ℕ → CompactionState → Word → ℕ → List ℕ → Step
 stepOf close k x w ws = byKind (expirationStep k w ws) (reviewedStep close k w) (otherStep k w) x
 
-unfoldable pub stepAt : ℕ → Progress → ℕ → List ℕ → Step
+unfoldable pub stepAt : ℕ → CompactionState → ℕ → List ℕ → Step
 stepAt close k w ws = stepOf close k (said w) w ws
 
-unfoldable pub wordsOf : Step → List ℕ
-wordsOf o = take (o .count) (o .first ∷ o .second ∷ [])
+unfoldable pub stepWords : Step → List ℕ
+stepWords o = take (o .count) (o .first ∷ o .second ∷ [])
 
 -- ---- all words
 
-abbrev pub ran : Step → Ran Progress
-ran o = record { words = wordsOf o; state = o .progress }
+abbrev pub ran : Step → Pass CompactionState
+ran o = record { words = stepWords o; state = o .progress }
 
-abbrev pub beginning : Progress
+abbrev pub beginning : CompactionState
 beginning = progress 0 noneMarked 0
 
 -- the words that stay, and the progress at the end
-unfoldable pub compacted : ℕ → List ℕ → Ran Progress
+unfoldable pub compacted : ℕ → List ℕ → Pass CompactionState
 compacted close ws = run (λ k w rest. ran (stepAt close k w rest)) beginning ws
 
 -- the words xs became ys, of which n stay, and r strikes are removed

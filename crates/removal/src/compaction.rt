@@ -5,7 +5,7 @@ ghost use lib.ListN.{length, getD, drop};
 ghost use lib.Seq.{sets};
 ghost use Rattle.word.specs.Field.{field};
 ghost use Rattle.removal.specs.Marks.{noneMarked, boundsIn};
-ghost use Rattle.removal.specs.Compaction.{stays, settled, strikeStep, stepAt, wordsOf, Compacted};
+ghost use Rattle.removal.specs.Compaction.{stays, settled, strikeStep, stepAt, stepWords, Compacted};
 use crate::marks::Bounds;
 use crate::marks::bounds_in;
 use crate::marks::is_marked;
@@ -18,7 +18,7 @@ use word::zeros::zero_all;
 
 // How far a compaction is: the expiration word that waits for a strike that stays (0: none), the marked strikes of its
 // expiration, and the strikes removed.
-pub struct Progress {
+pub struct CompactionState {
     pub waiting: u32,
     pub bounds: Bounds,
     pub removed: usize,
@@ -26,7 +26,7 @@ pub struct Progress {
 
 // The progress after a word, and the words to be written: the first `count` of two.
 pub struct Step {
-    pub progress: Progress,
+    pub progress: CompactionState,
     pub count: usize,
     pub first: u32,
     pub second: u32,
@@ -50,11 +50,11 @@ fn does_stay(close: u32, b: Bounds, w: u32) -> bool
 }
 
 // No expiration word waits.
-fn settle(k: Progress) -> Progress
+fn settle(k: CompactionState) -> CompactionState
     ensures { λ r. ⌜ r ≡ settled k ⌝ }
 {
     let b = k.bounds;
-    Progress {
+    CompactionState {
         waiting: 0,
         bounds: b,
         removed: k.removed,
@@ -62,7 +62,7 @@ fn settle(k: Progress) -> Progress
 }
 
 // A strike word that stays, or is removed.
-fn strike_step(stays: bool, k: Progress, w: u32) -> Step
+fn strike_step(stays: bool, k: CompactionState, w: u32) -> Step
     requires { ⌜ k .removed < 65535 ⌝ }
     ensures { λ r. ⌜ r ≡ strikeStep stays k w ⌝ }
 {
@@ -84,7 +84,7 @@ fn strike_step(stays: bool, k: Progress, w: u32) -> Step
         };
     }
     let b = k.bounds;
-    let next = Progress {
+    let next = CompactionState {
         waiting: k.waiting,
         bounds: b,
         removed: k.removed + 1,
@@ -107,7 +107,7 @@ fn bounds_after(words: &[u32], at: usize) -> Bounds
 }
 
 // The step at the word `at`.
-fn step_at(words: &[u32], at: usize, close: u32, k: Progress) -> Step
+fn step_at(words: &[u32], at: usize, close: u32, k: CompactionState) -> Step
     requires { ⌜ (at < length (now words)) × (k .removed < 65535) ⌝ }
     ensures { λ r. ⌜ r ≡ stepAt close k (getD (now (words .entry)) at 0) (drop (at + 1) (now (words .entry))) ⌝ }
 {
@@ -119,7 +119,7 @@ fn step_at(words: &[u32], at: usize, close: u32, k: Progress) -> Step
     }
     if of == 5 {
         let found = bounds_after(words, at);
-        let next = Progress {
+        let next = CompactionState {
             waiting: w,
             bounds: found,
             removed: k.removed,
@@ -142,7 +142,7 @@ fn step_at(words: &[u32], at: usize, close: u32, k: Progress) -> Step
 // Writes the words of a step from `at` on, and returns the index after them.
 fn write(words: &mut [u32], at: usize, o: Step) -> usize
     requires { ⌜ (o .count ≤ 2) × (at + o .count ≤ length (now words)) ⌝ }
-    ensures { λ r. ⌜ (r ≡ at + o .count) × (now (words .exit) ≡ sets (now (words .entry)) at (wordsOf o)) ⌝ }
+    ensures { λ r. ⌜ (r ≡ at + o .count) × (now (words .exit) ≡ sets (now (words .entry)) at (stepWords o)) ⌝ }
 {
     if o.count == 0 {
         return at;
@@ -161,7 +161,7 @@ pub fn compact(part: &mut [u32], close: u32) -> Kept
     requires { ⌜ length (now part) ≤ 65535 ⌝ }
     ensures { λ r. ⌜ Compacted close (now (part .entry)) (now (part .exit)) (r .words) (r .removed) ⌝ }
 {
-    let mut k = Progress {
+    let mut k = CompactionState {
         waiting: 0,
         bounds: none_marked(),
         removed: 0,

@@ -16,7 +16,7 @@ use Rattle.book.specs.Facts.{OpenClass}
 use Rattle.book.specs.Books.{isClass}
 use Rattle.logic.proofs.Tests.{and-intro, ands, true-T, or-none}
 use Rattle.scan.specs.Tests.{designationIn, isClassAbove, isCloseWord, isVolumeWord}
-use Rattle.scan.specs.Stretches.{isFrom, SeriesThen, ClassesWhere, Classes, SeriesEnd}
+use Rattle.scan.specs.Stretches.{mayFollow, SeriesThen, ClassesWhere, Classes, SeriesEnd}
 use Rattle.scan.proofs.Places.{three-at}
 use Rattle.scan.proofs.Figures.{FiguresThen, figures, classes-length}
 
@@ -31,7 +31,7 @@ pub record Walked (now : ℕ) (ws : List ℕ) (i last dollars halves : ℕ) : Ty
 pub record Counted (now : ℕ) (ws : List ℕ) (i last dollars halves : ℕ) : Type 0 where
   pub same :
       Classes now 0 0 0 (drop 1 ws)
-      ↔ ClassesWhere now last dollars halves (λ xs. SeriesThen now 0 (isFrom 0) xs (drop (i + 3) ws))
+      ↔ ClassesWhere now last dollars halves (λ xs. SeriesThen now 0 (mayFollow 0) xs (drop (i + 3) ws))
 
 -- the three words at i are those of a class's figures
 abbrev areFiguresAt : List ℕ → ℕ → ℕ → Bool
@@ -129,7 +129,7 @@ module _ {now : ℕ} {ws : List ℕ} {i last dollars halves : ℕ} (v : Counted 
       go false d t = omega (arith, ltb-true, v .same .0 r .halfCapped)
 
   pub counted-breaks :
-      ((xs : List OpenClass) → T (every (isClass now) xs) → SeriesThen now 0 (isFrom 0) xs (drop (i + 3) ws) → ⊥)
+      ((xs : List OpenClass) → T (every (isClass now) xs) → SeriesThen now 0 (mayFollow 0) xs (drop (i + 3) ws) → ⊥)
       → Classes now 0 0 0 (drop 1 ws) → ⊥
   counted-breaks breaks r = let c = v .same .0 r in breaks (c .classes) (c .legal) (c .holds)
 

@@ -17,7 +17,7 @@ use Rattle.book.specs.Facts.{OpenClass}
 use Rattle.book.specs.Books.{isClass}
 use Rattle.logic.proofs.Tests.{ands, true-T}
 use Rattle.scan.specs.Tests.{nextLength}
-use Rattle.scan.specs.Stretches.{isFrom, SeriesThen, SeriesEnd, Stretched}
+use Rattle.scan.specs.Stretches.{mayFollow, SeriesThen, SeriesEnd, Stretched}
 use Rattle.scan.specs.declared.Stretch.the-variants.{Breaks}
 use Rattle.scan.proofs.Words.{isExpirationFrom, isBetween, between-from}
 use Rattle.scan.proofs.NextStrikes.{lastNext, areStrikes, HasStrikes}
@@ -32,7 +32,7 @@ pub record Expirations (now : ℕ) (ws : List ℕ) (from least i : ℕ) : Type 0
   pub within : i ≤ length ws
   pub same :
       (xs : List OpenClass) → T (every (isClass now) xs)
-      → SeriesThen now 0 (isFrom 0) xs (drop from ws) ↔ SeriesThen now next (isFrom next) xs (drop i ws)
+      → SeriesThen now 0 (mayFollow 0) xs (drop from ws) ↔ SeriesThen now next (mayFollow next) xs (drop i ws)
 
 pub expirations-start :
     (now : ℕ) (ws : List ℕ) (from : ℕ) → from ≤ length ws → Expirations now ws from (packed (Expiration now)) from
@@ -79,10 +79,10 @@ module _ {now : ℕ} {ws : List ℕ} {from least i : ℕ} (v : Expirations now w
     module _ (kind : kindOf (getD ws i 0) ≡ 5) where
       step :
           (xs : List OpenClass) → T (every (isClass now) xs)
-          → SeriesThen now 0 (isFrom 0) xs (drop from ws)
+          → SeriesThen now 0 (mayFollow 0) xs (drop from ws)
           ↔ (T (isBetween now (v .next) (getD ws i 0))
           × HasStrikes (getD ws i 0) (drop (suc i) ws)
-          × SeriesThen now (suc (field (getD ws i 0) 0 28)) (isFrom (suc (field (getD ws i 0) 0 28))) xs
+          × SeriesThen now (suc (field (getD ws i 0) 0 28)) (mayFollow (suc (field (getD ws i 0) 0 28))) xs
           (drop (suc i + nextLength (getD ws i 0) (drop (suc i) ws)) ws))
       step xs legal =
           Iff·trans (v .same xs legal)

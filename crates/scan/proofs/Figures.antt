@@ -21,7 +21,7 @@ use Rattle.word.proofs.Words.{class-fields}
 use Rattle.book.proofs.LegalWords.{fits}
 use Rattle.logic.proofs.Tests.{and-intro, ands}
 use Rattle.scan.specs.Tests.{designationIn, isClassAbove, isCloseWord, isVolumeWord}
-use Rattle.scan.specs.Stretches.{leads, isFrom, SeriesThen, ClassesWhere, Classes}
+use Rattle.scan.specs.Stretches.{leads, mayFollow, SeriesThen, ClassesWhere, Classes}
 use Rattle.scan.proofs.Words.{figuresIn, classIn, class-packed, class-test, close-packed, close-test, volume-packed, volume-test}
 use Rattle.scan.proofs.Series.{rises-first}
 
@@ -33,13 +33,13 @@ pub record FiguresThen (now last dollars halves w c v : ℕ) (ws : List ℕ) : T
   pub rest :
       ClassesWhere now (field w 0 14) (dollars + own (designationIn dollarProgram w))
       (halves + own (designationIn halfProgram w))
-      (λ xs. SeriesThen now 0 (isFrom 0) xs ws)
+      (λ xs. SeriesThen now 0 (mayFollow 0) xs ws)
 
 abbrev byNumber : OpenClass → OpenClass → Bool
 byNumber x y = ltb (number x) (number y)
 
 -- any series may come first
-any-first : (ss : List Series) → T (leads (isFrom 0) ss)
+any-first : (ss : List Series) → T (leads (mayFollow 0) ss)
 any-first [] = tt
 any-first (s ∷ ss) = le→leb 0 (s .month) zero-le
 

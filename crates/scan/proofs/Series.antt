@@ -18,7 +18,7 @@ use Rattle.word.proofs.Words.{kind-packed}
 use Rattle.logic.proofs.Tests.{or-left, or-right, and-intro, ands, T-true, true-T, equal-test, or-else}
 use Rattle.book.proofs.LegalWords.{fits, strike-legal, month-legal, figures-legal}
 use Rattle.scan.specs.Tests.{isNextStrike, nextLength}
-use Rattle.scan.specs.Stretches.{leads, isFrom, SeriesThen}
+use Rattle.scan.specs.Stretches.{leads, mayFollow, SeriesThen}
 use Rattle.scan.proofs.Words.{isStrikeAbove, strikeIn, strike-packed, strike-test, isExpirationFrom, expiration-packed, expiration-field}
 use Rattle.scan.proofs.NextStrikes.{IsStrike, lastNext, areStrikes, HasStrikes, next-strike, next-rises, next-above, above-next, above-none, next-rising, strike-order}
 
@@ -41,14 +41,14 @@ after-same m h s t e =
     or-else later (eqb m (s .month) && ltb h (s .strike)) t (λ l. omega (arith, ltb→lt m (s .month) l)) in
     ltb→lt h (s .strike) (search ands)
 
-after-other : (m h : ℕ) (s : Series) → T (isAfter m h s) → (suc m ≡ suc (s .month) → ⊥) → T (isFrom (suc m) s)
+after-other : (m h : ℕ) (s : Series) → T (isAfter m h s) → (suc m ≡ suc (s .month) → ⊥) → T (mayFollow (suc m) s)
 after-other m h s t other = go (ltb m (s .month)) t
   where
     go : (later : Bool) → T (later || (eqb m (s .month) && ltb h (s .strike))) → T later
     go true t = tt
     go false t = absurd (other (ap suc (eqb→eq m (s .month) (search ands))))
 
-from-after : (m h : ℕ) (s : Series) → T (isFrom (suc m) s) → T (isAfter m h s)
+from-after : (m h : ℕ) (s : Series) → T (mayFollow (suc m) s) → T (isAfter m h s)
 from-after m h s t = or-left (ltb m (s .month)) (eqb m (s .month) && ltb h (s .strike)) t
 
 above-after : (h : ℕ) (s : Series) → h < s .strike → T (isAfter (s .month) h s)
@@ -200,23 +200,23 @@ module _ (now : ℕ) (xs : List OpenClass) (classesLegal : T (every (isClass now
     -- where no strike above the last one stands, only another expiration or a class may follow
     strike-none :
         (h w : ℕ) (ws : List ℕ) → isStrikeAbove h w ≡ false
-        → Words (suc m) (isAfter m h) (w ∷ ws) ↔ Words (suc m) (isFrom (suc m)) (w ∷ ws)
+        → Words (suc m) (isAfter m h) (w ∷ ws) ↔ Words (suc m) (mayFollow (suc m)) (w ∷ ws)
     strike-none h w ws t = (λ r. from (first r), to)
       where
-        from : First (suc m) (isAfter m h) w ws → Words (suc m) (isFrom (suc m)) (w ∷ ws)
+        from : First (suc m) (isAfter m h) w ws → Words (suc m) (mayFollow (suc m)) (w ∷ ws)
         from (class k e) = no-series e
         from (strike s e ew legal leading r) =
             let month : m ≡ s .month = omega arith in
             absurd (rw t at (strike-test h w s (strike-legal now s legal) ew (after-same m h s leading month) .0))
         from (expiration s vs other ew es legal leading r) =
             let later = after-other m h s leading other in
-            rw (ew, es) at (add-expiration {test = isFrom (suc m)} (suc m) s other legal later r)
+            rw (ew, es) at (add-expiration {test = mayFollow (suc m)} (suc m) s other legal later r)
 
-        leading : (ss : List Series) → T (leads (isFrom (suc m)) ss) → T (leads (isAfter m h) ss)
+        leading : (ss : List Series) → T (leads (mayFollow (suc m)) ss) → T (leads (isAfter m h) ss)
         leading [] t = tt
         leading (s ∷ ss) t = from-after m h s t
 
-        to : Words (suc m) (isFrom (suc m)) (w ∷ ws) → Words (suc m) (isAfter m h) (w ∷ ws)
+        to : Words (suc m) (mayFollow (suc m)) (w ∷ ws) → Words (suc m) (isAfter m h) (w ∷ ws)
         to r =
             record {
               series = r .series;
@@ -230,7 +230,7 @@ module _ (now : ℕ) (xs : List OpenClass) (classesLegal : T (every (isClass now
     strikes :
         (before : ℕ) (ws : List ℕ) → IsStrike before → field before 0 15 ≤ 19999
         → Words (suc m) (isAfter m (field before 0 15)) ws
-        ↔ ((field (lastNext before ws) 0 15 ≤ 19999) × Words (suc m) (isFrom (suc m)) (drop (nextLength before ws) ws))
+        ↔ ((field (lastNext before ws) 0 15 ≤ 19999) × Words (suc m) (mayFollow (suc m)) (drop (nextLength before ws) ws))
     strikes before [] prior low = (λ r. (low, no-series (series-end r)), λ r. no-series (series-end (r .1)))
     strikes before (w ∷ ws) prior low = go (isNextStrike before w) refl (strikes w ws)
       where
@@ -244,10 +244,10 @@ module _ (now : ℕ) (xs : List OpenClass) (classesLegal : T (every (isClass now
             (next : Bool) → isNextStrike before w ≡ next
             → (IsStrike w → field w 0 15 ≤ 19999
             → Words (suc m) (isAfter m (field w 0 15)) ws
-            ↔ ((field (lastNext w ws) 0 15 ≤ 19999) × Words (suc m) (isFrom (suc m)) (drop n ws)))
+            ↔ ((field (lastNext w ws) 0 15 ≤ 19999) × Words (suc m) (mayFollow (suc m)) (drop n ws)))
             → Words (suc m) (isAfter m h) (w ∷ ws)
             ↔ ((field (getD (before ∷ w ∷ ws) (cond {A = ℕ} next (suc n) 0) 0) 0 15 ≤ 19999)
-            × Words (suc m) (isFrom (suc m)) (drop (cond {A = ℕ} next (suc n) 0) (w ∷ ws)))
+            × Words (suc m) (mayFollow (suc m)) (drop (cond {A = ℕ} next (suc n) 0) (w ∷ ws)))
         go true e rest =
             let t = true-T (isNextStrike before w) e in
             let top = next-strike before w t in
@@ -268,10 +268,10 @@ module _ (now : ℕ) (xs : List OpenClass) (classesLegal : T (every (isClass now
 
   -- an expiration word has a month from p on, and strikes
   expiration-from :
-      {p w : ℕ} {ws : List ℕ} → kindOf w ≡ 5 → First p (isFrom p) w ws
+      {p w : ℕ} {ws : List ℕ} → kindOf w ≡ 5 → First p (mayFollow p) w ws
       → T (isExpirationFrom now p w)
       × HasStrikes w ws
-      × Words (suc (field w 0 28)) (isFrom (suc (field w 0 28))) (drop (nextLength w ws) ws)
+      × Words (suc (field w 0 28)) (mayFollow (suc (field w 0 28))) (drop (nextLength w ws) ws)
   expiration-from kind (class k e) = absurd (omega arith)
   expiration-from {p} {w} kind (strike s e ew legal leading r) =
       absurd (omega (arith, kind-packed (strikeWord s) w (fits (strikeWord s) (strike-legal now s legal)) ew))
@@ -294,7 +294,7 @@ module _ (now : ℕ) (xs : List OpenClass) (classesLegal : T (every (isClass now
 
   expiration-to :
       {p w : ℕ} (ws : List ℕ) → kindOf w ≡ 5 → T (isExpirationFrom now p w) → HasStrikes w ws
-      → Words (suc (field w 0 28)) (isFrom (suc (field w 0 28))) (drop (nextLength w ws) ws) → Words p (isFrom p) (w ∷ ws)
+      → Words (suc (field w 0 28)) (mayFollow (suc (field w 0 28))) (drop (nextLength w ws) ws) → Words p (mayFollow p) (w ∷ ws)
   expiration-to [] kind t l r = absurd (omega arith)
   expiration-to {p} {w} (v ∷ vs) kind t l r = go (isNextStrike w v) refl l r
     where
@@ -308,8 +308,8 @@ module _ (now : ℕ) (xs : List OpenClass) (classesLegal : T (every (isClass now
           (next : Bool) → isNextStrike w v ≡ next
           → (1 ≤ cond {A = ℕ} next (suc n) 0)
           × T (areStrikes v (getD (w ∷ v ∷ vs) (cond {A = ℕ} next (suc n) 0) 0))
-          → Words (suc m) (isFrom (suc m)) (drop (cond {A = ℕ} next (suc n) 0) (v ∷ vs))
-          → Words p (isFrom p) (w ∷ v ∷ vs)
+          → Words (suc m) (mayFollow (suc m)) (drop (cond {A = ℕ} next (suc n) 0) (v ∷ vs))
+          → Words p (mayFollow p) (w ∷ v ∷ vs)
       go true e l r =
           let next = true-T (isNextStrike w v) e in
           let top = next-strike w v next in
@@ -323,23 +323,23 @@ module _ (now : ℕ) (xs : List OpenClass) (classesLegal : T (every (isClass now
           let wordLegal : T (isLegal (strikeWord s)) = word .1 in
           let legal : T (isSeries now s) = search (ands, and-intro) depth 12 in
           rw (expiration-packed w kind, word .0)
-          at (add-expiration {test = isFrom p} p s (λ q. omega arith) legal (search ands)
+          at (add-expiration {test = mayFollow p} p s (λ q. omega arith) legal (search ands)
           (strikes m (search ands) v vs top few .1 (high, r)))
       go false e l r = absurd (omega arith)
 
   -- an expiration word, and its strikes
   pub expiration-more :
       {p w : ℕ} {ws : List ℕ} → kindOf w ≡ 5
-      → SeriesThen now p (isFrom p) xs (w ∷ ws)
+      → SeriesThen now p (mayFollow p) xs (w ∷ ws)
       ↔ (T (isExpirationFrom now p w)
       × HasStrikes w ws
-      × SeriesThen now (suc (field w 0 28)) (isFrom (suc (field w 0 28))) xs (drop (nextLength w ws) ws))
+      × SeriesThen now (suc (field w 0 28)) (mayFollow (suc (field w 0 28))) xs (drop (nextLength w ws) ws))
   expiration-more {p} {w} {ws} kind =
       (λ r. expiration-from kind (first r), λ e. expiration-to ws kind (e .0) (e .1) (e .2))
 
   -- where no expiration word stands, only a class may follow
   class-next :
-      {p w : ℕ} {ws : List ℕ} → (kindOf w ≡ 5 → ⊥) → First p (isFrom p) w ws → map packed last ≡ w ∷ ws
+      {p w : ℕ} {ws : List ℕ} → (kindOf w ≡ 5 → ⊥) → First p (mayFollow p) w ws → map packed last ≡ w ∷ ws
   class-next other (class k e) = e
   class-next {p} other (strike s e ew legal leading r) = absurd (omega (arith, leb→le p (s .month) leading))
   class-next {p} {w} other (expiration s vs q ew es legal leading r) =
@@ -347,8 +347,8 @@ module _ (now : ℕ) (xs : List OpenClass) (classesLegal : T (every (isClass now
 
   pub expiration-none :
       {p w : ℕ} {ws : List ℕ} → (kindOf w ≡ 5 → ⊥)
-      → SeriesThen now p (isFrom p) xs (w ∷ ws) ↔ (map packed (classesWords xs []) ≡ w ∷ ws)
+      → SeriesThen now p (mayFollow p) xs (w ∷ ws) ↔ (map packed (classesWords xs []) ≡ w ∷ ws)
   expiration-none other = (λ r. class-next other (first r), no-series)
 
-  pub expiration-end : {p : ℕ} → SeriesThen now p (isFrom p) xs [] ↔ (map packed (classesWords xs []) ≡ [])
+  pub expiration-end : {p : ℕ} → SeriesThen now p (mayFollow p) xs [] ↔ (map packed (classesWords xs []) ≡ [])
   expiration-end = (series-end, no-series)

@@ -24,8 +24,8 @@ module _ {A : Type 0} (test : A → Bool) where
   leads (x ∷ xs) = test x
 
 -- the series may follow the expiration p, 0 for none, else its month + 1, in another one
-abbrev pub isFrom : ℕ → Series → Bool
-isFrom p s = leb p (s .month)
+abbrev pub mayFollow : ℕ → Series → Bool
+mayFollow p s = leb p (s .month)
 
 -- ws are the words of series in a book of the month `now`, where the expiration p stands already and the first passes
 -- the test, then those of the classes xs
@@ -56,11 +56,11 @@ pub record SeriesEnd (now : ℕ) (ws : List ℕ) (from to : ℕ) : Type 0 where
   pub within : to ≤ length ws
   pub rest :
       (xs : List OpenClass) → T (every (isClass now) xs)
-      → SeriesThen now 0 (isFrom 0) xs (drop from ws) ↔ (map packed (classesWords xs []) ≡ drop to ws)
+      → SeriesThen now 0 (mayFollow 0) xs (drop from ws) ↔ (map packed (classesWords xs []) ≡ drop to ws)
 
 -- what the answer says: what is ahead of where the series that start at `from` end, or that no series with classes
 -- after them start there
 abbrev pub Stretched : ℕ → List ℕ → ℕ → Stretch → Type 0
 Stretched now ws from (EndsAt ahead) = SeriesEnd now ws from (ahead .at) × Tells ws ahead
 Stretched now ws from Breaks =
-    (xs : List OpenClass) → T (every (isClass now) xs) → SeriesThen now 0 (isFrom 0) xs (drop from ws) → ⊥
+    (xs : List OpenClass) → T (every (isClass now) xs) → SeriesThen now 0 (mayFollow 0) xs (drop from ws) → ⊥

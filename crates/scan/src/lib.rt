@@ -5,6 +5,7 @@ ghost use mathlib.Core.Bool.{_&&_};
 ghost use Prim.Native.Nat.{_+_, _<_, _≤_, min};
 ghost use lib.ListN.{drop, length};
 ghost use lib.Dec.{T, leb, ltb};
+ghost use Rattle.word.specs.Limits.{highestStrike};
 ghost use Rattle.word.specs.Field.{field};
 ghost use Rattle.logic.specs.Lists.{every};
 ghost use Rattle.book.specs.Books.{isBook};
@@ -30,6 +31,7 @@ use word::limits::is_length;
 use word::limits::is_volume;
 use word::programs::DOLLAR_LOW;
 use word::programs::HALF_LOW;
+use word::strike::Strike;
 use word::zeros::zero_all;
 
 mod ahead;
@@ -73,9 +75,9 @@ fn latest_month(current: u32) -> u32
 // Whether the strikes from `first` to `last`, each of which follows the one before it, are those of a book: none is 0
 // and none is above 19,999.
 fn are_strikes(first: u32, last: u32) -> bool
-    ensures { λ r. ⌜ r ≡ (ltb 0 (field first 0 15) && leb (field last 0 15) 19999) ⌝ }
+    ensures { λ r. ⌜ r ≡ (ltb 0 (field first 0 15) && leb (field last 0 15) highestStrike) ⌝ }
 {
-    (0 < field_of(first, 0, 15)) & (field_of(last, 0, 15) <= 19999)
+    (0 < field_of(first, 0, 15)) & (field_of(last, 0, 15) <= Strike::HIGHEST.0)
 }
 
 // Where the expirations that start at `from.at` end, each with its strikes. An expiration word is compared as a whole

@@ -15,7 +15,7 @@ use Rattle.book.specs.Books.{isBook}
 use Rattle.book.proofs.Layouts.{factsOf-layout, book-layout, book-facts, fresh-well-formed}
 use Rattle.text.specs.declared.line.Phase.the-variants.{Start}
 use Rattle.text.specs.declared.line.Line.{Line}
-use Rattle.text.specs.declared.piece.Progress.{Progress}
+use Rattle.text.specs.declared.piece.PieceProgress.{PieceProgress}
 use Rattle.text.specs.Reading.{emptyLine, endOf}
 use Rattle.text.specs.Grammar.{callHeld}
 use Rattle.text.specs.Sheets.{callsIn}
@@ -113,7 +113,7 @@ module _
 
     -- some of it is read, and no more than it has
     pub some-read :
-        {out run′ second′ out′ : List ℕ} {r : Progress} → from < length piece → lineRoom (length second) ≤ length out
+        {out run′ second′ out′ : List ℕ} {r : PieceProgress} → from < length piece → lineRoom (length second) ≤ length out
         → Pieced run second (take (length piece - from) (drop from piece)) out line r run′ second′ out′
         → (0 < r .read) × (from + r .read ≤ length piece)
     some-read {out} h enough p =
@@ -127,7 +127,7 @@ module _
         (omega (arith, is), omega (arith, is, g .within))
 
     pub reading-more :
-        {out run′ second′ out′ : List ℕ} {r : Progress} → from < length piece → lineRoom (length second) ≤ length out
+        {out run′ second′ out′ : List ℕ} {r : PieceProgress} → from < length piece → lineRoom (length second) ≤ length out
         → Pieced run second (take (length piece - from) (drop from piece)) out line r run′ second′ out′
         → length run′ ≡ length run → length second′ ≡ length second
         → Reading w v piece line₀ run′ second′ (r .line) (from + r .read)

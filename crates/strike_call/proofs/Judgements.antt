@@ -13,7 +13,7 @@ use Rattle.word.specs.declared.answer.Answer.the-variants.{Refused}
 use Rattle.word.specs.declared.answer.Refusal.the-variants.{MonthOutside, AlreadyStanding, NoClose}
 use Rattle.rule.specs.declared.terms.Setting.{Setting}
 use Rattle.rule.specs.Terms.{isOutside}
-use Rattle.rule.specs.Spacing.{standingIn as standingOf}
+use Rattle.rule.specs.Spacing.{standingOf}
 use Rattle.rule.specs.Judgement.{judgement}
 use Rattle.book.specs.Layout.{used, factsOf}
 use Rattle.book.specs.Views.{View, viewOf, isNotOpen, isStanding, setting, standingIn}

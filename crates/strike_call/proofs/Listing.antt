@@ -23,7 +23,7 @@ use Rattle.book.specs.Views.{View, viewOf, class, isStanding, setting, standing
 use Rattle.book.specs.Changes.{newSeries, strikeAdded, update, classGrown}
 use Rattle.book.specs.Calls.{on, callJ, callL, isPlace, firstOr, noneApplies, judging, lacking, exceeding, effectOn, answerTo}
 use Rattle.book.specs.Places.{hasExpiration}
-use Rattle.book.specs.Permission.{withStrike}
+use Rattle.book.specs.Permission.{factsWithStrike}
 use Rattle.book.specs.Made.{Made}
 use Rattle.logic.proofs.Tests.{ands, true-T}
 use Rattle.book.proofs.Keep.{ground-limit}
@@ -94,12 +94,12 @@ module _ (w : List ℕ) (book : T (isBook w)) (c m h : ℕ) (l : not (isPlace c 
   listing :
       answerTo (length w) 0 (on c (callL m h)) (factsOf w)
       ≡ cond (noneApplies (judging m h seen))
-      (firstOr (Ground (groundOf seen m h)) (lacking (length w) (withStrike c m h (factsOf w)) ∷ [])) (judged m h seen)
+      (firstOr (Ground (groundOf seen m h)) (lacking (length w) (factsWithStrike c m h (factsOf w)) ∷ [])) (judged m h seen)
   unfolding answerTo effectOn
   listing =
       rw l
       (first-append (Ground (groundOf seen m h)) (judging m h seen)
-      (lacking (length w) (withStrike c m h (factsOf w)) ∷ exceeding 0 [] ∷ []))
+      (lacking (length w) (factsWithStrike c m h (factsOf w)) ∷ exceeding 0 [] ∷ []))
 
   -- refused as `J` refuses
   pub list-refused :
@@ -112,7 +112,7 @@ module _ (w : List ℕ) (book : T (isBook w)) (c m h : ℕ) (l : not (isPlace c 
   module _
       (o : T (isOpen c (factsOf w .classes))) (g : ℕ) (p : Permits m h seen g) (needed : ℕ)
       (k : needed ≡ cond {A = ℕ} (hasExpiration c m (factsOf w)) 1 2) where
-    taken : wordsTaken (withStrike c m h (factsOf w)) ≡ used (factsOf w) + needed
+    taken : wordsTaken (factsWithStrike c m h (factsOf w)) ≡ used (factsOf w) + needed
     unfolding classGrown
     taken =
         let f = factsOf w in

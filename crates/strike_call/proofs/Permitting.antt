@@ -14,7 +14,7 @@ use Rattle.word.specs.declared.class.ClassRecord.{ClassRecord}
 use Rattle.word.specs.Limits.{isClassNumber, isMonth}
 use Rattle.rule.specs.declared.terms.Setting.{Setting}
 use Rattle.rule.specs.Terms.{isOutside}
-use Rattle.rule.specs.Spacing.{standingIn as standingOf}
+use Rattle.rule.specs.Spacing.{standingOf}
 use Rattle.rule.specs.Judgement.{permitted}
 use Rattle.permitted.specs.Listing.{Listable, Filled}
 use Rattle.book.specs.Facts.{isOpen}

@@ -12,7 +12,7 @@ use lib.Seq.{take-nil, take-take, drop-drop, getD-append-add}
 use borrow.Author.Tests.{ltb-true, ltb-false}
 use Rattle.rule.specs.declared.terms.Setting.{Setting}
 use Rattle.logic.specs.Lists.{Rising}
-use Rattle.rule.specs.Spacing.{Standing, standingIn as standingOf}
+use Rattle.rule.specs.Spacing.{Standing, standingOf}
 use Rattle.rule.specs.Judgement.{judgement}
 use Rattle.rule.proofs.Walks.{every-map}
 use Rattle.rule.proofs.Near.{nearest-judged}

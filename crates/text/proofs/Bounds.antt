@@ -20,7 +20,7 @@ use Rattle.word.proofs.answer.Answer.{the-type as answer-type}
 use Rattle.word.proofs.answer.Refusal.{the-type as refusal-type}
 use Rattle.text.specs.Printing.{spacedNumber, spacedNumbers, valueOrNone, afterNumber, answerText}
 use Rattle.text.specs.Pieces.{lineRoom}
-use Rattle.text.proofs.Cases.{bool-cases}
+use Rattle.logic.proofs.Tests.{bool-cases}
 use Rattle.text.proofs.Decimals.{length-decimal}
 use Rattle.text.proofs.SpacedNumbers.{one-number}
 use Rattle.text.proofs.AnswerTexts.{length-whole}

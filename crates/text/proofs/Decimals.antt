@@ -8,7 +8,7 @@ use mathlib.Core.List.{List, [], _∷_, _++_}
 use lib.ListN.{length, length-append}
 use borrow.Author.Tests.{lt-ltb, le-ltb}
 use Rattle.text.specs.Printing.{decimalBy, decimal}
-use Rattle.text.proofs.Cases.{lt-or-le}
+use Rattle.logic.proofs.Tests.{lt-or-le}
 
 by-small : (f v : ℕ) → v < 10 → decimalBy f v ≡ (48 + v % 10) ∷ []
 unfolding decimalBy

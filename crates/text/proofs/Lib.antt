@@ -1,5 +1,4 @@
 -- The laws of the lines and of what is printed, for the functions' proofs and other crates.
-mod Cases
 pub mod Complete
 pub mod Sound
 mod Parts

@@ -11,15 +11,13 @@ use borrow.Author.Tests.{leb-true}
 use Rattle.word.specs.declared.answer.Answer.{Answer}
 use Rattle.word.specs.declared.answer.Answer.the-variants.{Refused}
 use Rattle.word.specs.declared.answer.Refusal.the-variants.{BeyondLimits}
-use Rattle.word.proofs.Tests.{and-both}
+use Rattle.logic.proofs.Tests.{and-both, and-intro, ands, same-bool, bool-cases}
 use Rattle.logic.specs.Lists.{every}
 use Rattle.rule.proofs.Tests.{same-leb}
 use Rattle.book.specs.Facts.{Facts}
 use Rattle.book.specs.Calls.{Call, callM, on, callO, callC, callV, callD, callL, callJ, callX, callI, callR, callA, effectOn, effect, answerTo, written, step}
 use Rattle.book.specs.Letters.{callOf}
-use Rattle.logic.proofs.Tests.{and-intro, ands, same-bool}
 use Rattle.text.specs.Reading.{capped}
-use Rattle.text.proofs.Cases.{bool-cases}
 
 -- ---- numbers below the cap
 

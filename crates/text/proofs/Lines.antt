@@ -11,7 +11,7 @@ use lib.Seq.{sets}
 use lib.Dec.{leb}
 use borrow.Author.Tests.{le-leb}
 use Rattle.word.specs.Limits.{between}
-use Rattle.word.proofs.Tests.{and-both}
+use Rattle.logic.proofs.Tests.{and-both, bool-cases, lt-or-le}
 use Rattle.logic.specs.Lists.{every}
 use Rattle.book.specs.Calls.{malformed}
 use Rattle.book.specs.Letters.{callOf}
@@ -20,7 +20,6 @@ use Rattle.text.specs.declared.line.Phase.the-variants.{Start, Letter, S
 use Rattle.text.specs.declared.line.Line.{Line}
 use Rattle.text.specs.Reading.{capped, zeros, malformedLine, pushOf, emptyLine, runOf, endBy, lineOf}
 use Rattle.text.specs.Grammar.{Formed, numberIn, isNumeral, firstPart, laterParts, callOfParts, callIn, held, callHeld}
-use Rattle.text.proofs.Cases.{bool-cases, lt-or-le}
 use Rattle.text.proofs.Complete.{complete}
 use Rattle.text.proofs.Sound.{sound}
 use Rattle.text.proofs.Parts.{between-both, numerals-true, true-numerals, joined, first-formed, later-formed}

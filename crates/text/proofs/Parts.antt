@@ -8,10 +8,9 @@ use native.Mathlib.Omega.{arith}
 use lib.Dec.{leb, eqb}
 use borrow.Author.Tests.{leb-true, le-leb, eq-eqb, ne-eqb}
 use Rattle.word.specs.Limits.{between}
-use Rattle.word.proofs.Tests.{and-both}
+use Rattle.logic.proofs.Tests.{and-both, eq-or-not}
 use Rattle.logic.specs.Lists.{every}
 use Rattle.text.specs.Grammar.{Digits, Numeral, Numerals, Formed, no-digits, a-digit, lone-zero, leading, no-numbers, a-number, spaced, isDigit, isNumeral, firstPart, laterParts}
-use Rattle.text.proofs.Cases.{eq-or-not}
 
 -- ---- numerals
 

@@ -17,7 +17,7 @@ use Rattle.text.specs.Reading.{capped, emptyLine, feedBy, feedOf, endOf,
 use Rattle.text.specs.Grammar.{callIn, callHeld}
 use Rattle.text.specs.Sheets.{withByte, linesOf, callsIn}
 use Rattle.text.specs.Pieces.{Reader, callEnded, callMade, byteRead, bytesRead, hasBegun, lastEnded, repliesTo, callsMade}
-use Rattle.text.proofs.Cases.{bool-cases}
+use Rattle.logic.proofs.Tests.{bool-cases}
 use Rattle.text.proofs.Limited.{same-answer, same-written, same-step}
 use Rattle.text.proofs.Lines.{call-read}
 

@@ -25,7 +25,7 @@ use Rattle.text.specs.Printing.{replyTo}
 use Rattle.text.specs.Sheets.{lineEnd}
 use Rattle.text.specs.WholeLines.{lineAfter, WholeAt}
 use Rattle.text.specs.Pieces.{Reader, callEnded, callMade, byteRead, bytesRead, hasBegun, lastEnded, lineRoom, bytesTaken, FirstTaken, Ended, Holds, begun, LinesRead, Pieced}
-use Rattle.text.proofs.Cases.{bool-cases, eq-or-not, neither-of}
+use Rattle.logic.proofs.Tests.{bool-cases, eq-or-not, or-none}
 use Rattle.text.proofs.AnswerTexts.{stores-after}
 
 -- ---- the bytes in turn
@@ -260,7 +260,7 @@ module _
     onward-room =
         let full = ltb (length out - put) (lineRoom (length second)) in
         let some : lineRoom (length second) ≤ length out - put =
-        ltb-false (length out - put) (lineRoom (length second)) (neither-of (eqb end (length piece)) full test .1) in
+        ltb-false (length out - put) (lineRoom (length second)) (or-none (eqb end (length piece)) full test .1) in
         omega (arith, some)
 
     pub onward-more :
@@ -275,7 +275,7 @@ module _
         let whole = drop from piece in
         let full = ltb (length out - put) (lineRoom (length second)) in
         let inside : end < length piece =
-        omega (arith, eqb-false end (length piece) (neither-of (eqb end (length piece)) full test .0), is .within) in
+        omega (arith, eqb-false end (length piece) (or-none (eqb end (length piece)) full test .0), is .within) in
         let ends : lineEnd s < length s = omega (arith, is .end-is, length-drop read piece) in
         let upto : end + 1 - from ≡ (read - from) + suc (lineEnd s) = omega (arith, is .end-is, g .lines .onward) in
         let here : from + (read - from) ≡ read = omega (arith, g .lines .onward) in

@@ -7,7 +7,7 @@ use native.Mathlib.Nat.{div-lt-self}
 use native.Mathlib.Omega.{arith}
 use Rattle.text.specs.Grammar.{Digits, Numeral, no-digits, a-digit, lone-zero, leading, valueFrom, numberIn}
 use Rattle.text.specs.Printing.{decimal}
-use Rattle.text.proofs.Cases.{lt-or-le}
+use Rattle.logic.proofs.Tests.{lt-or-le}
 use Rattle.text.proofs.Decimals.{decimal-small, decimal-more}
 
 -- ---- its number

@@ -17,13 +17,12 @@ use Rattle.book.specs.Books.{isBook}
 use Rattle.book.specs.Calls.{Call, steps}
 use Rattle.book.specs.CallLists.{answersTo, told, secondAfter}
 use Rattle.book.specs.Made.{Made}
-use Rattle.logic.proofs.Tests.{T-true, true-T}
+use Rattle.logic.proofs.Tests.{T-true, true-T, bool-cases, lt-or-le}
 use Rattle.book.proofs.Layouts.{book-facts}
 use Rattle.book.proofs.Followed.{made-book}
 use Rattle.text.specs.declared.sheet.LineAnswer.{LineAnswer}
 use Rattle.text.specs.Grammar.{callIn}
 use Rattle.text.specs.Sheets.{withByte, linesOf, lineEnd, lineAt, nextLine, callsIn, answersOver, wordsAfter, secondOver, LineMade, SheetRun}
-use Rattle.text.proofs.Cases.{bool-cases, lt-or-le}
 
 -- ---- one call of a list, over any words
 

@@ -11,7 +11,7 @@ use Rattle.text.specs.declared.line.Phase.the-variants.{Start, Letter, S
 use Rattle.text.specs.declared.line.Line.{Line}
 use Rattle.text.specs.Reading.{capped, zeros, malformedLine, pushOf, feedBy, feedOf, endBy, endOf, runOf, lineOf}
 use Rattle.text.specs.Grammar.{Digits, Numeral, Numerals, Formed, no-digits, a-digit, lone-zero, leading, no-numbers, a-number, spaced, lineText}
-use Rattle.text.proofs.Cases.{lt-or-le, eq-or-not}
+use Rattle.logic.proofs.Tests.{lt-or-le, eq-or-not}
 use Rattle.text.proofs.Complete.{state, push-room}
 
 -- the line is well formed if s follows the state l

@@ -18,7 +18,7 @@ use Rattle.text.specs.Reading.{capped, zeros, emptyLine, malformedLine, 
 use Rattle.text.specs.Grammar.{isDigit}
 use Rattle.text.specs.Sheets.{lineEnd}
 use Rattle.text.specs.WholeLines.{digitsLength, grownBy, numeralLength, numeralValue, NumeralAt, lineAfter, EndsAfter, letterLine, WholeAt}
-use Rattle.text.proofs.Cases.{bool-cases, lt-or-le, eq-or-not, one-of, neither-of, outside, inside}
+use Rattle.logic.proofs.Tests.{bool-cases, lt-or-le, eq-or-not, one-of, or-none, outside, inside}
 use Rattle.text.proofs.Complete.{Pending, at-zero, in-number, state, feed-space, end-number}
 use Rattle.text.proofs.Sound.{Follows, follows, run-malformed}
 use Rattle.text.proofs.Parts.{between-true, between-both}
@@ -354,10 +354,10 @@ module _ {letter : ℕ} {sheet : List ℕ} {from count : ℕ} {numbers : List �
     -- a space, and fewer than five numbers
     module _ (h : (not (eqb (getD sheet i 0) 32) || eqb count 5) ≡ false) where
       space : getD sheet i 0 ≡ 32
-      space = eqb-true (getD sheet i 0) 32 (not-false (eqb (getD sheet i 0) 32) (neither-of (not (eqb (getD sheet i 0) 32)) (eqb count 5) h .0))
+      space = eqb-true (getD sheet i 0) 32 (not-false (eqb (getD sheet i 0) 32) (or-none (not (eqb (getD sheet i 0) 32)) (eqb count 5) h .0))
 
       pub going-room : count < 5
-      going-room = omega (arith, g .few, eqb-false count 5 (neither-of (not (eqb (getD sheet i 0) 32)) (eqb count 5) h .1))
+      going-room = omega (arith, g .few, eqb-false count 5 (or-none (not (eqb (getD sheet i 0) 32)) (eqb count 5) h .1))
 
       module _ {value end : ℕ} (n : NumeralAt sheet (i + 1) value end) where
         pub going-none : {r : WholeLine} → end ≡ i + 1 → EndsAfter malformedLine sheet i r → EndsAfter (letterLine letter) sheet from r

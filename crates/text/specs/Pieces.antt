@@ -17,7 +17,7 @@ use Rattle.book.specs.Made.{over}
 use Rattle.text.specs.declared.line.Phase.{Phase}
 use Rattle.text.specs.declared.line.Phase.the-variants.{Start, Letter, Space, Zero, Number, Malformed}
 use Rattle.text.specs.declared.line.Line.{Line}
-use Rattle.text.specs.declared.piece.Progress.{Progress}
+use Rattle.text.specs.declared.piece.PieceProgress.{PieceProgress}
 use Rattle.text.specs.declared.piece.Lines.{Lines}
 use Rattle.text.specs.Reading.{emptyLine, feedOf, endOf}
 use Rattle.text.specs.Grammar.{callHeld}
@@ -157,7 +157,7 @@ pub record LinesRead
 
 -- a piece read over the words w of a book, with the second run v and a line that has begun: how much of it is read,
 -- and what is then held
-pub record Pieced (w v piece out : List ℕ) (line : Line) (r : Progress) (w′ v′ out′ : List ℕ) : Type 0 where
+pub record Pieced (w v piece out : List ℕ) (line : Line) (r : PieceProgress) (w′ v′ out′ : List ℕ) : Type 0 where
   pub taken : r .read ≡ bytesTaken (length w) (length v) (length out) (begun w v line) piece
   pub holds :
       Holds (length w) out (bytesRead (length w) (length v) (begun w v line) (take (r .read) piece))

@@ -27,7 +27,7 @@ pub struct Line {
 }
 
 // A number that was read: its value, and where it ends.
-struct Numeral {
+struct NumberRead {
     value: u32,
     end: usize,
 }
@@ -227,7 +227,7 @@ pub fn end(line: Line) -> Line
 }
 
 // The digits from `from` on go on with a number.
-fn read_digits(sheet: &[u8], from: usize, first: u32) -> Numeral
+fn read_digits(sheet: &[u8], from: usize, first: u32) -> NumberRead
     requires { ⌜ from ≤ length (now sheet) ⌝ }
     ensures { λ r. ⌜ (r .end ≡ from + digitsLength (drop from (now (sheet .entry))))
         × ((r .end ≤ length (now (sheet .entry)))
@@ -239,34 +239,34 @@ fn read_digits(sheet: &[u8], from: usize, first: u32) -> Numeral
     while i < sheet.len() {
         let byte = sheet[i];
         if (byte < 48) | (57 < byte) {
-            return Numeral { value, end: i };
+            return NumberRead { value, end: i };
         }
         value = grow(value, (byte - 48) as u32);
         i += 1;
     }
-    Numeral { value, end: i }
+    NumberRead { value, end: i }
 }
 
 // The number without leading zeros that begins at `from`. Where none does, it ends there.
-fn read_number(sheet: &[u8], from: usize) -> Numeral
+fn read_number(sheet: &[u8], from: usize) -> NumberRead
     requires { ⌜ from ≤ length (now sheet) ⌝ }
     ensures { λ r. ⌜ NumeralAt (now (sheet .entry)) from (r .value) (r .end) ⌝ }
 {
     if sheet.len() <= from {
-        return Numeral {
+        return NumberRead {
             value: 0,
             end: from,
         };
     }
     let first = sheet[from];
     if first == 48 {
-        return Numeral {
+        return NumberRead {
             value: 0,
             end: from + 1,
         };
     }
     if (first < 48) | (57 < first) {
-        return Numeral {
+        return NumberRead {
             value: 0,
             end: from,
         };

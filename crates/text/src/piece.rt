@@ -20,7 +20,7 @@ use place::lookup::remembered_place;
 use word::answer::Answer;
 
 // How far a piece has been read, the line that has not ended, and how many bytes were printed.
-pub struct Progress {
+pub struct PieceProgress {
     pub line: Line,
     pub read: usize,
     pub put: usize,
@@ -110,7 +110,7 @@ pub fn read_piece(
     line: Line,
     piece: &[u8],
     out: &mut [u8],
-) -> Progress
+) -> PieceProgress
     requires { ⌜ T (isBook (now run)) × (lineRoom (length (now second)) ≤ length (now out)) ⌝ }
     ensures { λ r. ⌜ Pieced (now (run .entry)) (now (second .entry)) (now (piece .entry)) (now (out .entry)) line
         r (now (run .exit)) (now (second .exit)) (now (out .exit)) ⌝ }
@@ -122,7 +122,7 @@ pub fn read_piece(
         let byte = piece[read];
         if byte == 10 {
             if out.len() - put < 11 * second.len() + 32 {
-                return Progress { line, read, put };
+                return PieceProgress { line, read, put };
             }
             put = end_line(run, second, line, out, put);
             line = empty();
@@ -134,5 +134,5 @@ pub fn read_piece(
             read += 1;
         }
     }
-    Progress { line, read, put }
+    PieceProgress { line, read, put }
 }

@@ -1,6 +1,6 @@
 -- The laws that the functions' proofs and other crates cite.
 pub mod Stores
-pub mod Tests
+pub mod RangeTests
 pub mod Fields
 pub mod Digits
 pub mod Words

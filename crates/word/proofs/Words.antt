@@ -11,7 +11,8 @@ use Rattle.word.specs.Limits.{isStrike, isMonth, isClassNumber, isLength
 use Rattle.word.specs.Programs.{Program, programs, programCount, program, areDesignations}
 use Rattle.word.specs.Field.{field}
 use Rattle.word.specs.Codec.{isLegal, packed, FitEach, Fits, fieldsAs, kindOf, reading, Word, Head, Class, Close, Volume, Expiration, Strike, Invalid}
-use Rattle.word.proofs.Tests.{and-both, between-high}
+use Rattle.logic.proofs.Tests.{and-both}
+use Rattle.word.proofs.RangeTests.{between-high}
 use Rattle.word.proofs.Fields.{field-packed}
 
 designations-fit : (gs : List Program) (ds : List ℕ) → areDesignations gs ds ≡ true → FitEach gs ds

@@ -12,8 +12,11 @@ abbrev pub isPrice : ℕ → Bool
 isPrice p = between 1 999999 p
 
 -- "A strike is counted in half dollars, h from 1 to 19,999"
+abbrev pub highestStrike : ℕ
+highestStrike = 19999
+
 abbrev pub isStrike : ℕ → Bool
-isStrike h = between 1 19999 h
+isStrike h = between 1 highestStrike h
 
 -- "A month is 0 to 1,023"
 abbrev pub isMonth : ℕ → Bool

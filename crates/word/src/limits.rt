@@ -1,6 +1,7 @@
 // The limits of the numbers that a call or a word carries.
 ghost use mathlib.Core.Path.{_≡_};
 ghost use Rattle.word.specs.Limits.{isPrice, isStrike, isMonth, isClassNumber, isVolume, isLength, isDesignation, isClose, isGround, isMark};
+use crate::strike::Strike;
 
 // A price in cents.
 pub fn is_price(p: u32) -> bool
@@ -13,7 +14,7 @@ pub fn is_price(p: u32) -> bool
 pub fn is_strike(h: u32) -> bool
     ensures { λ r. ⌜ r ≡ isStrike h ⌝ }
 {
-    (1 <= h) & (h <= 19999)
+    (1 <= h) & (h <= Strike::HIGHEST.0)
 }
 
 pub fn is_month(m: u32) -> bool

@@ -6,6 +6,8 @@ ghost use Prim.Native.Nat.{_*_, _<_};
 pub struct Strike(pub u32);
 
 impl Strike {
+    pub const HIGHEST: Strike = Strike(19999);
+
     pub const FIFTY_DOLLARS: Strike = Strike(100);
 
     pub const FIVE_FIFTY: Strike = Strike(11);

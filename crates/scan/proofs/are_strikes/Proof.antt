@@ -1,4 +1,4 @@
--- `are_strikes` tests what it says: its reads are the fields.
+-- `are_strikes` tests what it says: its reads are the fields. Assumes nothing.
 use borrow.Author.Needs.{needs}
 use Rattle.scan.proofs.are_strikes.Statement.{statement}
 use Rattle.scan.proofs.are_strikes.Tie as tie
@@ -10,7 +10,7 @@ field-of-requires-2 : tie.Need-field-of-requires-2
 field-of-requires-2 c κs = search needs
 
 returns : tie.Need-returns
-returns c = simp (c .before .field-of .ensures, c .field-of2 .ensures)
+returns c = simp (c .before .before .field-of .ensures, c .before .field-of2 .ensures)
 
 pub are-strikes-spec : {M : Type 1} → statement M
 are-strikes-spec = tie.close (tie.spec field-of-requires field-of-requires-2 returns)

@@ -7,8 +7,8 @@ use lib.ListN.{take, drop, getD}
 use borrow.Author.Needs.{needs}
 use borrow.Author.Tests.{eqb-true}
 use Rattle.word.specs.Limits.{isClassNumber}
-use Rattle.word.proofs.Tests.{and-both, between-high}
-use Rattle.logic.proofs.Tests.{T-true}
+use Rattle.logic.proofs.Tests.{and-both, T-true}
+use Rattle.word.proofs.RangeTests.{between-high}
 use Rattle.place.specs.Search.{isHolding}
 use Rattle.place.proofs.Near.{near-holds}
 use Rattle.place.proofs.Heads.{book-room}

@@ -6,7 +6,7 @@ use lib.Dec.{leb→le}
 use lib.ListN.{length}
 use borrow.Author.Needs.{needs}
 use Rattle.word.specs.Limits.{isStrike}
-use Rattle.word.proofs.Tests.{between-high}
+use Rattle.word.proofs.RangeTests.{between-high}
 use Rattle.book.specs.Layout.{used, factsOf}
 use Rattle.logic.proofs.Tests.{T-true}
 use Rattle.place.proofs.Heads.{book-room}
@@ -85,8 +85,8 @@ first-requires c κs =
 add-at : tie.Need-add-at
 add-at c = omega (arith, within (c .before .before .before))
 
-is-strike-at-requires : tie.Need-is-strike-at-requires
-is-strike-at-requires c κs = search needs
+holds-strike-requires : tie.Need-holds-strike-requires
+holds-strike-requires c κs = search needs
 
 returns-2 : tie.Need-returns-2
 returns-2 c =
@@ -99,7 +99,7 @@ returns-2 c =
     its-strike _ (s .pre .0 .book) _ _ (month-small s) _ _ _ (p .expiration-at .ensures .0)
     (i .before .expiration-word .ensures) (i .is-word-at .ensures) (x .number) (x .is-open) (x .place)
     (u .before .if1 .left) _ (u .used .ensures) (s .args .h) _ _ (strike-small s)
-    (f .first .ensures .0) (c .is-strike-at .ensures)
+    (f .first .ensures .0) (c .holds-strike .ensures)
 
 pub look-up-strike-spec : {M : Type 1} → statement M
 look-up-strike-spec =
@@ -117,5 +117,5 @@ look-up-strike-spec =
     part-first-end
     first-requires
     add-at
-    is-strike-at-requires
+    holds-strike-requires
     returns-2)

@@ -5,7 +5,7 @@ use native.Mathlib.Omega.{arith}
 use lib.Dec.{leb, ltb}
 use borrow.Author.Needs.{needs}
 use borrow.Author.Tests.{leb-true, ltb-true, not-false}
-use Rattle.word.proofs.Tests.{and-both}
+use Rattle.logic.proofs.Tests.{and-both}
 use Rattle.place.proofs.search.expected.Statement.{statement}
 use Rattle.place.proofs.search.expected.Tie as tie
 

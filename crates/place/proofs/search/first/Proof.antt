@@ -6,13 +6,13 @@ use lib.Count.{trailingZeros, trailing-le}
 use lib.Dec.{leb}
 use lib.ListN.{length}
 use borrow.Author.Needs.{needs}
-use Rattle.place.specs.Search.{firstAt, rankOf, isUpTo}
+use Rattle.place.specs.Search.{firstAt, gradeOf, isUpTo}
 use Rattle.place.proofs.Firsts.{Seeking, seek-start, seek-rest, seek-digit, seek-no-digit}
 use Rattle.place.proofs.search.first.Statement.{statement}
 use Rattle.place.proofs.search.first.Tie as tie
 
 abbrev Inv-loop : tie.InvT-loop
-Inv-loop words kind width key most i₀ i = Seeking (λ w. leb (rankOf width w) most) words i
+Inv-loop words kind width key most i₀ i = Seeking (λ w. leb (gradeOf width w) most) words i
 
 abbrev μ-loop : tie.MeasureT-loop
 μ-loop words kind width key most i₀ i = length words - i
@@ -23,11 +23,11 @@ digit :
     → let l = c .before .before .before .before in
     let a = l .before .before .args in
     let i = l .loop .i in
-    let zeros = trailingZeros 32 (c .before .ranked-of-16 .result) in
+    let zeros = trailingZeros 32 (c .before .graded-of-16 .result) in
     (i + zeros - 1 ≡ firstAt (isUpTo (a .kind) (a .width) (a .key)) (a .words .now)) × (1 ≤ zeros) × (zeros ≤ 16)
 digit c =
     let l = c .before .before .before .before .loop in
-    seek-digit _ _ (l .i) (l .inv) 16 _ (omega arith) (c .before .ranked-of-16 .ensures) 32 (omega arith) (c .if1 .taken)
+    seek-digit _ _ (l .i) (l .inv) 16 _ (omega arith) (c .before .graded-of-16 .ensures) 32 (omega arith) (c .if1 .taken)
 
 mul-most : tie.Need-mul-most Inv-loop μ-loop
 mul-most c = search needs
@@ -44,29 +44,29 @@ loop-holds c = seek-start _ _
 sub-loop : tie.Need-sub-loop Inv-loop μ-loop
 sub-loop c = search needs
 
-add-ranked-of-16 : tie.Need-add-ranked-of-16 Inv-loop μ-loop
-add-ranked-of-16 c = search needs
+add-graded-of-16 : tie.Need-add-graded-of-16 Inv-loop μ-loop
+add-graded-of-16 c = search needs
 
-mul-ranked-of-16 : tie.Need-mul-ranked-of-16 Inv-loop μ-loop
-mul-ranked-of-16 c = search needs
+mul-graded-of-16 : tie.Need-mul-graded-of-16 Inv-loop μ-loop
+mul-graded-of-16 c = search needs
 
-sub-ranked-of-16 : tie.Need-sub-ranked-of-16 Inv-loop μ-loop
-sub-ranked-of-16 c = search needs
+sub-graded-of-16 : tie.Need-sub-graded-of-16 Inv-loop μ-loop
+sub-graded-of-16 c = search needs
 
-part-ranked-of-16-start : tie.Need-part-ranked-of-16-start Inv-loop μ-loop
-part-ranked-of-16-start c = search needs
+part-graded-of-16-start : tie.Need-part-graded-of-16-start Inv-loop μ-loop
+part-graded-of-16-start c = search needs
 
-part-ranked-of-16-end : tie.Need-part-ranked-of-16-end Inv-loop μ-loop
-part-ranked-of-16-end c = search needs
+part-graded-of-16-end : tie.Need-part-graded-of-16-end Inv-loop μ-loop
+part-graded-of-16-end c = search needs
 
-ranked-of-16-requires : tie.Need-ranked-of-16-requires Inv-loop μ-loop
-ranked-of-16-requires c κs = search needs
+graded-of-16-requires : tie.Need-graded-of-16-requires Inv-loop μ-loop
+graded-of-16-requires c κs = search needs
 
 cast-result : tie.Need-cast-result Inv-loop μ-loop
-cast-result c = omega (arith, trailing-le 32 (c .before .ranked-of-16 .result))
+cast-result c = omega (arith, trailing-le 32 (c .before .graded-of-16 .result))
 
 add-result : tie.Need-add-result Inv-loop μ-loop
-add-result c = omega (arith, trailing-le 32 (c .before .ranked-of-16 .result))
+add-result c = omega (arith, trailing-le 32 (c .before .graded-of-16 .result))
 
 sub-result : tie.Need-sub-result Inv-loop μ-loop
 sub-result c = omega (arith, digit c)
@@ -83,7 +83,7 @@ loop-less c = search needs
 loop-again : tie.Need-loop-again Inv-loop μ-loop
 loop-again c =
     let l = c .before .before .before .before .loop in
-    seek-no-digit _ _ (l .i) (l .inv) 16 _ (omega arith) (c .before .ranked-of-16 .ensures) (c .if1 .left)
+    seek-no-digit _ _ (l .i) (l .inv) 16 _ (omega arith) (c .before .graded-of-16 .ensures) (c .if1 .left)
 
 mul-first-plainly : tie.Need-mul-first-plainly Inv-loop μ-loop
 mul-first-plainly c = search needs
@@ -117,12 +117,12 @@ first-spec =
     add-most
     loop-holds
     sub-loop
-    add-ranked-of-16
-    mul-ranked-of-16
-    sub-ranked-of-16
-    part-ranked-of-16-start
-    part-ranked-of-16-end
-    ranked-of-16-requires
+    add-graded-of-16
+    mul-graded-of-16
+    sub-graded-of-16
+    part-graded-of-16-start
+    part-graded-of-16-end
+    graded-of-16-requires
     cast-result
     add-result
     sub-result

@@ -6,13 +6,13 @@ use lib.Dec.{leb}
 use lib.ListN.{length}
 use borrow.Author.Needs.{needs}
 use borrow.Author.Tests.{le-leb, lt-leb}
-use Rattle.place.specs.Search.{rankOf}
+use Rattle.place.specs.Search.{gradeOf}
 use Rattle.place.proofs.Firsts.{Seeking, seek-start, seek-hit, seek-miss, seek-end}
 use Rattle.place.proofs.search.first_plainly.Statement.{statement}
 use Rattle.place.proofs.search.first_plainly.Tie as tie
 
 abbrev Inv-loop : tie.InvT-loop
-Inv-loop words width most i₀ i = Seeking (λ w. leb (rankOf width w) most) words i
+Inv-loop words width most i₀ i = Seeking (λ w. leb (gradeOf width w) most) words i
 
 abbrev μ-loop : tie.MeasureT-loop
 μ-loop words width most i₀ i = length words - i
@@ -20,20 +20,20 @@ abbrev μ-loop : tie.MeasureT-loop
 loop-holds : tie.Need-loop-holds Inv-loop μ-loop
 loop-holds c = seek-start _ _
 
-mul-rank : tie.Need-mul-rank Inv-loop μ-loop
-mul-rank c = search needs
+mul-grade : tie.Need-mul-grade Inv-loop μ-loop
+mul-grade c = search needs
 
-shared-slice-read-rank : tie.Need-shared-slice-read-rank Inv-loop μ-loop
-shared-slice-read-rank c = search needs
+shared-slice-read-grade : tie.Need-shared-slice-read-grade Inv-loop μ-loop
+shared-slice-read-grade c = search needs
 
-rank-requires : tie.Need-rank-requires Inv-loop μ-loop
-rank-requires c κs = search needs
+grade-requires : tie.Need-grade-requires Inv-loop μ-loop
+grade-requires c κs = search needs
 
 returns : tie.Need-returns Inv-loop μ-loop
 returns c =
     let l = c .before .before .before in
     let most = l .before .before .before .args .most in (
-      seek-hit _ _ 0 _ (l .before .loop .inv) (l .loop-test .taken) (ap (λ (k : ℕ). leb k most) (sym (c .before .rank .ensures)) ∙ le-leb _ _ (c .if1 .taken)),
+      seek-hit _ _ 0 _ (l .before .loop .inv) (l .loop-test .taken) (ap (λ (k : ℕ). leb k most) (sym (c .before .grade .ensures)) ∙ le-leb _ _ (c .if1 .taken)),
       omega arith,
     )
 
@@ -48,7 +48,7 @@ loop-again c =
     let l = c .before .before .before in
     let most = l .before .before .before .args .most in
     seek-miss _ _ 0 _ (l .before .loop .inv) (l .loop-test .taken)
-    (ap (λ (k : ℕ). leb k most) (sym (c .before .rank .ensures)) ∙ lt-leb _ _ (c .if1 .left))
+    (ap (λ (k : ℕ). leb k most) (sym (c .before .grade .ensures)) ∙ lt-leb _ _ (c .if1 .left))
 
 returns-2 : tie.Need-returns-2 Inv-loop μ-loop
 returns-2 c = (seek-end _ _ _ (c .before .loop .inv) (c .loop-test .left), omega arith)
@@ -60,9 +60,9 @@ first-plainly-spec =
     Inv-loop
     μ-loop
     loop-holds
-    mul-rank
-    shared-slice-read-rank
-    rank-requires
+    mul-grade
+    shared-slice-read-grade
+    grade-requires
     returns
     add-i
     loop-less

@@ -9,7 +9,7 @@ use lib.Dec.{eqb, leb}
 use lib.ListN.{length, getD}
 use lib.Pow.{pow-mono}
 use borrow.Author.Needs.{needs}
-use Rattle.word.proofs.Tests.{and-both}
+use Rattle.logic.proofs.Tests.{and-both}
 use Rattle.place.specs.Search.{isOfKind, isFrom}
 use Rattle.place.proofs.Firsts.{part-passes, Seeking, seek-start, seek-before, seek-hit, seek-end, seek-rest}
 use Rattle.place.proofs.Words.{field-less, part-from}

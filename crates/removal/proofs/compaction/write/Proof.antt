@@ -4,12 +4,12 @@ use native.Mathlib.Numerals.{add-one}
 use native.Mathlib.Omega.{arith}
 use lib.ListN.{length-set}
 use borrow.Author.Needs.{needs}
-use Rattle.removal.specs.Compaction.{wordsOf}
+use Rattle.removal.specs.Compaction.{stepWords}
 use Rattle.removal.proofs.compaction.write.Statement.{statement}
 use Rattle.removal.proofs.compaction.write.Tie as tie
 
 returns : tie.Need-returns
-unfolding wordsOf
+unfolding stepWords
 returns c = (omega arith, rw (c .if1 .taken))
 
 mul-words : tie.Need-mul-words
@@ -25,7 +25,7 @@ same-length : tie.Need-same-length
 same-length c = search needs
 
 returns-2 : tie.Need-returns-2
-unfolding wordsOf
+unfolding stepWords
 returns-2 c = (omega arith, rw (c .if2 .taken))
 
 add-next : tie.Need-add-next
@@ -44,7 +44,7 @@ same-length-2 : tie.Need-same-length-2
 same-length-2 c = search needs
 
 returns-3 : tie.Need-returns-3
-unfolding wordsOf
+unfolding stepWords
 returns-3 c = let e : c .before .before .before .before .args .o .count ≡ 2 = omega arith in (omega arith, rw (e, add-one))
 
 pub write-spec : {M : Type 1} → statement M

@@ -6,7 +6,7 @@ use native.Mathlib.Omega.{arith}
 use lib.ListN.{length}
 use borrow.Author.Needs.{needs}
 use borrow.Author.Tests.{leb-true}
-use Rattle.word.proofs.Tests.{and-both}
+use Rattle.logic.proofs.Tests.{and-both}
 use Rattle.removal.proofs.Shifts.{Shifting, shift-start, shift-on, shift-done, shift-rest}
 use Rattle.removal.proofs.gap.move_down_by.Statement.{statement}
 use Rattle.removal.proofs.gap.move_down_by.Tie as tie

@@ -5,7 +5,7 @@ use native.Mathlib.Omega.{arith}
 use lib.ListN.{length, drop, take, getD}
 use borrow.Author.Needs.{needs}
 use Rattle.text.specs.WholeLines.{digitsLength, grownBy}
-use Rattle.text.proofs.Cases.{inside}
+use Rattle.logic.proofs.Tests.{inside}
 use Rattle.text.proofs.WholeLines.{digits-here, digits-none, digits-later, grown-later}
 use Rattle.text.proofs.line.read_digits.Statement.{statement}
 use Rattle.text.proofs.line.read_digits.Tie as tie

@@ -2,7 +2,7 @@
 use native.Mathlib.Omega.{arith}
 use lib.ListN.{getD}
 use borrow.Author.Needs.{needs}
-use Rattle.text.proofs.Cases.{inside}
+use Rattle.logic.proofs.Tests.{inside}
 use Rattle.text.proofs.WholeLines.{no-byte, zero-byte, other-byte, digit-byte}
 use Rattle.text.proofs.line.read_number.Statement.{statement}
 use Rattle.text.proofs.line.read_number.Tie as tie

@@ -1,9 +1,9 @@
--- `rank` ranks a word: a field of at most 28 bits leaves the kind alone. Assumes nothing.
+-- `grade` orders a word: a field of at most 28 bits leaves the kind alone. Assumes nothing.
 use native.Mathlib.Omega.{arith}
 use borrow.Author.Needs.{needs}
 use Rattle.place.proofs.Words.{field-less}
-use Rattle.place.proofs.search.rank.Statement.{statement}
-use Rattle.place.proofs.search.rank.Tie as tie
+use Rattle.place.proofs.search.grade.Statement.{statement}
+use Rattle.place.proofs.search.grade.Tie as tie
 
 kind-requires : tie.Need-kind-requires
 kind-requires c κs = search needs
@@ -25,6 +25,6 @@ add-result c = search needs
 returns : tie.Need-returns
 returns c = search needs
 
-pub rank-spec : {M : Type 1} → statement M
-rank-spec =
+pub grade-spec : {M : Type 1} → statement M
+grade-spec =
     tie.close (tie.spec kind-requires mul-result field-of-requires sub-result add-result returns)

@@ -1,4 +1,4 @@
--- `is_strike_at` looks at a word where it is one of those used. Assumes nothing.
+-- `holds_strike` looks at a word where it is one of those used. Assumes nothing.
 use mathlib.Core.Path.{_∙_}
 use native.Mathlib.Omega.{arith}
 use lib.ListN.{getD}
@@ -7,8 +7,8 @@ use Rattle.book.specs.Layout.{used, factsOf}
 use Rattle.place.specs.Search.{isHolding}
 use Rattle.place.proofs.Heads.{book-room}
 use Rattle.place.proofs.Answers.{not-used, is-used}
-use Rattle.place.proofs.lookup.is_strike_at.Statement.{statement}
-use Rattle.place.proofs.lookup.is_strike_at.Tie as tie
+use Rattle.place.proofs.lookup.holds_strike.Statement.{statement}
+use Rattle.place.proofs.lookup.holds_strike.Tie as tie
 
 used-requires : tie.Need-used-requires
 used-requires c κs = search needs
@@ -33,6 +33,6 @@ returns-2 c =
     c .holds .ensures
     ∙ is-used (a .at) (used (factsOf (a .run .now))) (isHolding 6 15 (a .h) (getD (a .run .now) (a .at) 0)) (omega arith)
 
-pub is-strike-at-spec : {M : Type 1} → statement M
-is-strike-at-spec =
+pub holds-strike-spec : {M : Type 1} → statement M
+holds-strike-spec =
     tie.close (tie.spec used-requires returns mul-holds shared-slice-read-holds holds-requires returns-2)

@@ -1,4 +1,4 @@
--- `ranked_of_16` says which words are of a rank up to `most`: the bits from bit 1 on are the digits of the words before i. Assumes nothing.
+-- `graded_of_16` says which words are of a grade up to `most`: the bits from bit 1 on are the digits of the words before i. Assumes nothing.
 use Prim.Native.Nat.{ℕ, _-_, _*_, _^_, _≤_, _<_}
 use mathlib.Core.Path.{_≡_, sym, ap, ap₂, _∙_}
 use mathlib.Core.Bool.{cond}
@@ -14,14 +14,14 @@ use lib.Seq.{take-all}
 use borrow.Author.Needs.{needs}
 use borrow.Author.Tests.{le-leb, lt-leb}
 use Rattle.word.specs.Digits.{binary}
-use Rattle.place.specs.Search.{rankOf}
+use Rattle.place.specs.Search.{gradeOf}
 use Rattle.place.proofs.Firsts.{doubled-more}
-use Rattle.place.proofs.search.ranked_of_16.Statement.{statement}
-use Rattle.place.proofs.search.ranked_of_16.Tie as tie
+use Rattle.place.proofs.search.graded_of_16.Statement.{statement}
+use Rattle.place.proofs.search.graded_of_16.Tie as tie
 
 abbrev Inv-loop : tie.InvT-loop
 Inv-loop block width most bits₀ i₀ bits i =
-    (i ≤ 16) × (bits ≡ 2 * binary (map (λ w. leb (rankOf width w) most) (take i block)))
+    (i ≤ 16) × (bits ≡ 2 * binary (map (λ w. leb (gradeOf width w) most) (take i block)))
 
 abbrev μ-loop : tie.MeasureT-loop
 μ-loop block width most bits₀ i₀ bits i = 16 - i
@@ -31,27 +31,27 @@ word-bit :
     (c : tie.Joined1 Inv-loop μ-loop)
     → let l = c .before .before .before .before .loop in
     let a = c .before .before .before .before .before .before .args in
-    c .if1 .bit ≡ 2 * cond {A = ℕ} (leb (rankOf (a .width) (getD (a .block .now) (l .i) 0)) (a .most)) (2 ^ l .i) 0
+    c .if1 .bit ≡ 2 * cond {A = ℕ} (leb (gradeOf (a .width) (getD (a .block .now) (l .i) 0)) (a .most)) (2 ^ l .i) 0
 word-bit c =
     let k = c .before in
     let i = k .before .before .before .loop .i in
     let wide : 2 ^ i < 2 ^ 31 = pow-lt {i = i} {j = 31} (omega arith) in
     ⊎-elim
-    (λ x. x .1 ∙ mod-eq-of-lt (omega arith) ∙ rw (sym (k .rank .ensures), le-leb _ _ (x .0 .taken)))
-    (λ x. x .1 ∙ rw (sym (k .rank .ensures), lt-leb _ _ (x .0 .left)))
+    (λ x. x .1 ∙ mod-eq-of-lt (omega arith) ∙ rw (sym (k .grade .ensures), le-leb _ _ (x .0 .taken)))
+    (λ x. x .1 ∙ rw (sym (k .grade .ensures), lt-leb _ _ (x .0 .left)))
     (c .if1 .came)
 
 loop-holds : tie.Need-loop-holds Inv-loop μ-loop
 loop-holds c = (omega arith, omega arith)
 
-mul-rank : tie.Need-mul-rank Inv-loop μ-loop
-mul-rank c = search needs
+mul-grade : tie.Need-mul-grade Inv-loop μ-loop
+mul-grade c = search needs
 
-shared-slice-read-rank : tie.Need-shared-slice-read-rank Inv-loop μ-loop
-shared-slice-read-rank c = search needs
+shared-slice-read-grade : tie.Need-shared-slice-read-grade Inv-loop μ-loop
+shared-slice-read-grade c = search needs
 
-rank-requires : tie.Need-rank-requires Inv-loop μ-loop
-rank-requires c κs = search needs
+grade-requires : tie.Need-grade-requires Inv-loop μ-loop
+grade-requires c κs = search needs
 
 cast-bit : tie.Need-cast-bit Inv-loop μ-loop
 cast-bit c = search needs
@@ -71,25 +71,25 @@ loop-again c =
     let a = s .before .before .args in (
       omega arith,
       ap₂ bitOr (s .loop .inv .1) (word-bit (c .before))
-          ∙ doubled-more (λ w. leb (rankOf (a .width) w) (a .most)) 0 (a .block .now) (s .loop .i) (omega arith),
+          ∙ doubled-more (λ w. leb (gradeOf (a .width) w) (a .most)) 0 (a .block .now) (s .loop .i) (omega arith),
     )
 
 returns : tie.Need-returns Inv-loop μ-loop
 returns c =
     let s = c .before in
     let a = s .before .before .args in
-    s .loop .inv .1 ∙ ap (λ (l : List ℕ). 2 * binary (map (λ w. leb (rankOf (a .width) w) (a .most)) l)) (take-all (s .loop .i) (a .block .now) (omega arith))
+    s .loop .inv .1 ∙ ap (λ (l : List ℕ). 2 * binary (map (λ w. leb (gradeOf (a .width) w) (a .most)) l)) (take-all (s .loop .i) (a .block .now) (omega arith))
 
-pub ranked-of-16-spec : {M : Type 1} → statement M
-ranked-of-16-spec =
+pub graded-of-16-spec : {M : Type 1} → statement M
+graded-of-16-spec =
     tie.close
     (tie.spec
     Inv-loop
     μ-loop
     loop-holds
-    mul-rank
-    shared-slice-read-rank
-    rank-requires
+    mul-grade
+    shared-slice-read-grade
+    grade-requires
     cast-bit
     shl-bit
     add-i

@@ -1,0 +1,11 @@
+-- What a passed range test tells: by its second comparison. Assumes nothing.
+use mathlib.Core.Path.{_≡_}
+use mathlib.Core.Bool.{true}
+use Prim.Native.Nat.{ℕ, _≤_}
+use lib.Dec.{leb}
+use borrow.Author.Tests.{leb-true}
+use Rattle.logic.proofs.Tests.{and-both}
+use Rattle.word.specs.Limits.{between}
+
+pub between-high : (low high n : ℕ) → between low high n ≡ true → n ≤ high
+between-high low high n h = leb-true n high (and-both (leb low n) (leb n high) h .1)
