@@ -13,6 +13,7 @@ use place::own::own_halves;
 use word::answer::Answer;
 use word::answer::Refusal;
 use word::class::ClassRecord;
+use word::programs::DOLLAR;
 use word::programs::is_qualified;
 
 // Whether the program's cap is reached, by its own counter.
@@ -20,7 +21,7 @@ fn is_cap_reached(run: &[u32], p: u32) -> bool
     requires { ⌜ T (isBook (now run)) × ((1 ≤ p) × (p ≤ programCount)) ⌝ }
     ensures { λ r. ⌜ r ≡ isCapReached p (factsOf (now (run .entry))) ⌝ }
 {
-    if p == 1 {
+    if p == DOLLAR {
         return own_dollars(run).is_full();
     }
     own_halves(run).is_full()

@@ -3,6 +3,8 @@ ghost use mathlib.Core.Path.{_≡_};
 ghost use Prim.Native.Nat.{_≤_};
 ghost use Rattle.rule.specs.Terms.{isDesignated, isDollarClass, isHalfClass, isLong, isOutside};
 use word::class::ClassRecord;
+use word::programs::DOLLAR;
+use word::programs::HALF;
 
 // A class and an expiration of it, seen from the current month, document 01's `now`.
 pub struct Setting {
@@ -20,15 +22,13 @@ fn is_designated(designation: u32) -> bool
 pub fn is_dollar_class(class: ClassRecord) -> bool
     ensures { λ r. ⌜ r ≡ isDollarClass class ⌝ }
 {
-    let designations = class.designations;
-    is_designated(designations[0])
+    is_designated(class.designation(DOLLAR))
 }
 
 pub fn is_half_class(class: ClassRecord) -> bool
     ensures { λ r. ⌜ r ≡ isHalfClass class ⌝ }
 {
-    let designations = class.designations;
-    is_designated(designations[1])
+    is_designated(class.designation(HALF))
 }
 
 pub fn is_long(s: Setting) -> bool

@@ -4,7 +4,11 @@ ghost use Prim.Native.Nat.{_≤_};
 ghost use Rattle.word.specs.Programs.{isProgram, program, programCount};
 use crate::class::ClassRecord;
 
-// How many there are.
+// Their numbers, and how many there are.
+pub const DOLLAR: u32 = 1;
+
+pub const HALF: u32 = 2;
+
 pub const COUNT: u32 = 2;
 
 // The lowest bits of their designations in a class word.
@@ -23,7 +27,7 @@ pub fn is_qualified(figures: ClassRecord, p: u32) -> bool
     requires { ⌜ (1 ≤ p) × (p ≤ programCount) ⌝ }
     ensures { λ r. ⌜ r ≡ program p .qualifies figures ⌝ }
 {
-    if p == 1 {
+    if p == DOLLAR {
         return figures.close < 5000;
     }
     (figures.close <= 500) & (1000 <= figures.volume)
