@@ -22,13 +22,15 @@ fn is_designated(designation: u32) -> bool
 pub fn is_dollar_class(class: ClassRecord) -> bool
     ensures { λ r. ⌜ r ≡ isDollarClass class ⌝ }
 {
-    is_designated(class.designation(DOLLAR))
+    let designations = class.designations;
+    is_designated(designations[(DOLLAR - 1) as usize])
 }
 
 pub fn is_half_class(class: ClassRecord) -> bool
     ensures { λ r. ⌜ r ≡ isHalfClass class ⌝ }
 {
-    is_designated(class.designation(HALF))
+    let designations = class.designations;
+    is_designated(designations[(HALF - 1) as usize])
 }
 
 pub fn is_long(s: Setting) -> bool

@@ -3,6 +3,7 @@ ghost use mathlib.Core.Path.{_≡_};
 ghost use Prim.Native.Nat.{_≤_};
 ghost use Rattle.word.specs.Class.{opened, withClose, withVolume, designation, withDesignation};
 ghost use Rattle.word.specs.Programs.{programCount};
+use crate::programs::DOLLAR;
 
 pub struct ClassRecord {
     pub number: u32,
@@ -56,7 +57,10 @@ impl ClassRecord {
         ensures { λ r. ⌜ r ≡ designation p self ⌝ }
     {
         let designations = self.designations;
-        designations[(p - 1) as usize]
+        if p == DOLLAR {
+            return designations[0];
+        }
+        designations[1]
     }
 
     pub fn with_designation(self, p: u32, d: u32) -> ClassRecord
@@ -64,7 +68,11 @@ impl ClassRecord {
         ensures { λ r. ⌜ r ≡ withDesignation p d self ⌝ }
     {
         let mut designations = self.designations;
-        designations[(p - 1) as usize] = d;
+        if p == DOLLAR {
+            designations[0] = d;
+        } else {
+            designations[1] = d;
+        }
         ClassRecord {
             number: self.number,
             close: self.close,
