@@ -9,7 +9,8 @@ use borrow.Author.Tests.{eq-eqb, ne-eqb}
 use Rattle.word.specs.Codec.{Word, Head}
 use Rattle.logic.specs.Lists.{every, only}
 use Rattle.book.specs.Facts.{OpenClass, Facts, number, isOpen, classOf, putClass, isBelow, inMonth}
-use Rattle.book.specs.Layout.{strikeWord, expirationUnless, seriesWords, figuresWords, classesWords, used}
+use Rattle.word.specs.Figures.{figuresWords}
+use Rattle.book.specs.Layout.{strikeWord, expirationUnless, seriesWords, classesWords, used}
 use Rattle.book.specs.Books.{isClass, isWellFormed}
 use Rattle.book.specs.Views.{class}
 use Rattle.book.specs.Places.{hasExpiration}

@@ -27,7 +27,8 @@ use Rattle.rule.specs.Spacing.{Standing}
 use Rattle.rule.specs.Judgement.{rowsOf, passesGrid, passesRange, passes, refusalOf, groundFrom, judgement}
 use Rattle.word.specs.Programs.{programs, programCount, isProgram, program, areDesignations}
 use Rattle.book.specs.Facts.{Series, OpenClass, Facts, fresh, isBelow, number, newClass, isOpen, classOf, putClass, insertClass, withFigures, withSeries, isAt, insertSeries, owned, expirations, wordsOf, wordsTaken}
-use Rattle.book.specs.Books.{isListed, isSeries, areFigures, isClass, isWellFormed}
+use Rattle.word.specs.Figures.{areFigures}
+use Rattle.book.specs.Books.{isListed, isSeries, isClass, isWellFormed}
 use Rattle.book.specs.Views.{viewOf, class, isNotOpen, isStanding, setting, standingIn, rows, groundOf, isNew, isReviewed}
 use Rattle.book.specs.Changes.{update, monthSet, classOpened, classGrown}
 use Rattle.book.specs.Calls.{Call, callM, on, callO, callC, callV, callD, callL, callJ, callX, callI, callR, callA, malformed, effectOn, isCapReached, isGranted, step, steps, after, acceptedFacts}

@@ -13,9 +13,10 @@ use Rattle.word.specs.Codec.{Word, Head, Invalid, isLegal, packed, reading}
 use Rattle.word.specs.Limits.{isLength, isMonth}
 use Rattle.logic.proofs.Tests.{and-both, and-intro, ands, T-true}
 use Rattle.word.proofs.Words.{reading-packed}
-use Rattle.book.specs.Facts.{Series, OpenClass, Facts, fresh, expirations, wordsTaken}
-use Rattle.book.specs.Layout.{strikeWord, expirationUnless, seriesWords, figuresWords, classesWords, used, layout, Tail, tailOf, addClass, addSeries, setClose, setVolume, readFrom, factsIn, factsOf}
-use Rattle.book.specs.Books.{isSeries, areFigures, isClass, isWellFormed, sameWords, isBook}
+use Rattle.book.specs.Facts.{Series, OpenClass, Facts, fresh, expirations, wordsTaken, wordsOf}
+use Rattle.word.specs.Figures.{figuresWords, areFigures}
+use Rattle.book.specs.Layout.{strikeWord, expirationUnless, seriesWords, classesWords, used, layout, Tail, tailOf, addClass, addSeries, setClose, setVolume, readFrom, factsIn, factsOf}
+use Rattle.book.specs.Books.{isSeries, isClass, isWellFormed, sameWords, isBook}
 use Rattle.book.proofs.LegalWords.{strike-legal, month-legal}
 
 -- ---- reading the words of facts
@@ -103,7 +104,7 @@ length-series [] rest = omega arith
 length-series (s ∷ ss) rest = rw (eqb·zero-suc (s .month)) (omega (arith, length-after s ss rest))
 
 length-classes :
-    (xs : List OpenClass) → length (classesWords xs []) ≡ sum (λ x. 3 + expirations (x .series) + length (x .series)) xs
+    (xs : List OpenClass) → length (classesWords xs []) ≡ sum wordsOf xs
 length-classes [] = refl
 length-classes (x ∷ xs) = omega (arith, length-series (x .series) (classesWords xs []), length-classes xs)
 

@@ -9,18 +9,20 @@ use lib.Seq.{take-at, drop-at, getD-append-add}
 use lib.Dec.{T, eqb, ltb}
 use borrow.Author.Tests.{ltb-true, ltb-false, eqb-true, eqb-false, lt-ltb, le-ltb, eq-eqb, ne-eqb}
 use Rattle.word.specs.Codec.{Word, Head, packed}
-use Rattle.word.specs.Field.{field}
+use Rattle.word.specs.Strikes.{marks, isMarkedIn}
 use Rattle.word.proofs.Fields.{field-packed}
 use Rattle.word.proofs.Words.{strike-fields}
 use Rattle.logic.specs.Lists.{every, some, only}
 use Rattle.rule.specs.Spacing.{standingOf}
 use Rattle.book.specs.Facts.{Series, Facts, number, isOpen, isAt, isMarked, inMonth}
-use Rattle.book.specs.Layout.{strikeWord, expirationUnless, seriesWords, figuresWords, classesWords, used, layout}
+use Rattle.word.specs.Figures.{figuresWords}
+use Rattle.book.specs.Layout.{strikeWord, expirationUnless, seriesWords, classesWords, used, layout}
 use Rattle.book.specs.Books.{isSeries, isWellFormed}
 use Rattle.book.specs.Views.{viewOf, class, isStanding, hasOpenInterest, standingIn}
 use Rattle.book.specs.Places.{hasExpiration, strikesPlace, strikesEnd, strikePlace}
 use Rattle.logic.proofs.Tests.{ands}
-use Rattle.book.proofs.LegalWords.{fits, strike-legal}
+use Rattle.word.proofs.RawWords.{fits}
+use Rattle.book.proofs.LegalWords.{strike-legal}
 use Rattle.logic.proofs.Lists.{every-only, length-only}
 use Rattle.book.proofs.Forms.{areSeries, well}
 use Rattle.book.proofs.Layouts.{used-taken}
@@ -78,24 +80,11 @@ standing-words now (s ∷ ss) t =
     λ i. record { strike = e .0 i; ground = e .1 i } ∷ d i
 
 -- a strike is marked exactly where its word has a mark
-marks-say : (now : ℕ) (s : Series) → T (isSeries now s) → not (eqb (field (packed (strikeWord s)) 18 2) 0) ≡ isMarked s
+marks-say : (now : ℕ) (s : Series) → T (isSeries now s) → isMarkedIn (packed (strikeWord s)) ≡ isMarked s
 marks-say now s t =
     let small = fits (strikeWord s) (strike-legal now s t) in
-    let both : field (packed (strikeWord s)) 18 2 ≡ s .put + s .call * 2 =
-    field-packed (packed (strikeWord s)) (s .strike + s .ground * 2 ^ 15) (s .put + s .call * 2) (6 * 2 ^ 8) 18 2
-    (omega arith) (omega arith) (omega arith) in
-    ap (λ (k : ℕ). not (eqb k 0)) both
-    ∙ go (s .put) (s .call) (omega arith) (omega arith) (eqb (s .put) 1) refl (eqb (s .call) 1) refl
-  where
-    go :
-        (put call : ℕ) → put ≤ 1 → call ≤ 1 → (x : Bool) → eqb put 1 ≡ x → (y : Bool) → eqb call 1 ≡ y
-        → not (eqb (put + call * 2) 0) ≡ (x || y)
-    go put call a b true e y d = ap not (ne-eqb (put + call * 2) 0 (λ z. omega (arith, eqb-true put 1 e)))
-    go put call a b false e true d = ap not (ne-eqb (put + call * 2) 0 (λ z. omega (arith, eqb-true call 1 d)))
-    go put call a b false e false d =
-        let p : put ≡ 1 → ⊥ = eqb-false put 1 e in
-        let q : call ≡ 1 → ⊥ = eqb-false call 1 d in
-        ap not (eq-eqb (put + call * 2) 0 (omega arith))
+    let e = strike-fields (packed (strikeWord s)) (s .strike) (s .ground) (s .put) (s .call) small refl in
+    λ i. marks (e .2 i) (e .3 i)
 
 -- ---- the places of an open class
 
@@ -246,7 +235,7 @@ module _ (n : ℕ) (f : Facts) (c m h : ℕ) (w : T (isWellFormed n f)) (o : T (
   -- a word that stands says whether the strike has open interest
   pub interest-says :
       T (isStanding (viewOf c f) m h)
-      → not (eqb (getD (layout n f) (strikePlace c m h f) 0 / 2 ^ 18 % 2 ^ 2) 0) ≡ hasOpenInterest (viewOf c f) m h
+      → isMarkedIn (getD (layout n f) (strikePlace c m h f) 0) ≡ hasOpenInterest (viewOf c f) m h
   interest-says t =
       let x = strike-stands t in
-      ap (λ (k : ℕ). not (eqb (field k 18 2) 0)) (x .1 .word) ∙ marks-say (f .now) (x .0) (x .1 .limits) ∙ sym (x .1 .interest)
+      ap isMarkedIn (x .1 .word) ∙ marks-say (f .now) (x .0) (x .1 .limits) ∙ sym (x .1 .interest)

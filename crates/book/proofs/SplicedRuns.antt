@@ -1,7 +1,9 @@
--- The run of a book before and after an edit of its facts: the words that stay, those of before or the new ones between them, and the zeros. By the words of both. Assumes nothing.
-use Prim.Native.Nat.{ℕ, suc, _-_}
+-- The run of a book before and after an edit of its facts: the words that stay, those of before or the new ones between
+-- them, and the zeros. By the words of both. Assumes nothing.
+use Prim.Native.Nat.{ℕ, _-_}
 use mathlib.Core.Path.{_≡_, sym, ap, _∙_}
 use mathlib.Core.List.{List, _∷_, _++_, map}
+use native.Mathlib.Omega.{arith}
 use lib.Dec.{T}
 use lib.ListN.{length, replicate, length-map}
 use Rattle.word.specs.Codec.{Word, Head, packed}
@@ -28,7 +30,7 @@ module _
   zeros = replicate (length ws - used f) 0
 
   pub place-is : at ≡ length front
-  place-is = s .place ∙ ap suc (sym (length-map (s .front) packed))
+  place-is = omega (arith, s .place, length-map (s .front) packed)
 
   pub run-was : ws ≡ front ++ (map packed old ++ (back ++ zeros))
   run-was =

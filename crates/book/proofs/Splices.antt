@@ -6,12 +6,14 @@ use mathlib.Core.List.{List, [], _∷_, _++_, map, append-assoc}
 use native.Mathlib.Omega.{arith}
 use lib.ListN.{length, length-append}
 use lib.Dec.{T, eqb, ltb, ltb→lt, eqb-refl, not-T}
+use Rattle.word.specs.Head.{firstPlace}
 use Rattle.word.specs.declared.class.ClassRecord.{ClassRecord}
 use Rattle.word.specs.Class.{opened}
 use Rattle.word.specs.Codec.{Word}
 use Rattle.logic.specs.Lists.{some, only}
 use Rattle.book.specs.Facts.{Series, OpenClass, Facts, number, newClass, isOpen, insertClass, withFigures, withSeries, isBelow, isAt, withMarks, insertSeries, wordsOf, wordsTaken}
-use Rattle.book.specs.Layout.{strikeWord, expirationUnless, seriesWords, figuresWords, classesWords, used}
+use Rattle.word.specs.Figures.{figuresWords, figuresLength}
+use Rattle.book.specs.Layout.{strikeWord, expirationUnless, seriesWords, classesWords, used}
 use Rattle.book.specs.Books.{isSeries, isWellFormed}
 use Rattle.book.specs.Views.{viewOf, class, isStanding}
 use Rattle.book.specs.Changes.{update, classOpened, strikeAdded, strikeRemoved, marksSet}
@@ -30,7 +32,7 @@ use Rattle.book.proofs.ClassWords.{classes-apart, numbers-rise, series-
 pub record Spliced (at : ℕ) (old new : List Word) (f g : Facts) : Type 0 where
   pub front : List Word
   pub back : List Word
-  pub place : at ≡ suc (length front)
+  pub place : at ≡ firstPlace + length front
   pub month : g .now ≡ f .now
   pub was : classesWords (f .classes) [] ≡ front ++ (old ++ back)
   pub is : classesWords (g .classes) [] ≡ front ++ (new ++ back)
@@ -100,12 +102,12 @@ module _ (n : ℕ) (f : Facts) (c : ℕ) (w : T (isWellFormed n f)) where
     -- the series of the class replaced
     pub series-spliced :
         (ss : List Series)
-        → Spliced (classPlace c f + 3) (seriesWords 0 (class f c .series) []) (seriesWords 0 ss []) f
+        → Spliced (classPlace c f + figuresLength) (seriesWords 0 (class f c .series) []) (seriesWords 0 ss []) f
         (update (withSeries ss (class f c)) f)
     series-spliced ss =
         let r = class f c .figures in
         class-spliced (withSeries ss (class f c)) (figuresWords r []) (seriesWords 0 (class f c .series) []) (seriesWords 0 ss [])
-        (classesWords above []) (classPlace c f + 3) (number-of c (f .classes)) refl
+        (classesWords above []) (classPlace c f + figuresLength) (number-of c (f .classes)) refl
         (ap (figuresWords r) (seriesWords-append 0 (class f c .series) [] (classesWords above [])))
         (ap (figuresWords r) (seriesWords-append 0 ss [] (classesWords above [])))
 
@@ -264,7 +266,7 @@ module _ (n : ℕ) (f : Facts) (c : ℕ) (w : T (isWellFormed n f)) (o : T (isOp
 
 -- ---- the words that they take
 
-pub words-opened : (c : ℕ) (f : Facts) → wordsTaken (classOpened c f) ≡ wordsTaken f + 3
+pub words-opened : (c : ℕ) (f : Facts) → wordsTaken (classOpened c f) ≡ wordsTaken f + figuresLength
 unfolding classOpened
 words-opened c f = omega (arith, sum-inserted isBelow wordsOf (newClass c) (f .classes))
 

@@ -5,25 +5,20 @@ use mathlib.Core.Bool.{Bool, true, false, _&&_}
 use mathlib.Core.List.{List, [], _∷_}
 use lib.ListN.{length}
 use lib.Dec.{eqb, leb}
-use Rattle.word.specs.declared.class.ClassRecord.{ClassRecord}
-use Rattle.word.specs.Limits.{isStrike, isMonth, isClassNumber, isVolume, isLength, isClose, isGround, isMark}
+use Rattle.word.specs.Limits.{isStrike, isMonth, monthsAhead, isLength, isGround, isMark}
 use Rattle.logic.specs.Lists.{every, rises}
-use Rattle.word.specs.Programs.{Program, programs, areDesignations}
+use Rattle.word.specs.Programs.{Program, programs}
+use Rattle.word.specs.Figures.{areFigures}
 use Rattle.book.specs.Facts.{Series, OpenClass, Facts, isBelow, precedes, owned, wordsTaken}
 use Rattle.book.specs.Layout.{layout, factsOf}
 
 -- "each expiration from `now` to `now` + 39"
 abbrev pub isListed : ℕ → ℕ → Bool
-isListed now m = leb now m && (leb m (now + 39) && isMonth m)
+isListed now m = leb now m && (leb m (now + monthsAhead) && isMonth m)
 
 abbrev pub isSeries : ℕ → Series → Bool
 isSeries now s =
     isStrike (s .strike) && (isGround (s .ground) && (isMark (s .put) && (isMark (s .call) && isListed now (s .month))))
-
-abbrev pub areFigures : ClassRecord → Bool
-areFigures r =
-    isClassNumber (r .number)
-    && (areDesignations programs (r .designations) && (isClose (r .close) && isVolume (r .volume)))
 
 -- "a class's expirations by month, an expiration's strikes by h, none twice"
 abbrev pub isClass : ℕ → OpenClass → Bool

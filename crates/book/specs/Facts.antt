@@ -8,6 +8,8 @@ use lib.Dec.{eqb, ltb}
 use Rattle.word.specs.declared.class.ClassRecord.{ClassRecord}
 use Rattle.word.specs.Class.{opened, designation}
 use Rattle.word.specs.Caps.{own}
+use Rattle.word.specs.Head.{firstPlace}
+use Rattle.word.specs.Figures.{figuresLength}
 use Rattle.logic.specs.Lists.{some, only, sum, inserted}
 
 -- "a set of (month, h, ground, put, call)": one standing strike of a class
@@ -108,10 +110,10 @@ expirations [] = 0
 expirations (s ∷ []) = 1
 expirations (s ∷ t ∷ ts) = cond {A = ℕ} (eqb (s .month) (t .month)) 0 1 + expirations (t ∷ ts)
 
--- the words of one class: its own three, its expirations and its strikes
+-- the words of one class: those of its figures, its expirations and its strikes
 abbrev pub wordsOf : OpenClass → ℕ
-wordsOf x = 3 + expirations (x .series) + length (x .series)
+wordsOf x = figuresLength + expirations (x .series) + length (x .series)
 
 -- "The words the facts take are 1 + 3 × classes + expirations that have strikes + strikes."
 abbrev pub wordsTaken : Facts → ℕ
-wordsTaken f = 1 + sum wordsOf (f .classes)
+wordsTaken f = firstPlace + sum wordsOf (f .classes)

@@ -1,11 +1,12 @@
 -- Document 01, "the head, first", "One of each follows its class word, close first.", "Words past those used are
 -- zero.": the words that the layout gives to facts, and the facts that it reads in words. Assumes nothing.
-use Prim.Native.Nat.{ℕ, zero, suc, _-_}
+use Prim.Native.Nat.{ℕ, zero, suc, _+_, _-_}
 use mathlib.Core.Bool.{Bool, true, false}
 use mathlib.Core.List.{List, [], _∷_, _++_, map}
 use lib.ListN.{length, replicate}
 use lib.Dec.{eqb}
-use Rattle.word.specs.declared.class.ClassRecord.{ClassRecord}
+use Rattle.word.specs.Head.{firstPlace}
+use Rattle.word.specs.Figures.{figuresWords}
 use Rattle.word.specs.Codec.{Word, Head, Class, Close, Volume, Expiration, Strike, Invalid, packed, reading}
 use Rattle.book.specs.Facts.{Series, OpenClass, Facts}
 
@@ -25,21 +26,13 @@ seriesWords p [] rest = rest
 seriesWords p (s ∷ ss) rest =
     expirationUnless (eqb p (suc (s .month))) (s .month) (strikeWord s ∷ seriesWords (suc (s .month)) ss rest)
 
--- the class word of a class's figures
-abbrev pub classWord : ClassRecord → Word
-classWord r = Class (r .number) (r .designations)
-
--- "One of each follows its class word, close first."
-abbrev pub figuresWords : ClassRecord → List Word → List Word
-figuresWords r rest = classWord r ∷ Close (r .close) ∷ Volume (r .volume) ∷ rest
-
 abbrev pub classesWords : List OpenClass → List Word → List Word
 classesWords [] rest = rest
 classesWords (x ∷ xs) rest = figuresWords (x .figures) (seriesWords 0 (x .series) (classesWords xs rest))
 
 -- the words used: the head and those of the classes
 abbrev pub used : Facts → ℕ
-used f = suc (length (classesWords (f .classes) []))
+used f = firstPlace + length (classesWords (f .classes) [])
 
 -- the run of n words: "the head, first"; "Words past those used are zero."
 unfoldable pub layout : ℕ → Facts → List ℕ

@@ -1,18 +1,20 @@
 -- Inner: where the parts of a book stand in its run, which the searches find and the edits are told. Assumes nothing.
-use Prim.Native.Nat.{ℕ, suc, _+_}
+use Prim.Native.Nat.{ℕ, _+_}
 use mathlib.Core.Path.{_≡_}
 use mathlib.Core.Bool.{Bool, cond}
 use mathlib.Core.List.{[]}
 use lib.ListN.{length}
 use lib.Dec.{T, eqb, ltb}
 use Rattle.logic.specs.Lists.{some, only}
+use Rattle.word.specs.Head.{firstPlace}
+use Rattle.word.specs.Figures.{figuresLength}
 use Rattle.book.specs.Facts.{Facts, number, isOpen, inMonth}
 use Rattle.book.specs.Layout.{seriesWords, classesWords}
 use Rattle.book.specs.Views.{class, viewOf, isStanding}
 
 -- the index of the class word c, or of the word before which it would stand
 abbrev pub classPlace : ℕ → Facts → ℕ
-classPlace c f = suc (length (classesWords (only (λ x. ltb (number x) c) (f .classes)) []))
+classPlace c f = firstPlace + length (classesWords (only (λ x. ltb (number x) c) (f .classes)) [])
 
 -- whether the expiration m of the class c has strikes
 abbrev pub hasExpiration : ℕ → ℕ → Facts → Bool
@@ -21,7 +23,7 @@ hasExpiration c m f = some (λ s. eqb (s .month) m) (class f c .series)
 -- of the open class c: the index of the expiration word m, or of the word before which it would stand
 abbrev pub expirationPlace : ℕ → ℕ → Facts → ℕ
 expirationPlace c m f =
-    classPlace c f + 3 + length (seriesWords 0 (only (λ s. ltb (s .month) m) (class f c .series)) [])
+    classPlace c f + figuresLength + length (seriesWords 0 (only (λ s. ltb (s .month) m) (class f c .series)) [])
 
 -- the index of the first strike of the expiration m; where it has none, of the word before which the expiration word
 -- would stand

@@ -13,12 +13,14 @@ use Rattle.word.specs.Class.{opened}
 use Rattle.word.specs.Field.{field}
 use Rattle.word.proofs.Words.{strike-fields}
 use Rattle.book.specs.Facts.{Facts, withFigures}
-use Rattle.book.specs.Layout.{classWord, expirationUnless, figuresWords, strikeWord, layout, factsOf}
-use Rattle.book.specs.Books.{areFigures, isBook}
+use Rattle.word.specs.Figures.{classWord, figuresWords, areFigures}
+use Rattle.book.specs.Layout.{expirationUnless, strikeWord, layout, factsOf}
+use Rattle.book.specs.Books.{isBook}
 use Rattle.book.specs.Views.{class}
 use Rattle.book.specs.Changes.{update, newSeries, strikeAdded, marksSet, classOpened}
 use Rattle.book.specs.Places.{StrikeStands, classPlace}
-use Rattle.book.proofs.LegalWords.{fits, strike-legal, figures-legal}
+use Rattle.word.proofs.RawWords.{fits, figures-legal}
+use Rattle.book.proofs.LegalWords.{strike-legal}
 use Rattle.logic.proofs.Tests.{and-intro}
 use Rattle.book.proofs.Splices.{figures-spliced, opened-spliced, listed-spliced, marking}
 use Rattle.book.proofs.Runs.{strike-within, standing-within}
@@ -83,7 +85,7 @@ module _ (ws : List ℕ) (at : ℕ) where
 
   pub marks-stored :
       (a b : ℕ) → T (isBook ws) → (x : StrikeStands f at)
-      → set ws at (packed (Strike (field (getD ws at 0) 0 15) (field (getD ws at 0) 15 3) a b))
+      → set ws at (packed (Strike (keyOf strikeKind (getD ws at 0)) (field (getD ws at 0) groundField) a b))
       ≡ layout (length ws) (update (marksSet (x .month) (x .strike) a b (class f (x .class))) f)
   marks-stored a b t x =
       let one = marking (length ws) f (x .class) (book-good ws t) (x .is-open) (x .month) (x .strike) (x .standing) in
@@ -94,8 +96,8 @@ module _ (ws : List ℕ) (at : ℕ) where
       let read =
       strike-fields (packed (strikeWord it)) (it .strike) (it .ground) (it .put) (it .call)
       (fits (strikeWord it) (strike-legal (f .now) it (one .limits))) refl in
-      let strike = ap (λ (w : ℕ). field w 0 15) old ∙ read .0 in
-      let ground = ap (λ (w : ℕ). field w 15 3) old ∙ read .1 in
+      let strike = ap (λ (w : ℕ). keyOf strikeKind w) old ∙ read .0 in
+      let ground = ap (λ (w : ℕ). field w groundField) old ∙ read .1 in
       (λ i. set ws (e i) (packed (Strike (strike i) (ground i) a b)))
       ∙ stored ws t (one .spliced a b) refl
 

@@ -9,7 +9,8 @@ use Rattle.word.specs.declared.class.ClassRecord.{ClassRecord}
 use Rattle.word.specs.Limits.{isClassNumber, isGround, isMark, isMonth, isStrike}
 use Rattle.book.specs.Facts.{isOpen}
 use Rattle.book.specs.Layout.{factsOf, used}
-use Rattle.book.specs.Books.{areFigures, isBook}
+use Rattle.word.specs.Figures.{areFigures, figuresLength}
+use Rattle.book.specs.Books.{isBook}
 use Rattle.book.specs.Views.{viewOf, isStanding}
 use Rattle.book.specs.Places.{StrikeStands, classPlace, hasExpiration, strikePlace}
 
@@ -33,7 +34,7 @@ pub record Openable (ws : List ℕ) (at c : ℕ) : Type 0 where
   pub number : T (isClassNumber c)
   pub is-closed : T (not (isOpen c (factsOf ws .classes)))
   pub place : at ≡ classPlace c (factsOf ws)
-  pub room : used (factsOf ws) + 3 ≤ length ws
+  pub room : used (factsOf ws) + figuresLength ≤ length ws
 
 -- the strike h of the month m can be put in at `at`: it does not stand, would stand there in a class that is open and
 -- whose expiration has strikes where `stands` says so, and words are left for it

@@ -11,7 +11,7 @@ use Rattle.word.specs.Limits.{highestStrike}
 use Rattle.word.specs.declared.answer.Answer.{Answer}
 use Rattle.word.specs.declared.answer.Answer.the-variants.{Listed, Refused}
 use Rattle.word.specs.declared.answer.Refusal.the-variants.{OutOfWords}
-use Rattle.word.specs.Field.{field}
+use Rattle.word.specs.Kinds.{keyOf, strikeKind}
 use Rattle.rule.specs.declared.terms.Setting.{Setting}
 use Rattle.logic.specs.Lists.{Rising, only, upFrom}
 use Rattle.rule.specs.declared.bounds.Rung.{Rung}
@@ -23,7 +23,7 @@ use Rattle.permitted.specs.declared.Range.{Range}
 
 -- the strike of a strike word: "h in bits 0–14"
 abbrev pub strikeIn : ℕ → ℕ
-strikeIn w = field w 0 15
+strikeIn w = keyOf strikeKind w
 
 -- the strike at an index, or one above all strikes where the words end
 abbrev pub standingStrike : List ℕ → ℕ → ℕ

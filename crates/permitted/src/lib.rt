@@ -26,7 +26,8 @@ use rule::terms::Setting;
 use rule::terms::is_long;
 use word::answer::Answer;
 use word::answer::Refusal;
-use word::field::field_of;
+use word::kind::STRIKE;
+use word::kind::key;
 use word::strike::Strike;
 
 // How far a list is: the standing strikes before `from` are far below the strikes to come, and `count` strikes are
@@ -49,7 +50,7 @@ fn strike_from(standing: &[u32], at: usize, low: u32) -> usize
 {
     let mut i = at;
     while i < standing.len() {
-        if low <= field_of(standing[i], 0, 15) {
+        if low <= key(standing[i], STRIKE) {
             return i;
         }
         i += 1;
@@ -62,7 +63,7 @@ fn strike_at(standing: &[u32], at: usize) -> u32
     ensures { λ r. ⌜ r ≡ standingStrike (now (standing .entry)) at ⌝ }
 {
     if at < standing.len() {
-        return field_of(standing[at], 0, 15);
+        return key(standing[at], STRIKE);
     }
     65535
 }
@@ -73,7 +74,7 @@ fn is_absent(near: &[u32], h: u32) -> bool
 {
     let mut i: usize = 0;
     while i < near.len() {
-        if field_of(near[i], 0, 15) == h {
+        if key(near[i], STRIKE) == h {
             return false;
         }
         i += 1;

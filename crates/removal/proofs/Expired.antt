@@ -10,7 +10,8 @@ use borrow.Author.Tests.{lt-leb}
 use Rattle.word.specs.Codec.{Word, isLegal, packed}
 use Rattle.logic.specs.Lists.{every, only}
 use Rattle.book.specs.Facts.{Series, inMonth, OpenClass, number, withSeries}
-use Rattle.book.specs.Layout.{seriesWords, figuresWords, classesWords}
+use Rattle.word.specs.Figures.{figuresWords}
+use Rattle.book.specs.Layout.{seriesWords, classesWords}
 use Rattle.book.specs.Books.{isClass}
 use Rattle.logic.proofs.Tests.{ands, T-true, true-T}
 use Rattle.logic.proofs.Lists.{every-imply, every-true}
@@ -27,9 +28,9 @@ use Rattle.place.proofs.Laid.{first-after, every-series, not-from}
 
 next-class :
     (ss : List Series) (xs : List OpenClass) → T (every isLegal (seriesWords 0 ss [] ++ classesWords xs []))
-    → firstAt (isUpTo 2 14 0) (map packed (seriesWords 0 ss [] ++ classesWords xs [])) ≡ length (seriesWords 0 ss [])
+    → firstAt (isUpTo classKind 0) (map packed (seriesWords 0 ss [] ++ classesWords xs [])) ≡ length (seriesWords 0 ss [])
 next-class ss xs legal =
-    first-after (isUpTo 2 14 0) (isEnding 2 0) (up-to-packed 2 0 (omega arith) (omega arith)) (seriesWords 0 ss [])
+    first-after (isUpTo classKind 0) (isEnding 2 0) (up-to-packed 2 0 (omega arith) (omega arith)) (seriesWords 0 ss [])
     (classesWords xs []) legal (every-series (λ w. not (isEnding 2 0 w)) 0 ss [] (every-true ss) tt) (stops xs)
   where
     stops : (ys : List OpenClass) → firstAt (isEnding 2 0) (classesWords ys []) ≡ 0
@@ -94,8 +95,8 @@ module _ (m : ℕ) where
     pub left :
         classesWords (map keptFrom (x ∷ xs)) []
         ≡ figuresWords (x .figures) [] ++ (staying ++ classesWords (map keptFrom xs) [])
-    pub stays : firstAt (isUpTo 5 10 m) (map packed (going ++ (staying ++ classesWords xs []))) ≡ length going
-    pub next : firstAt (isUpTo 2 14 0) (map packed (staying ++ classesWords xs [])) ≡ length staying
+    pub stays : firstAt (isUpTo expirationKind m) (map packed (going ++ (staying ++ classesWords xs []))) ≡ length going
+    pub next : firstAt (isUpTo classKind 0) (map packed (staying ++ classesWords xs [])) ≡ length staying
 
   pub class-parts :
       m < 2 ^ 28 → (now : ℕ) (x : OpenClass) (xs : List OpenClass) → T (every (isClass now) (x ∷ xs)) → ClassParts x xs
@@ -126,7 +127,7 @@ module _ (m : ℕ) where
         left =
             ap (λ (l : List Word). figures ++ l) (seriesWords-append 0 (later ss) [] (classesWords (map keptFrom xs) []));
         stays =
-            first-after (isUpTo 5 10 m) (isEnding 5 m) (up-to-packed 5 m small (omega arith)) going (staying ++ rest)
+            first-after (isUpTo expirationKind m) (isEnding 5 m) (up-to-packed 5 m small (omega arith)) going (staying ++ rest)
             legal (passes-earlier earlier before) (ap (firstAt (isEnding 5 m)) (sym apart) ∙ stops-later (later ss) xs kept);
         next = next-class (later ss) xs (every-split isLegal going (staying ++ rest) legal .1);
       }

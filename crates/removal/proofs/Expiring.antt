@@ -10,7 +10,8 @@ use borrow.Rule.Slice.PartMut.{putMid, mid-len}
 use Rattle.word.specs.Codec.{Word, Head, packed}
 use Rattle.logic.specs.Lists.{every}
 use Rattle.book.specs.Facts.{OpenClass, Facts}
-use Rattle.book.specs.Layout.{figuresWords, classesWords, used, layout, factsOf}
+use Rattle.word.specs.Figures.{figuresWords, figuresLength}
+use Rattle.book.specs.Layout.{classesWords, used, layout, factsOf}
 use Rattle.book.specs.Books.{isClass, isBook}
 use Rattle.book.specs.Changes.{monthSet}
 use Rattle.logic.proofs.Tests.{ands}
@@ -74,15 +75,15 @@ module _ (m : ℕ) (ws : List ℕ) where
 
   -- the words of the class at `at`, by what goes and what stays, and those of the classes after it
   pub record AtClass (run : List ℕ) (written kept at : ℕ) : Type 0 where
-    pub three : at + 3 ≤ used facts
+    pub three : at + figuresLength ≤ used facts
     pub going : List Word
     pub staying : List Word
     pub after : List OpenClass
     pub good : T (every (isClass (facts .now)) after)
-    pub words : stretch (at + 3) (used facts) ws ≡ map packed going ++ (map packed staying ++ map packed (classesWords after []))
-    pub stays : firstAt (isUpTo 5 10 m) (stretch (at + 3) (used facts) ws) ≡ length going
-    pub next : firstAt (isUpTo 2 14 0) (map packed staying ++ map packed (classesWords after [])) ≡ length staying
-    pub made : take written run ++ (stretch kept (at + 3) ws ++ (map packed staying ++ left after)) ≡ whole
+    pub words : stretch (at + figuresLength) (used facts) ws ≡ map packed going ++ (map packed staying ++ map packed (classesWords after []))
+    pub stays : firstAt (isUpTo expirationKind m) (stretch (at + figuresLength) (used facts) ws) ≡ length going
+    pub next : firstAt (isUpTo classKind 0) (map packed staying ++ map packed (classesWords after [])) ≡ length staying
+    pub made : take written run ++ (stretch kept (at + figuresLength) ws ++ (map packed staying ++ left after)) ≡ whole
 
   module _ {run : List ℕ} {written kept at : ℕ} (E : Expiring run written kept at) where
     pub at-class : m < 2 ^ 28 → at < used facts → AtClass run written kept at
@@ -99,7 +100,7 @@ module _ (m : ℕ) (ws : List ℕ) where
             let rest = p .going ++ (p .staying ++ classesWords xs []) in
             let words : stretch at (used facts) ws ≡ map packed figures ++ map packed rest =
             ahead ∙ ap (map packed) (p .are) ∙ map-append packed figures rest in
-            let three : at + 3 ≤ used facts =
+            let three : at + figuresLength ≤ used facts =
             omega (
               arith,
               mid-len at (used facts) ws (E .room),
@@ -107,7 +108,7 @@ module _ (m : ℕ) (ws : List ℕ) where
               length-append (map packed figures) (map packed rest),
             ) in
             let known =
-            stretch-known at (at + 3) (used facts) ws (omega arith) three (E .room) (map packed figures) (map packed rest) words
+            stretch-known at (at + figuresLength) (used facts) ws (omega arith) three (E .room) (map packed figures) (map packed rest) words
             (omega arith) in
             let apart : map packed rest ≡ map packed (p .going) ++ (map packed (p .staying) ++ map packed (classesWords xs [])) =
             simp map-append in
@@ -118,12 +119,12 @@ module _ (m : ℕ) (ws : List ℕ) where
               after = xs;
               good = search ands;
               words = known .1 ∙ apart;
-              stays = ap (firstAt (isUpTo 5 10 m)) (known .1) ∙ p .stays;
+              stays = ap (firstAt (isUpTo expirationKind m)) (known .1) ∙ p .stays;
               next =
-                  ap (firstAt (isUpTo 2 14 0)) (sym (map-append packed (p .staying) (classesWords xs []))) ∙ p .next;
+                  ap (firstAt (isUpTo classKind 0)) (sym (map-append packed (p .staying) (classesWords xs []))) ∙ p .next;
               made =
                   ap (λ (l : List ℕ). take written run ++ (l ++ (map packed (p .staying) ++ left xs)))
-                  (stretch-parts kept at (at + 3) ws (E .passed) (omega arith)
+                  (stretch-parts kept at (at + figuresLength) ws (E .passed) (omega arith)
                   ∙ ap (λ (l : List ℕ). stretch kept at ws ++ l) (known .0))
                   ∙ regroup (take written run) (stretch kept at ws) figures (p .staying) (classesWords (map (keptFrom m) xs) [])
                   ∙ ap (λ (l : List Word). take written run ++ (stretch kept at ws ++ map packed l)) (sym (p .left))
@@ -138,40 +139,40 @@ module _ (m : ℕ) (ws : List ℕ) where
     -- where what stays begins
     module _
         (C : AtClass run written kept at) (stays : ℕ)
-        (e : stays ≡ at + 3 + firstAt (isUpTo 5 10 m) (stretch (at + 3) (used facts) run)) where
-      there : stays ≡ at + 3 + length (C .going)
+        (e : stays ≡ at + figuresLength + firstAt (isUpTo expirationKind m) (stretch (at + figuresLength) (used facts) run)) where
+      there : stays ≡ at + figuresLength + length (C .going)
       there =
           let l = E .passed in
           e
-          ∙ ap (λ (l : List ℕ). at + 3 + firstAt (isUpTo 5 10 m) (take (used facts - (at + 3)) l))
-          (drop-later kept (at + 3) run ws (omega arith) (E .unread))
-          ∙ ap (λ (k : ℕ). at + 3 + k) (C .stays)
+          ∙ ap (λ (l : List ℕ). at + figuresLength + firstAt (isUpTo expirationKind m) (take (used facts - (at + figuresLength)) l))
+          (drop-later kept (at + figuresLength) run ws (omega arith) (E .unread))
+          ∙ ap (λ (k : ℕ). at + figuresLength + k) (C .stays)
 
       -- the turn is done: what is written now, and what is still to be moved
       expire-next :
           (run′ : List ℕ) (written′ kept′ next : ℕ) → length run′ ≡ length ws → 1 ≤ written′ → written′ ≤ kept′
           → kept′ ≤ stays → drop kept′ run′ ≡ drop kept′ ws
-          → take written′ run′ ++ stretch kept′ stays ws ≡ take written run ++ stretch kept (at + 3) ws
-          → next ≡ stays + firstAt (isUpTo 2 14 0) (stretch stays (used facts) run′)
+          → take written′ run′ ++ stretch kept′ stays ws ≡ take written run ++ stretch kept (at + figuresLength) ws
+          → next ≡ stays + firstAt (isUpTo classKind 0) (stretch stays (used facts) run′)
           → Expiring run′ written′ kept′ next
       expire-next run′ written′ kept′ next long begun behind passed unread same n =
           let staying = map packed (C .staying) in
           let rest = map packed (classesWords (C .after) []) in
-          let parts : length (stretch (at + 3) (used facts) ws) ≡ length (C .going) + (length (C .staying) + length rest) =
+          let parts : length (stretch (at + figuresLength) (used facts) ws) ≡ length (C .going) + (length (C .staying) + length rest) =
           ap length (C .words) ∙ simp (length-append, length-map) in
-          let size : length (stretch (at + 3) (used facts) ws) ≡ used facts - (at + 3) =
-          mid-len (at + 3) (used facts) ws (E .room) in
+          let size : length (stretch (at + figuresLength) (used facts) ws) ≡ used facts - (at + figuresLength) =
+          mid-len (at + figuresLength) (used facts) ws (E .room) in
           let three = C .three in
           let gone = length-map (C .going) packed in
           let stood = length-map (C .staying) packed in
           let from-stays =
-          stretch-known (at + 3) stays (used facts) ws (omega (arith, there)) (omega (arith, there)) (E .room)
+          stretch-known (at + figuresLength) stays (used facts) ws (omega (arith, there)) (omega (arith, there)) (E .room)
           (map packed (C .going)) (staying ++ rest) (C .words) (omega (arith, there)) .1 in
           let to : next ≡ stays + length (C .staying) =
           n
-          ∙ ap (λ (l : List ℕ). stays + firstAt (isUpTo 2 14 0) (take (used facts - stays) l))
+          ∙ ap (λ (l : List ℕ). stays + firstAt (isUpTo classKind 0) (take (used facts - stays) l))
           (drop-later kept′ stays run′ ws passed unread)
-          ∙ ap (λ (l : List ℕ). stays + firstAt (isUpTo 2 14 0) l) from-stays
+          ∙ ap (λ (l : List ℕ). stays + firstAt (isUpTo classKind 0) l) from-stays
           ∙ ap (λ (k : ℕ). stays + k) (C .next) in
           let known =
           stretch-known stays next (used facts) ws (omega arith) (omega (arith, there)) (E .room) staying rest from-stays
@@ -193,7 +194,7 @@ module _ (m : ℕ) (ws : List ℕ) where
                 ∙ ap (λ (l : List ℕ). stretch kept′ stays ws ++ l) (known .0))
                 ∙ regroup (take written′ run′) (stretch kept′ stays ws) staying (left (C .after))
                 ∙ ap (λ (l : List ℕ). l ++ (staying ++ left (C .after))) same
-                ∙ append-assoc (take written run) (stretch kept (at + 3) ws) (staying ++ left (C .after))
+                ∙ append-assoc (take written run) (stretch kept (at + figuresLength) ws) (staying ++ left (C .after))
                 ∙ C .made;
           }
         where
@@ -202,19 +203,19 @@ module _ (m : ℕ) (ws : List ℕ) where
 
       -- no month goes
       pub expire-stay :
-          (next : ℕ) → stays ≤ at + 3 → next ≡ stays + firstAt (isUpTo 2 14 0) (stretch stays (used facts) run)
+          (next : ℕ) → stays ≤ at + figuresLength → next ≡ stays + firstAt (isUpTo classKind 0) (stretch stays (used facts) run)
           → Expiring run written kept next
       expire-stay next l n =
           let p = E .passed in
-          let q : stays ≡ at + 3 = omega (arith, there) in
+          let q : stays ≡ at + figuresLength = omega (arith, there) in
           expire-next run written kept next (E .long) (E .begun) (E .behind) (omega arith) (E .unread)
           (ap (λ (k : ℕ). take written run ++ stretch kept k ws) q) n
 
       -- the words before those that go are moved
       pub expire-move :
           (run′ : List ℕ) (written′ next : ℕ) → length run′ ≡ length run → stays ≤ used facts
-          → MovedTo written kept (at + 3) run run′ → written′ ≡ written + (at + 3 - kept)
-          → next ≡ stays + firstAt (isUpTo 2 14 0) (stretch stays (used facts) run′)
+          → MovedTo written kept (at + figuresLength) run run′ → written′ ≡ written + (at + figuresLength - kept)
+          → next ≡ stays + firstAt (isUpTo classKind 0) (stretch stays (used facts) run′)
           → Expiring run′ written′ stays next
       expire-move run′ written′ next long l M w n =
           let p = E .passed in
@@ -222,13 +223,13 @@ module _ (m : ℕ) (ws : List ℕ) where
           let d = E .behind in
           let none : stays - stays ≡ 0 = omega arith in
           expire-next run′ written′ stays next (long ∙ E .long) (omega arith) (omega (arith, there)) (omega arith)
-          (drop-later (at + 3) stays run′ ws (omega (arith, there))
-          (M .past ∙ drop-later kept (at + 3) run ws (omega arith) (E .unread)))
+          (drop-later (at + figuresLength) stays run′ ws (omega (arith, there))
+          (M .past ∙ drop-later kept (at + figuresLength) run ws (omega arith) (E .unread)))
           (ap (λ (k : ℕ). take written′ run′ ++ take k (drop stays ws)) none
           ∙ append-nil (take written′ run′)
           ∙ ap (λ (k : ℕ). take k run′) w
           ∙ M .front
-          ∙ ap (λ (l : List ℕ). take written run ++ take (at + 3 - kept) l) (E .unread))
+          ∙ ap (λ (l : List ℕ). take written run ++ take (at + figuresLength - kept) l) (E .unread))
           n
 
     -- ---- no class is left

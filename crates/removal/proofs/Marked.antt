@@ -7,7 +7,7 @@ use native.Mathlib.Omega.{arith}
 use lib.ListN.{length, getD, drop, drop-of-length-le}
 use lib.Seq.{drop-cons}
 use Rattle.word.specs.Field.{field}
-use Rattle.word.specs.Codec.{kindOf}
+use Rattle.word.specs.Kinds.{kindOf}
 use Rattle.removal.specs.declared.marks.Bounds.{Bounds}
 use Rattle.removal.specs.Marks.{noneMarked, withStrike, boundsIn}
 use Rattle.removal.proofs.Said.{said-is, by-other}
@@ -18,8 +18,8 @@ pub record Looking (ws : List ℕ) (b : Bounds) (i : ℕ) : Type 0 where
 
 module _ {ws : List ℕ} {b : Bounds} {i : ℕ} (L : Looking ws b i) where
   pub look-more :
-      {b′ : Bounds} (w : ℕ) → w ≡ getD ws i 0 → i < length ws → kindOf w ≡ 6
-      → b′ ≡ withStrike b (field w 0 15) (field w 18 1) (field w 19 1) → Looking ws b′ (i + 1)
+      {b′ : Bounds} (w : ℕ) → w ≡ getD ws i 0 → i < length ws → kindOf w ≡ strikeKind .number
+      → b′ ≡ withStrike b (keyOf strikeKind w) (field w putField) (field w callField) → Looking ws b′ (i + 1)
   look-more w ew h k e = record {
     within = omega arith;
     rest =
@@ -27,7 +27,7 @@ module _ {ws : List ℕ} {b : Bounds} {i : ℕ} (L : Looking ws b i) where
         (sym (rw (drop-cons ws i 0 h, ← ew, said-is w 6 k)) ∙ L .rest);
   }
 
-  pub look-stop : i < length ws → (kindOf (getD ws i 0) ≡ 6 → ⊥) → b ≡ boundsIn noneMarked ws
+  pub look-stop : i < length ws → (kindOf (getD ws i 0) ≡ strikeKind .number → ⊥) → b ≡ boundsIn noneMarked ws
   look-stop h n =
       let strike : (h ground put call : ℕ) → Bounds =
       λ h ground put call. boundsIn (withStrike b h put call) (drop (suc i) ws) in

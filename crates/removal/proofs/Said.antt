@@ -4,9 +4,10 @@ use mathlib.Core.Path.{_≡_, refl, ap}
 use mathlib.Core.Bool.{Bool, true, false, cond}
 use lib.Dec.{T, eqb}
 use borrow.Author.Tests.{eqb-true, ne-eqb}
-use Rattle.word.specs.Codec.{Word, Head, Class, Close, Volume, Expiration, Strike, Invalid, isLegal, packed, fieldsAs, kindOf}
+use Rattle.word.specs.Kinds.{kindOf}
+use Rattle.word.specs.Codec.{Word, Head, Class, Close, Volume, Expiration, Strike, Invalid, isLegal, packed, fieldsAs}
 use Rattle.word.proofs.Words.{fields-packed}
-use Rattle.book.proofs.LegalWords.{fits}
+use Rattle.word.proofs.RawWords.{fits}
 use Rattle.removal.specs.Marks.{said, byKind}
 
 pub choose : {A : Type 0} (P : A → Type 0) (b : Bool) (x y : A) → (b ≡ true → P x) → (b ≡ false → P y) → P (cond b x y)
@@ -25,7 +26,7 @@ said-packed x legal = fields-packed x (fits x legal)
 module _ {A : Type 0} (expiration : A) (strike : (h ground put call : ℕ) → A) (other : A) where
   -- a word that is no strike, and no expiration that makes a difference
   pub by-other :
-      (w : ℕ) → (kindOf w ≡ 6 → ⊥) → (kindOf w ≡ 5 → expiration ≡ other)
+      (w : ℕ) → (kindOf w ≡ strikeKind .number → ⊥) → (kindOf w ≡ expirationKind .number → expiration ≡ other)
       → byKind expiration strike other (said w) ≡ other
   unfolding said
   by-other w n e =

@@ -8,7 +8,7 @@ use lib.Dec.{eqb}
 use lib.ListN.{length, getD, take, drop, replicate}
 use lib.Seq.{sets, length-take-le}
 use borrow.Rule.Slice.PartMut.{putMid}
-use Rattle.word.specs.Codec.{kindOf}
+use Rattle.word.specs.Kinds.{kindOf}
 use Rattle.removal.specs.declared.compaction.CompactionState.{CompactionState}
 use Rattle.removal.specs.declared.compaction.Step.{Step}
 use Rattle.removal.specs.Runs.{Pass}
@@ -51,7 +51,7 @@ sound-step close k w ws =
     (said w)
 
 pub step-other :
-    (close : ℕ) (k : CompactionState) (w : ℕ) (ws : List ℕ) → (kindOf w ≡ 6 → ⊥) → (kindOf w ≡ 5 → ⊥)
+    (close : ℕ) (k : CompactionState) (w : ℕ) (ws : List ℕ) → (kindOf w ≡ strikeKind .number → ⊥) → (kindOf w ≡ expirationKind .number → ⊥)
     → stepAt close k w ws ≡ otherStep k w
 unfolding stepAt
 step-other close k w ws n m =

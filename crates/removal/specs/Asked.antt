@@ -5,6 +5,7 @@ use mathlib.Core.Bool.{Bool}
 use mathlib.Core.List.{List, []}
 use lib.Dec.{T, eqb}
 use lib.ListN.{length}
+use Rattle.word.specs.Figures.{figuresLength}
 use Rattle.book.specs.Facts.{isOpen}
 use Rattle.book.specs.Layout.{factsOf, seriesWords}
 use Rattle.book.specs.Books.{isBook}
@@ -27,7 +28,7 @@ pub record Reviewable (ws : List ℕ) (from to price : ℕ) : Type 0 where
   pub book : T (isBook ws)
   pub number : ℕ
   pub is-open : T (isOpen number (factsOf ws .classes))
-  pub begins : from ≡ classPlace number (factsOf ws) + 3
+  pub begins : from ≡ classPlace number (factsOf ws) + figuresLength
   pub ends : to ≡ from + length (seriesWords 0 (class (factsOf ws) number .series) [])
   pub close : price ≡ class (factsOf ws) number .figures .close
 

@@ -3,7 +3,8 @@ use Prim.Native.Nat.{ℕ, _+_, min, max}
 use mathlib.Core.Bool.{Bool, cond, _||_}
 use mathlib.Core.List.{List, [], _∷_}
 use lib.Dec.{eqb}
-use Rattle.word.specs.Codec.{Word, Head, Class, Close, Volume, Expiration, Strike, Invalid, fieldsAs, kindOf}
+use Rattle.word.specs.Kinds.{kindOf}
+use Rattle.word.specs.Codec.{Word, Head, Class, Close, Volume, Expiration, Strike, Invalid, fieldsAs}
 use Rattle.removal.specs.declared.marks.Bounds.{Bounds}
 
 -- the fields of the word w by its kind, whatever their limits: in a book, what was packed

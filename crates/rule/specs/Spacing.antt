@@ -4,6 +4,7 @@ use mathlib.Core.Bool.{Bool, not, _&&_}
 use mathlib.Core.List.{List}
 use lib.Dec.{leb, eqb}
 use Rattle.word.specs.Field.{field}
+use Rattle.word.specs.Kinds.{keyOf, strikeKind, groundField}
 use Rattle.rule.specs.declared.terms.Setting.{Setting}
 use Rattle.logic.specs.Lists.{every}
 use Rattle.rule.specs.Terms.{cents, isLong}
@@ -15,7 +16,7 @@ pub record Standing : Type 0 where
 
 -- the strike of a strike word: "h in bits 0–14, ground in 15–17"
 abbrev pub standingOf : ℕ → Standing
-standingOf w = record { strike = field w 0 15; ground = field w 15 3 }
+standingOf w = record { strike = keyOf strikeKind w; ground = field w groundField }
 
 abbrev pub apart : ℕ → ℕ → ℕ
 apart a b = (a - b) + (b - a)

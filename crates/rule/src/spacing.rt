@@ -6,6 +6,9 @@ ghost use Rattle.rule.specs.Judgement.{Judged};
 use crate::terms::Setting;
 use crate::terms::is_long;
 use word::field::field_of;
+use word::kind::STRIKE;
+use word::kind::key;
+use word::strike::GROUND;
 use word::strike::Strike;
 
 pub fn distance(a: u32, b: u32) -> u32
@@ -32,8 +35,8 @@ pub fn is_clear(s: Setting, g: u32, strike: Strike, w: u32) -> bool
     requires { ⌜ Judged s (strike .0) ⌝ }
     ensures { λ r. ⌜ r ≡ clears s g (strike .0) (standingOf w) ⌝ }
 {
-    let other = Strike(field_of(w, 0, 15));
-    let ground = field_of(w, 15, 3);
+    let other = Strike(key(w, STRIKE));
+    let ground = field_of(w, GROUND);
     !((g == 1) & (ground == 0) & is_crowded(strike, other))
         & !((g == 0) & (ground == 1) & is_crowded(other, strike))
         & !(is_long(s) & (distance(strike.cents(), other.cents()) <= 100))

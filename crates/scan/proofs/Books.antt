@@ -10,39 +10,32 @@ use lib.Seq.{drop-cons, drop-drop, take-nil, take-all, take-at, drop-at, length-
 use lib.Dec.{T, eqb, leb, ltb, leb→le, le→leb, eqb→eq}
 use borrow.Author.Tests.{not-true, not-false}
 use Rattle.logic.specs.Lists.{rises, every}
+use Rattle.word.specs.Kinds.{headKind, usedField}
+use Rattle.word.specs.Head.{isHead, firstPlace, monthIn, usedIn}
 use Rattle.word.specs.Codec.{Head, isLegal, packed}
-use Rattle.word.specs.Limits.{isLength, isMonth}
+use Rattle.word.specs.Limits.{isLength, isMonth, longestRun, lastMonth}
 use Rattle.word.specs.Programs.{program}
-use Rattle.word.specs.Field.{field}
+use Rattle.word.specs.Field.{end}
 use Rattle.book.specs.Facts.{OpenClass, Facts, number, owned, wordsTaken}
 use Rattle.book.specs.Layout.{classesWords, used, layout, factsOf}
 use Rattle.book.specs.Books.{isClass, isWellFormed, isBook}
 use Rattle.word.proofs.Words.{head-fields}
-use Rattle.book.proofs.LegalWords.{fits}
+use Rattle.word.proofs.RawWords.{fits, bare, head-packed, head-bare}
 use Rattle.logic.proofs.Tests.{and-intro, ands, true-T, same-bool, refuted}
 use Rattle.book.proofs.Forms.{well}
 use Rattle.book.proofs.Layouts.{used-taken, book-facts, book-exactly}
-use Rattle.scan.specs.Tests.{isZero, isHeadWord}
-use Rattle.scan.specs.Stretches.{leads, Classes}
-use Rattle.scan.proofs.Words.{head-packed, head-top}
+use Rattle.scan.specs.Stretches.{leads, Classes, isZero}
 use Rattle.scan.proofs.Zeros.{zeros-replicate, replicate-zeros}
-
--- what the head says: the month, and how many words are used
-abbrev pub monthIn : List ℕ → ℕ
-monthIn ws = field (getD ws 0 0) 0 10
-
-abbrev pub usedIn : List ℕ → ℕ
-usedIn ws = field (getD ws 0 0) 10 16
 
 -- the words used after the head, and those past them
 abbrev pub front : List ℕ → List ℕ
-front ws = take (usedIn ws - 1) (drop 1 ws)
+front ws = take (usedIn ws - firstPlace) (drop firstPlace ws)
 
 abbrev pub past : List ℕ → List ℕ
 past ws = take (length ws - usedIn ws) (drop (usedIn ws) ws)
 
 -- the words used, of which the head is dropped
-pub used-front : (u : ℕ) (ws : List ℕ) → drop 1 (take (u - 0) ws) ≡ take (u - 1) (drop 1 ws)
+pub used-front : (u : ℕ) (ws : List ℕ) → drop firstPlace (take (u - 0) ws) ≡ take (u - firstPlace) (drop firstPlace ws)
 used-front zero ws = refl
 used-front (suc u) [] = simp take-nil
 used-front (suc u) (w ∷ ws) =
@@ -52,7 +45,7 @@ used-front (suc u) (w ∷ ws) =
 
 record Parts (ws : List ℕ) : Type 0 where
   long : T (isLength (length ws))
-  head : T (isHeadWord (length ws) (getD ws 0 0))
+  head : T (isHead ws)
   classes : Classes (monthIn ws) 0 0 0 (front ws)
   zeros : T (every isZero (past ws))
 
@@ -80,20 +73,25 @@ module _ (ws : List ℕ) (f : Facts) (good : T (isWellFormed (length ws) f)) (la
       let zs = replicate {A = ℕ} (n - u) 0 in
       let same : length cs ≡ length (classesWords xs []) = length-map (classesWords xs []) packed in
       let long : T (isLength n) = search ands in
-      let small : n ≤ 65535 = leb→le n 65535 (search ands) in
+      let small : n ≤ longestRun = leb→le n longestRun (search ands) in
       let month : T (isMonth (f .now)) = search ands in
       let room : u ≤ n = omega (arith, used-taken f, leb→le (wordsTaken f) n (search ands)) in
-      let low : T (leb 1 u) = le→leb 1 u (omega arith) in
-      let high : T (leb u 65535) = le→leb u 65535 (omega arith) in
+      let low : T (leb firstPlace u) = le→leb firstPlace u (omega arith) in
+      let high : T (leb u longestRun) = le→leb u longestRun (omega arith) in
       let within : T (leb u n) = le→leb u n room in
       let legal : T (isLegal (Head (f .now) u)) = search and-intro in
       let fit = fits (Head (f .now) u) legal in
       let first : packed (Head (f .now) u) ≡ getD ws 0 0 = sym (ap (λ (l : List ℕ). getD l 0 0) words) in
       let fields = head-fields (getD ws 0 0) (f .now) u fit first in
-      let top = head-top (getD ws 0 0) (f .now) u fit first in
-      let taken : take (u - 1) (drop 1 ws) ≡ cs =
-      ap (λ (l : List ℕ). take (u - 1) (drop 1 l)) words ∙ take-at cs zs (u - 1) (omega arith) in
-      let rest : drop u ws ≡ zs = ap (drop u) words ∙ drop-at cs zs (length (classesWords xs [])) same in
+      let top = head-bare (getD ws 0 0) (f .now) u fit first in
+      let k = length (classesWords xs []) in
+      let taken : take (u - firstPlace) (drop firstPlace ws) ≡ cs =
+      ap (λ (l : List ℕ). take (u - firstPlace) (drop firstPlace l)) words
+      ∙ take-at cs zs (u - firstPlace) (omega arith) in
+      let rest : drop u ws ≡ zs =
+      sym (drop-drop k firstPlace ws)
+      ∙ ap (λ (l : List ℕ). drop k (drop firstPlace l)) words
+      ∙ drop-at cs zs k same in
       let all : take (n - u) zs ≡ zs = take-all (n - u) zs (omega (arith, length-replicate {A = ℕ} (n - u) 0)) in
       record {
         long = long;
@@ -118,10 +116,10 @@ module _ (ws : List ℕ) (p : Parts ws) where
   told : Facts
   told = record { now = monthIn ws; classes = p .classes .classes }
 
-  within : (1 ≤ usedIn ws) × (usedIn ws ≤ length ws)
+  within : (firstPlace ≤ usedIn ws) × (usedIn ws ≤ length ws)
   within =
-      let head : T (isHeadWord (length ws) (getD ws 0 0)) = p .head in
-      (leb→le 1 (usedIn ws) (search ands), leb→le (usedIn ws) (length ws) (search ands))
+      let head : T (isHead ws) = p .head in
+      (leb→le firstPlace (usedIn ws) (search ands), leb→le (usedIn ws) (length ws) (search ands))
 
   told-used : used told ≡ usedIn ws
   unfolding told
@@ -129,8 +127,8 @@ module _ (ws : List ℕ) (p : Parts ws) where
       omega (
         arith,
         within,
-        length-drop 1 ws,
-        length-take-le (usedIn ws - 1) (drop 1 ws) (omega (arith, within, length-drop 1 ws)),
+        length-drop firstPlace ws,
+        length-take-le (usedIn ws - firstPlace) (drop firstPlace ws) (omega (arith, within, length-drop firstPlace ws)),
         length-map (classesWords (told .classes) []) packed,
         ap length (p .classes .holds),
       )
@@ -144,7 +142,7 @@ module _ (ws : List ℕ) (p : Parts ws) where
       let long : T (isLength n) = p .long in
       let fits : T (leb (wordsTaken told) n) =
       le→leb (wordsTaken told) n (omega (arith, used-taken told, told-used, within)) in
-      let month : T (isMonth (monthIn ws)) = le→leb (monthIn ws) 1023 (omega arith) in
+      let month : T (isMonth (monthIn ws)) = le→leb (monthIn ws) lastMonth (omega arith) in
       let legal : T (every (isClass (monthIn ws)) xs) = c .legal in
       let rising : T (rises (λ x y. ltb (number x) (number y)) xs) = c .rising in
       let dollars = le→leb (owned 1 xs) (program 1 .cap) (omega (arith, c .dollarCapped)) in
@@ -157,16 +155,16 @@ module _ (ws : List ℕ) (p : Parts ws) where
       let n = length ws in
       let w = getD ws 0 0 in
       let u = usedIn ws in
-      let t : T (isHeadWord n w) = p .head in
+      let t : T (isHead ws) = p .head in
       let head : packed (Head (monthIn ws) (used told)) ≡ w =
-      rw told-used (head-packed w (eqb→eq (w / 2 ^ 26) (1 * 2 ^ 2) (search ands))) in
-      let next : 1 + (u - 1) ≡ u = omega (arith, within) in
-      let after : drop (u - 1) (drop 1 ws) ≡ drop u ws = rw (drop-drop (u - 1) 1 ws, next) in
+      rw told-used (head-packed w (bare headKind (end usedField) w (search ands))) in
+      let next : firstPlace + (u - firstPlace) ≡ u = omega (arith, within) in
+      let after : drop (u - firstPlace) (drop firstPlace ws) ≡ drop u ws = rw (drop-drop (u - firstPlace) firstPlace ws, next) in
       let all : past ws ≡ drop u ws = take-all (n - u) (drop u ws) (omega (arith, length-drop u ws)) in
       let zeros : replicate (n - used told) 0 ≡ drop u ws =
       rw (told-used, ← length-drop u ws) (replicate-zeros (drop u ws) (rw all at (p .zeros))) in
-      let rest : map packed (classesWords (told .classes) []) ++ replicate (n - used told) 0 ≡ drop 1 ws =
-      (λ i. p .classes .holds i ++ (zeros ∙ sym after) i) ∙ take-append-drop (u - 1) (drop 1 ws) in
+      let rest : map packed (classesWords (told .classes) []) ++ replicate (n - used told) 0 ≡ drop firstPlace ws =
+      (λ i. p .classes .holds i ++ (zeros ∙ sym after) i) ∙ take-append-drop (u - firstPlace) (drop firstPlace ws) in
       (λ i. head i ∷ rest i) ∙ sym (drop-cons ws 0 0 (omega (arith, within)))
 
 book-parts : (ws : List ℕ) → T (isBook ws) ↔ Parts ws
@@ -177,26 +175,26 @@ book-parts ws = (
 
 -- ---- what each test of the code tells
 
-pub some-words : (n : ℕ) → isLength n ≡ true → 1 ≤ n
+pub some-words : (n : ℕ) → isLength n ≡ true → firstPlace ≤ n
 some-words n t = let long = true-T (isLength n) t in leb→le 1 n (search ands)
 
 module _ (ws : List ℕ) where
-  good-head : not (isHeadWord (length ws) (getD ws 0 0)) ≡ false → T (isHeadWord (length ws) (getD ws 0 0))
+  good-head : not (isHead ws) ≡ false → T (isHead ws)
   good-head t =
-      let test = isHeadWord (length ws) (getD ws 0 0) in
+      let test = isHead ws in
       true-T test (not-false test t)
 
-  pub head-within : not (isHeadWord (length ws) (getD ws 0 0)) ≡ false → (1 ≤ usedIn ws) × (usedIn ws ≤ length ws)
+  pub head-within : not (isHead ws) ≡ false → (firstPlace ≤ usedIn ws) × (usedIn ws ≤ length ws)
   head-within t =
       let head = good-head t in
-      (leb→le 1 (usedIn ws) (search ands), leb→le (usedIn ws) (length ws) (search ands))
+      (leb→le firstPlace (usedIn ws) (search ands), leb→le (usedIn ws) (length ws) (search ands))
 
   pub wrong-length : isLength (length ws) ≡ false → false ≡ isBook ws
   wrong-length t = refuted (isBook ws) (λ b. rw t at (book-parts ws .0 b .long))
 
-  pub wrong-head : not (isHeadWord (length ws) (getD ws 0 0)) ≡ true → false ≡ isBook ws
+  pub wrong-head : not (isHead ws) ≡ true → false ≡ isBook ws
   wrong-head t =
-      let wrong = not-true (isHeadWord (length ws) (getD ws 0 0)) t in
+      let wrong = not-true (isHead ws) t in
       refuted (isBook ws) (λ b. rw wrong at (book-parts ws .0 b .head))
 
   pub wrong-classes : (Classes (monthIn ws) 0 0 0 (front ws) → ⊥) → false ≡ isBook ws
@@ -204,7 +202,7 @@ module _ (ws : List ℕ) where
 
   -- all tests but the last one passed
   pub zeros-left :
-      isLength (length ws) ≡ true → not (isHeadWord (length ws) (getD ws 0 0)) ≡ false
+      isLength (length ws) ≡ true → not (isHead ws) ≡ false
       → Classes (monthIn ws) 0 0 0 (front ws) → every isZero (past ws) ≡ isBook ws
   zeros-left l h classes =
       let long = true-T (isLength (length ws)) l in

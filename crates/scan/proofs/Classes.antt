@@ -1,23 +1,24 @@
--- What the loop over classes keeps, and a law for each way through it: by the three words at its place, the counts and the end of the series. Assumes nothing.
+-- What the loop over classes keeps, and a law for each way through it: by the words of figures at its place, the counts
+-- and the end of the series. Assumes nothing.
 use Prim.Native.Nat.{ℕ, _+_, _-_, _≤_, _<_}
 use mathlib.Core.Path.{_≡_, refl, sym}
 use mathlib.Core.Logic.{_↔_, Iff·rfl, Iff·trans}
-use mathlib.Core.Bool.{Bool, true, false, not, _&&_, _||_}
+use mathlib.Core.Bool.{Bool, true, false, not, _||_}
 use mathlib.Core.List.{List, []}
 use native.Mathlib.Omega.{arith}
 use lib.ListN.{length, drop, getD, length-drop, drop-of-length-le}
 use lib.Dec.{T, ltb}
 use borrow.Author.Tests.{ltb-true, ltb-false, not-true, not-false}
-use Rattle.word.specs.Field.{field}
+use Rattle.word.specs.Kinds.{keyOf, classKind}
+use Rattle.word.specs.Head.{firstPlace}
+use Rattle.word.specs.Figures.{figuresLength, areFiguresAt}
 use Rattle.word.specs.Caps.{own}
-use Rattle.word.specs.Programs.{program, dollarProgram, halfProgram}
+use Rattle.word.specs.Programs.{program, dollarProgram, halfProgram, designationIn}
 use Rattle.logic.specs.Lists.{every}
 use Rattle.book.specs.Facts.{OpenClass}
 use Rattle.book.specs.Books.{isClass}
-use Rattle.logic.proofs.Tests.{and-intro, ands, true-T, or-none}
-use Rattle.scan.specs.Tests.{designationIn, isClassAbove, isCloseWord, isVolumeWord}
+use Rattle.logic.proofs.Tests.{true-T, or-none}
 use Rattle.scan.specs.Stretches.{mayFollow, SeriesThen, ClassesWhere, Classes, SeriesEnd}
-use Rattle.scan.proofs.Places.{three-at}
 use Rattle.scan.proofs.Figures.{FiguresThen, figures, classes-length}
 
 -- the classes after the head are what they are after those before i, of which `last` is the last number
@@ -25,20 +26,20 @@ pub record Walked (now : ℕ) (ws : List ℕ) (i last dollars halves : ℕ) : Ty
   pub within : i ≤ length ws
   pub dollarCapped : dollars ≤ program 1 .cap
   pub halfCapped : halves ≤ program 2 .cap
-  pub same : Classes now 0 0 0 (drop 1 ws) ↔ Classes now last dollars halves (drop i ws)
+  pub same : Classes now 0 0 0 (drop firstPlace ws) ↔ Classes now last dollars halves (drop i ws)
 
 -- the same after the figures at i
 pub record Counted (now : ℕ) (ws : List ℕ) (i last dollars halves : ℕ) : Type 0 where
   pub same :
-      Classes now 0 0 0 (drop 1 ws)
-      ↔ ClassesWhere now last dollars halves (λ xs. SeriesThen now 0 (mayFollow 0) xs (drop (i + 3) ws))
+      Classes now 0 0 0 (drop firstPlace ws)
+      ↔ ClassesWhere now last dollars halves (λ xs. SeriesThen now 0 (mayFollow 0) xs (drop (i + figuresLength) ws))
 
--- the three words at i are those of a class's figures
-abbrev areFiguresAt : List ℕ → ℕ → ℕ → Bool
-areFiguresAt ws i last =
-    isClassAbove last (getD ws i 0) && (isCloseWord (getD ws (i + 1) 0) && isVolumeWord (getD ws (i + 2) 0))
+pub counted-same :
+    {now : ℕ} {ws : List ℕ} {i last dollars halves last′ dollars′ halves′ : ℕ} → Counted now ws i last dollars halves
+    → last′ ≡ last → dollars′ ≡ dollars → halves′ ≡ halves → Counted now ws i last′ dollars′ halves′
+counted-same v l d h = rw (l, d, h) v
 
-pub walked-start : (now : ℕ) (ws : List ℕ) → 1 ≤ length ws → Walked now ws 1 0 0 0
+pub walked-start : (now : ℕ) (ws : List ℕ) → firstPlace ≤ length ws → Walked now ws firstPlace 0 0 0
 walked-start now ws head =
     record {
       within = head;
@@ -48,8 +49,8 @@ walked-start now ws head =
     }
 
 module _ {now : ℕ} {ws : List ℕ} {i last dollars halves : ℕ} (v : Walked now ws i last dollars halves) where
-  -- no class stands in fewer than three words
-  pub walked-short : i < length ws → length ws - i < 3 → Classes now 0 0 0 (drop 1 ws) → ⊥
+  -- no class stands in fewer words than its figures have
+  pub walked-short : i < length ws → length ws - i < figuresLength → Classes now 0 0 0 (drop firstPlace ws) → ⊥
   walked-short l short r =
       omega (
         arith,
@@ -58,7 +59,7 @@ module _ {now : ℕ} {ws : List ℕ} {i last dollars halves : ℕ} (v : Walked n
       )
 
   -- no class is left
-  pub walked-end : length ws ≤ i → Classes now 0 0 0 (drop 1 ws)
+  pub walked-end : length ws ≤ i → Classes now 0 0 0 (drop firstPlace ws)
   walked-end l =
       v .same .1
       (record {
@@ -71,35 +72,24 @@ module _ {now : ℕ} {ws : List ℕ} {i last dollars halves : ℕ} (v : Walked n
         halfCapped = omega (arith, v .halfCapped);
       })
 
-  module _ (room : 3 ≤ length ws - i) where
-    step :
-        Classes now 0 0 0 (drop 1 ws)
-        ↔ FiguresThen now last dollars halves (getD ws i 0) (getD ws (i + 1) 0) (getD ws (i + 2) 0) (drop (i + 3) ws)
-    step =
-        Iff·trans (v .same)
-        (rw (three-at ws i (omega arith))
-        (figures now last dollars halves (getD ws i 0) (getD ws (i + 1) 0) (getD ws (i + 2) 0) (drop (i + 3) ws)))
+  module _ (room : figuresLength ≤ length ws - i) where
+    step : Classes now 0 0 0 (drop firstPlace ws) ↔ FiguresThen now last dollars halves i ws
+    step = Iff·trans (v .same) (figures now last dollars halves i ws (omega arith))
 
-    pub walked-wrong : not (areFiguresAt ws i last) ≡ true → Classes now 0 0 0 (drop 1 ws) → ⊥
-    walked-wrong t r =
-        let f = step .0 r in
-        let class : T (isClassAbove last (getD ws i 0)) = f .class in
-        let close : T (isCloseWord (getD ws (i + 1) 0)) = f .close in
-        let volume : T (isVolumeWord (getD ws (i + 2) 0)) = f .volume in
-        let all : T (areFiguresAt ws i last) = search and-intro in
-        rw (not-true (areFiguresAt ws i last) t) at all
+    pub walked-wrong : not (areFiguresAt last i ws) ≡ true → Classes now 0 0 0 (drop firstPlace ws) → ⊥
+    walked-wrong t r = rw (not-true (areFiguresAt last i ws) t) at (step .0 r .figures)
 
     pub walked-counted :
-        not (areFiguresAt ws i last) ≡ false
+        not (areFiguresAt last i ws) ≡ false
         → let w = getD ws i 0 in
-        Counted now ws i (field w 0 14) (dollars + own (designationIn dollarProgram w))
+        Counted now ws i (keyOf classKind w) (dollars + own (designationIn dollarProgram w))
         (halves + own (designationIn halfProgram w))
     walked-counted t =
-        let all : T (areFiguresAt ws i last) = true-T (areFiguresAt ws i last) (not-false (areFiguresAt ws i last) t) in
+        let test = areFiguresAt last i ws in
         record {
           same = (
             λ r. step .0 r .rest,
-            λ r. step .1 (record { class = search ands; close = search ands; volume = search ands; rest = r }),
+            λ r. step .1 (record { figures = true-T test (not-false test t); rest = r }),
           );
         }
 
@@ -121,7 +111,7 @@ replaced f c =
 
 module _ {now : ℕ} {ws : List ℕ} {i last dollars halves : ℕ} (v : Counted now ws i last dollars halves) where
   pub counted-exceeded :
-      (ltb (program 1 .cap) dollars || ltb (program 2 .cap) halves) ≡ true → Classes now 0 0 0 (drop 1 ws) → ⊥
+      (ltb (program 1 .cap) dollars || ltb (program 2 .cap) halves) ≡ true → Classes now 0 0 0 (drop firstPlace ws) → ⊥
   counted-exceeded t r = go (ltb (program 1 .cap) dollars) refl t
     where
       go : (over : Bool) → ltb (program 1 .cap) dollars ≡ over → (over || ltb (program 2 .cap) halves) ≡ true → ⊥
@@ -129,12 +119,12 @@ module _ {now : ℕ} {ws : List ℕ} {i last dollars halves : ℕ} (v : Counted 
       go false d t = omega (arith, ltb-true, v .same .0 r .halfCapped)
 
   pub counted-breaks :
-      ((xs : List OpenClass) → T (every (isClass now) xs) → SeriesThen now 0 (mayFollow 0) xs (drop (i + 3) ws) → ⊥)
-      → Classes now 0 0 0 (drop 1 ws) → ⊥
+      ((xs : List OpenClass) → T (every (isClass now) xs) → SeriesThen now 0 (mayFollow 0) xs (drop (i + figuresLength) ws) → ⊥)
+      → Classes now 0 0 0 (drop firstPlace ws) → ⊥
   counted-breaks breaks r = let c = v .same .0 r in breaks (c .classes) (c .legal) (c .holds)
 
   pub counted-more :
-      (j : ℕ) → (ltb (program 1 .cap) dollars || ltb (program 2 .cap) halves) ≡ false → SeriesEnd now ws (i + 3) j
+      (j : ℕ) → (ltb (program 1 .cap) dollars || ltb (program 2 .cap) halves) ≡ false → SeriesEnd now ws (i + figuresLength) j
       → Walked now ws j last dollars halves
   counted-more j t e =
       let few = or-none (ltb (program 1 .cap) dollars) (ltb (program 2 .cap) halves) t in

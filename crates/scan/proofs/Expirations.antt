@@ -1,5 +1,5 @@
 -- What the loop over a class's expirations keeps, and a law for each way through it: by the word at its place. Assumes nothing.
-use Prim.Native.Nat.{ℕ, suc, _+_, _-_, _≤_, _<_, min, max}
+use Prim.Native.Nat.{ℕ, suc, _+_, _-_, _≤_, _<_, max}
 use mathlib.Core.Path.{_≡_}
 use mathlib.Core.Logic.{_↔_, Iff·rfl, Iff·trans}
 use mathlib.Core.Bool.{true, false, not}
@@ -9,18 +9,18 @@ use lib.ListN.{length, drop, getD, drop-of-length-le}
 use lib.Seq.{drop-cons, drop-drop, getD-drop}
 use lib.Dec.{T, leb→le}
 use borrow.Author.Tests.{not-true, not-false}
-use Rattle.word.specs.Limits.{between}
-use Rattle.word.specs.Field.{field}
-use Rattle.word.specs.Codec.{Expiration, packed, kindOf}
+use Rattle.word.specs.Limits.{between, latestMonth}
+use Rattle.word.specs.Kinds.{kindOf, belowKind, expirationKind}
+use Rattle.word.specs.Codec.{Expiration, packed}
 use Rattle.logic.specs.Lists.{every}
 use Rattle.book.specs.Facts.{OpenClass}
 use Rattle.book.specs.Books.{isClass}
 use Rattle.logic.proofs.Tests.{ands, true-T}
-use Rattle.scan.specs.Tests.{nextLength}
-use Rattle.scan.specs.Stretches.{mayFollow, SeriesThen, SeriesEnd, Stretched}
+use Rattle.scan.specs.NextStrikes.{nextLength}
+use Rattle.scan.specs.Stretches.{mayFollow, SeriesThen, SeriesEnd, Stretched, areStrikes}
 use Rattle.scan.specs.declared.Stretch.the-variants.{Breaks}
-use Rattle.scan.proofs.Words.{isExpirationFrom, isBetween, between-from}
-use Rattle.scan.proofs.NextStrikes.{lastNext, areStrikes, HasStrikes}
+use Rattle.scan.proofs.ExpirationWords.{isExpirationFrom, isBetween, between-from}
+use Rattle.scan.proofs.NextStrikes.{lastNext, HasStrikes}
 use Rattle.scan.proofs.Series.{expiration-more, expiration-none, expiration-end}
 
 -- the series from `from` on are what they are after those before i, and `least` is the first expiration word that may follow them
@@ -55,7 +55,7 @@ module _ {now : ℕ} {ws : List ℕ} {from least i : ℕ} (v : Expirations now w
       }
 
   -- the word at i is compared with those of the first and the last month that may follow
-  module _ (latest : ℕ) (last : latest ≡ packed (Expiration (min (now + 39) 1023))) where
+  module _ (latest : ℕ) (last : latest ≡ packed (Expiration (latestMonth now))) where
     pub expirations-passed :
         not (between least latest (getD ws i 0)) ≡ false → T (isBetween now (v .next) (getD ws i 0))
     expirations-passed t =
@@ -67,7 +67,7 @@ module _ {now : ℕ} {ws : List ℕ} {from least i : ℕ} (v : Expirations now w
     expirations-failed t = rw (v .first, last) at (not-true (between least latest (getD ws i 0)) t)
 
   module _ (inside : i < length ws) where
-    pub expirations-stop : (kindOf (getD ws i 0) ≡ 5 → ⊥) → SeriesEnd now ws from i
+    pub expirations-stop : (kindOf (getD ws i 0) ≡ expirationKind .number → ⊥) → SeriesEnd now ws from i
     expirations-stop other =
         record {
           onward = v .onward;
@@ -76,13 +76,13 @@ module _ {now : ℕ} {ws : List ℕ} {from least i : ℕ} (v : Expirations now w
               Iff·trans (v .same xs legal) (rw (drop-cons ws i 0 inside) (expiration-none now xs legal other));
         }
 
-    module _ (kind : kindOf (getD ws i 0) ≡ 5) where
+    module _ (kind : kindOf (getD ws i 0) ≡ expirationKind .number) where
       step :
           (xs : List OpenClass) → T (every (isClass now) xs)
           → SeriesThen now 0 (mayFollow 0) xs (drop from ws)
           ↔ (T (isBetween now (v .next) (getD ws i 0))
           × HasStrikes (getD ws i 0) (drop (suc i) ws)
-          × SeriesThen now (suc (field (getD ws i 0) 0 28)) (mayFollow (suc (field (getD ws i 0) 0 28))) xs
+          × SeriesThen now (suc (belowKind (getD ws i 0))) (mayFollow (suc (belowKind (getD ws i 0)))) xs
           (drop (suc i + nextLength (getD ws i 0) (drop (suc i) ws)) ws))
       step xs legal =
           Iff·trans (v .same xs legal)
@@ -122,7 +122,7 @@ module _ {now : ℕ} {ws : List ℕ} {from least i : ℕ} (v : Expirations now w
             → Expirations now ws from (getD ws i 0 + 1) j
         expirations-more t some strikes within =
             let w = getD ws i 0 in
-            let m = field w 0 28 in
+            let m = belowKind w in
             let listed : T (isExpirationFrom now (v .next) w) = rw (between-from now (v .next) w kind) at t in
             let low : now ≤ m = leb→le now m (search ands) in
             let passed = areStrikes (getD ws (i + 1) 0) (getD ws (j - 1) 0) in

@@ -1,8 +1,7 @@
 -- The laws that the functions' proofs cite.
-pub mod Words
+pub mod ExpirationWords
 pub mod NextStrikes
 pub mod Series
-pub mod Places
 pub mod Expirations
 pub mod Figures
 pub mod Classes

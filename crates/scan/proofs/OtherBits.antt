@@ -10,7 +10,8 @@ use lib.ListN.{length, drop, getD, take, drop-of-length-le, length-drop}
 use lib.Seq.{drop-cons, take-nil, take-all}
 use lib.Pow.{pow-pos, shr-shr, shl-exact, high}
 use lib.Bits.{bitOr, or-shifted-r}
-use Rattle.scan.specs.Tests.{isNextStrike, nextLength}
+use Rattle.word.specs.Strikes.{isNextStrike}
+use Rattle.scan.specs.NextStrikes.{nextLength}
 use Rattle.scan.specs.Ahead.{otherBits}
 
 -- the bits of k words from i on

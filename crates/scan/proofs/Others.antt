@@ -11,8 +11,8 @@ use lib.Bits.{bitAnd}
 use lib.Count.{trailingZeros}
 use lib.Dec.{eqb}
 use borrow.Author.Tests.{ne-eqb}
-use Rattle.word.specs.Codec.{kindOf}
-use Rattle.scan.specs.Tests.{nextLength}
+use Rattle.word.specs.Kinds.{kindOf, expirationKind}
+use Rattle.scan.specs.NextStrikes.{nextLength}
 use Rattle.scan.specs.Ahead.{Tells}
 use Rattle.scan.specs.declared.ahead.Ahead.{Ahead}
 use Rattle.scan.proofs.OtherBits.{bitsAt, bitAt, nextAt, FirstOther, bits-end, bits-step, bits-later, bits-cleared, next-on, next-all, first-other}
@@ -139,7 +139,7 @@ module _ (ws : List ℕ) where
           searched .reaches,
         )
 
-module _ (ws : List ℕ) {ahead : Ahead} (tells : Tells ws ahead) (l : ahead .at < length ws) (e : kindOf (getD ws (ahead .at) 0) ≡ 5) where
+module _ (ws : List ℕ) {ahead : Ahead} (tells : Tells ws ahead) (l : ahead .at < length ws) (e : kindOf (getD ws (ahead .at) 0) ≡ expirationKind .number) where
   -- the word at `at` is an other, since it is no strike: its bit is the lowest that is 1
   expiration-told :
       ahead .bits

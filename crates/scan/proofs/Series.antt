@@ -9,18 +9,34 @@ use lib.ListN.{drop, getD}
 use lib.Dec.{T, eqb, leb, ltb, leb→le, ltb→lt, lt→ltb, le→leb, eqb→eq}
 use borrow.Author.Tests.{eqb-true, eqb-false, eq-eqb, ne-eqb}
 use Rattle.logic.specs.Lists.{rises, every}
-use Rattle.word.specs.Codec.{Word, Expiration, isLegal, packed, kindOf}
+use Rattle.word.specs.Limits.{highestStrike}
+use Rattle.word.specs.Strikes.{isNextStrike}
+use Rattle.word.specs.Kinds.{kindOf, keyOf, belowKind, classKind, expirationKind, strikeKind, groundField, putField, callField}
+use Rattle.word.specs.Codec.{Word, Expiration, isLegal, packed}
 use Rattle.word.specs.Field.{field}
 use Rattle.book.specs.Facts.{Series, OpenClass, precedes}
-use Rattle.book.specs.Layout.{strikeWord, classWord, expirationUnless, seriesWords, classesWords}
+use Rattle.word.specs.Figures.{classWord}
+use Rattle.book.specs.Layout.{strikeWord, expirationUnless, seriesWords, classesWords}
 use Rattle.book.specs.Books.{isListed, isSeries, isClass}
 use Rattle.word.proofs.Words.{kind-packed}
 use Rattle.logic.proofs.Tests.{or-left, or-right, and-intro, ands, T-true, true-T, equal-test, or-else}
-use Rattle.book.proofs.LegalWords.{fits, strike-legal, month-legal, figures-legal}
-use Rattle.scan.specs.Tests.{isNextStrike, nextLength}
-use Rattle.scan.specs.Stretches.{leads, mayFollow, SeriesThen}
-use Rattle.scan.proofs.Words.{isStrikeAbove, strikeIn, strike-packed, strike-test, isExpirationFrom, expiration-packed, expiration-field}
-use Rattle.scan.proofs.NextStrikes.{IsStrike, lastNext, areStrikes, HasStrikes, next-strike, next-rises, next-above, above-next, above-none, next-rising, strike-order}
+use Rattle.word.proofs.RawWords.{fits, figures-legal, IsStrike, isStrikeAbove, strike-packed, strike-test, expiration-packed, expiration-field}
+use Rattle.book.proofs.LegalWords.{strike-legal, month-legal}
+use Rattle.scan.specs.NextStrikes.{nextLength}
+use Rattle.scan.specs.Stretches.{leads, mayFollow, SeriesThen, areStrikes}
+use Rattle.scan.proofs.ExpirationWords.{isExpirationFrom}
+use Rattle.scan.proofs.NextStrikes.{lastNext, HasStrikes, next-strike, next-rises, next-above, above-next, above-none, next-rising, strike-order}
+
+-- the strike that a strike word says, in the expiration of the month m
+abbrev strikeIn : ℕ → ℕ → Series
+strikeIn m w =
+    record {
+      month = m;
+      strike = keyOf strikeKind w;
+      ground = field w groundField;
+      put = field w putField;
+      call = field w callField;
+    }
 
 -- a list rises where its first element comes before the next one and the rest rises
 pub rises-first :
@@ -65,7 +81,7 @@ empty w ws e = let z : _≡_ {A = ℕ} 0 1 = cc in omega arith
 module _ (now : ℕ) where
   class-first :
       (xs : List OpenClass) (w : ℕ) (ws : List ℕ) → T (every (isClass now) xs)
-      → map packed (classesWords xs []) ≡ w ∷ ws → kindOf w ≡ 2
+      → map packed (classesWords xs []) ≡ w ∷ ws → kindOf w ≡ classKind .number
   class-first [] w ws legal e = absurd (empty w ws e)
   class-first (x ∷ xs) w ws legal e =
       let f = x .figures in
@@ -87,7 +103,7 @@ module _ (now : ℕ) (xs : List OpenClass) (classesLegal : T (every (isClass now
   -- ---- what the first word is
 
   data First (p : ℕ) (test : Series → Bool) (w : ℕ) (ws : List ℕ) : Type 0 where
-    class : kindOf w ≡ 2 → map packed last ≡ w ∷ ws → First p test w ws
+    class : kindOf w ≡ classKind .number → map packed last ≡ w ∷ ws → First p test w ws
     strike :
         (s : Series) → p ≡ suc (s .month) → packed (strikeWord s) ≡ w → T (isSeries now s) → T (test s) → After s ws
         → First p test w ws
@@ -176,25 +192,25 @@ module _ (now : ℕ) (xs : List OpenClass) (classesLegal : T (every (isClass now
   module _ (m : ℕ) (listed : T (isListed now m)) where
     -- a first word of a strike's kind is a strike above the last one
     strike-from :
-        (h w : ℕ) (ws : List ℕ) → kindOf w ≡ 6 → First (suc m) (isAfter m h) w ws
-        → T (isStrikeAbove h w) × Words (suc m) (isAfter m (field w 0 15)) ws
+        (h w : ℕ) (ws : List ℕ) → kindOf w ≡ strikeKind .number → First (suc m) (isAfter m h) w ws
+        → T (isStrikeAbove h w) × Words (suc m) (isAfter m (keyOf strikeKind w)) ws
     strike-from h w ws kind (class k e) = absurd (omega arith)
     strike-from h w ws kind (strike s e ew legal leading r) =
         let month : m ≡ s .month = omega arith in
-        let f = strike-test h w s (strike-legal now s legal) ew (after-same m h s leading month) in
+        let f = strike-test h w (s .strike) (s .ground) (s .put) (s .call) (strike-legal now s legal) ew (after-same m h s leading month) in
         (f .0, rw (f .1, month) r)
     strike-from h w ws kind (expiration s vs other ew es legal leading r) =
         absurd (omega (arith, kind, kind-packed (Expiration (s .month)) w (fits (Expiration (s .month)) (month-legal now s legal)) ew))
 
     strike-to :
-        (h w : ℕ) (ws : List ℕ) → T (isStrikeAbove h w) → Words (suc m) (isAfter m (field w 0 15)) ws
+        (h w : ℕ) (ws : List ℕ) → T (isStrikeAbove h w) → Words (suc m) (isAfter m (keyOf strikeKind w)) ws
         → Words (suc m) (isAfter m h) (w ∷ ws)
     strike-to h w ws t r =
         let s = strikeIn m w in
-        let word = strike-packed h m w t in
+        let word = strike-packed h w t in
         let l : T (isLegal (strikeWord s)) = word .1 in
         let legal : T (isSeries now s) = search (ands, and-intro) depth 12 in
-        let above : h < field w 0 15 = ltb→lt h (field w 0 15) (search ands) in
+        let above : h < keyOf strikeKind w = ltb→lt h (keyOf strikeKind w) (search ands) in
         rw (word .0) at (add-strike {test = isAfter m h} s legal (above-after h s above) r)
 
     -- where no strike above the last one stands, only another expiration or a class may follow
@@ -207,7 +223,7 @@ module _ (now : ℕ) (xs : List OpenClass) (classesLegal : T (every (isClass now
         from (class k e) = no-series e
         from (strike s e ew legal leading r) =
             let month : m ≡ s .month = omega arith in
-            absurd (rw t at (strike-test h w s (strike-legal now s legal) ew (after-same m h s leading month) .0))
+            absurd (rw t at (strike-test h w (s .strike) (s .ground) (s .put) (s .call) (strike-legal now s legal) ew (after-same m h s leading month) .0))
         from (expiration s vs other ew es legal leading r) =
             let later = after-other m h s leading other in
             rw (ew, es) at (add-expiration {test = mayFollow (suc m)} (suc m) s other legal later r)
@@ -228,36 +244,36 @@ module _ (now : ℕ) (xs : List OpenClass) (classesLegal : T (every (isClass now
 
     -- the next strikes after a strike
     strikes :
-        (before : ℕ) (ws : List ℕ) → IsStrike before → field before 0 15 ≤ 19999
-        → Words (suc m) (isAfter m (field before 0 15)) ws
-        ↔ ((field (lastNext before ws) 0 15 ≤ 19999) × Words (suc m) (mayFollow (suc m)) (drop (nextLength before ws) ws))
+        (before : ℕ) (ws : List ℕ) → IsStrike before → keyOf strikeKind before ≤ highestStrike
+        → Words (suc m) (isAfter m (keyOf strikeKind before)) ws
+        ↔ ((keyOf strikeKind (lastNext before ws) ≤ highestStrike) × Words (suc m) (mayFollow (suc m)) (drop (nextLength before ws) ws))
     strikes before [] prior low = (λ r. (low, no-series (series-end r)), λ r. no-series (series-end (r .1)))
     strikes before (w ∷ ws) prior low = go (isNextStrike before w) refl (strikes w ws)
       where
         h : ℕ
-        h = field before 0 15
+        h = keyOf strikeKind before
 
         n : ℕ
         n = nextLength w ws
 
         go :
             (next : Bool) → isNextStrike before w ≡ next
-            → (IsStrike w → field w 0 15 ≤ 19999
-            → Words (suc m) (isAfter m (field w 0 15)) ws
-            ↔ ((field (lastNext w ws) 0 15 ≤ 19999) × Words (suc m) (mayFollow (suc m)) (drop n ws)))
+            → (IsStrike w → keyOf strikeKind w ≤ highestStrike
+            → Words (suc m) (isAfter m (keyOf strikeKind w)) ws
+            ↔ ((keyOf strikeKind (lastNext w ws) ≤ highestStrike) × Words (suc m) (mayFollow (suc m)) (drop n ws)))
             → Words (suc m) (isAfter m h) (w ∷ ws)
-            ↔ ((field (getD (before ∷ w ∷ ws) (cond {A = ℕ} next (suc n) 0) 0) 0 15 ≤ 19999)
+            ↔ ((keyOf strikeKind (getD (before ∷ w ∷ ws) (cond {A = ℕ} next (suc n) 0) 0) ≤ highestStrike)
             × Words (suc m) (mayFollow (suc m)) (drop (cond {A = ℕ} next (suc n) 0) (w ∷ ws)))
         go true e rest =
             let t = true-T (isNextStrike before w) e in
             let top = next-strike before w t in
-            let kind : kindOf w ≡ 6 = omega arith in (
+            let kind : kindOf w ≡ strikeKind .number = omega arith in (
               λ r.
                   let next = strike-from h w ws kind (first r) in
                   let above : T (isStrikeAbove h w) = next .0 in
-                  rest top (leb→le (field w 0 15) 19999 (search ands)) .0 (next .1),
+                  rest top (leb→le (keyOf strikeKind w) highestStrike (search ands)) .0 (next .1),
               λ r.
-                  let few : field w 0 15 ≤ 19999 = omega (arith, next-rising w ws top, r .0) in
+                  let few : keyOf strikeKind w ≤ highestStrike = omega (arith, next-rising w ws top, r .0) in
                   strike-to h w ws (next-above before w t h (next-rises before w t prior) few) (rest top few .1 r),
             )
         go false e rest =
@@ -268,38 +284,38 @@ module _ (now : ℕ) (xs : List OpenClass) (classesLegal : T (every (isClass now
 
   -- an expiration word has a month from p on, and strikes
   expiration-from :
-      {p w : ℕ} {ws : List ℕ} → kindOf w ≡ 5 → First p (mayFollow p) w ws
+      {p w : ℕ} {ws : List ℕ} → kindOf w ≡ expirationKind .number → First p (mayFollow p) w ws
       → T (isExpirationFrom now p w)
       × HasStrikes w ws
-      × Words (suc (field w 0 28)) (mayFollow (suc (field w 0 28))) (drop (nextLength w ws) ws)
+      × Words (suc (belowKind w)) (mayFollow (suc (belowKind w))) (drop (nextLength w ws) ws)
   expiration-from kind (class k e) = absurd (omega arith)
   expiration-from {p} {w} kind (strike s e ew legal leading r) =
       absurd (omega (arith, kind-packed (strikeWord s) w (fits (strikeWord s) (strike-legal now s legal)) ew))
   expiration-from {p} {w} kind (expiration s vs other ew es legal leading r) =
       let v = packed (strikeWord s) in
-      let month : field w 0 28 ≡ s .month = expiration-field w (s .month) (month-legal now s legal) ew in
+      let month : belowKind w ≡ s .month = expiration-field w (s .month) (month-legal now s legal) ew in
       let listed : T (isListed now (s .month)) = search ands depth 12 in
-      let test = strike-test 0 v s (strike-legal now s legal) refl (leb→le 1 (s .strike) (search ands)) in
+      let test = strike-test 0 v (s .strike) (s .ground) (s .put) (s .call) (strike-legal now s legal) refl (leb→le 1 (s .strike) (search ands)) in
       let above : T (isStrikeAbove 0 v) = test .0 in
       let next = above-next w 0 v (omega arith) above in
-      let few : field v 0 15 ≤ 19999 = leb→le (field v 0 15) 19999 (search ands) in
+      let few : keyOf strikeKind v ≤ highestStrike = leb→le (keyOf strikeKind v) highestStrike (search ands) in
       let rest = strikes (s .month) listed v vs (next-strike w v next) few .0 (rw (test .1) r) in
-      let low : T (ltb 0 (field v 0 15)) = search ands in
-      let high = le→leb (field (lastNext v vs) 0 15) 19999 (rest .0) in
+      let low : T (ltb 0 (keyOf strikeKind v)) = search ands in
+      let high = le→leb (keyOf strikeKind (lastNext v vs)) highestStrike (rest .0) in
       rw (month, ← es, T-true (isNextStrike w v) next) (
         and-intro (leb p (s .month)) (isListed now (s .month)) leading listed,
-        (omega arith, and-intro (ltb 0 (field v 0 15)) (leb (field (lastNext v vs) 0 15) 19999) low high),
+        (omega arith, and-intro (ltb 0 (keyOf strikeKind v)) (leb (keyOf strikeKind (lastNext v vs)) highestStrike) low high),
         rest .1,
       )
 
   expiration-to :
-      {p w : ℕ} (ws : List ℕ) → kindOf w ≡ 5 → T (isExpirationFrom now p w) → HasStrikes w ws
-      → Words (suc (field w 0 28)) (mayFollow (suc (field w 0 28))) (drop (nextLength w ws) ws) → Words p (mayFollow p) (w ∷ ws)
+      {p w : ℕ} (ws : List ℕ) → kindOf w ≡ expirationKind .number → T (isExpirationFrom now p w) → HasStrikes w ws
+      → Words (suc (belowKind w)) (mayFollow (suc (belowKind w))) (drop (nextLength w ws) ws) → Words p (mayFollow p) (w ∷ ws)
   expiration-to [] kind t l r = absurd (omega arith)
   expiration-to {p} {w} (v ∷ vs) kind t l r = go (isNextStrike w v) refl l r
     where
       m : ℕ
-      m = field w 0 28
+      m = belowKind w
 
       n : ℕ
       n = nextLength v vs
@@ -314,11 +330,11 @@ module _ (now : ℕ) (xs : List OpenClass) (classesLegal : T (every (isClass now
           let next = true-T (isNextStrike w v) e in
           let top = next-strike w v next in
           let both : T (areStrikes v (lastNext v vs)) = l .1 in
-          let high : field (lastNext v vs) 0 15 ≤ 19999 = leb→le (field (lastNext v vs) 0 15) 19999 (search ands) in
-          let few : field v 0 15 ≤ 19999 = omega (arith, next-rising v vs top) in
-          let above = next-above w v next 0 (ltb→lt 0 (field v 0 15) (search ands)) few in
+          let high : keyOf strikeKind (lastNext v vs) ≤ highestStrike = leb→le (keyOf strikeKind (lastNext v vs)) highestStrike (search ands) in
+          let few : keyOf strikeKind v ≤ highestStrike = omega (arith, next-rising v vs top) in
+          let above = next-above w v next 0 (ltb→lt 0 (keyOf strikeKind v) (search ands)) few in
           let s = strikeIn m v in
-          let word = strike-packed 0 m v above in
+          let word = strike-packed 0 v above in
           let low : p ≤ m = leb→le p m (search ands) in
           let wordLegal : T (isLegal (strikeWord s)) = word .1 in
           let legal : T (isSeries now s) = search (ands, and-intro) depth 12 in
@@ -329,24 +345,24 @@ module _ (now : ℕ) (xs : List OpenClass) (classesLegal : T (every (isClass now
 
   -- an expiration word, and its strikes
   pub expiration-more :
-      {p w : ℕ} {ws : List ℕ} → kindOf w ≡ 5
+      {p w : ℕ} {ws : List ℕ} → kindOf w ≡ expirationKind .number
       → SeriesThen now p (mayFollow p) xs (w ∷ ws)
       ↔ (T (isExpirationFrom now p w)
       × HasStrikes w ws
-      × SeriesThen now (suc (field w 0 28)) (mayFollow (suc (field w 0 28))) xs (drop (nextLength w ws) ws))
+      × SeriesThen now (suc (belowKind w)) (mayFollow (suc (belowKind w))) xs (drop (nextLength w ws) ws))
   expiration-more {p} {w} {ws} kind =
       (λ r. expiration-from kind (first r), λ e. expiration-to ws kind (e .0) (e .1) (e .2))
 
   -- where no expiration word stands, only a class may follow
   class-next :
-      {p w : ℕ} {ws : List ℕ} → (kindOf w ≡ 5 → ⊥) → First p (mayFollow p) w ws → map packed last ≡ w ∷ ws
+      {p w : ℕ} {ws : List ℕ} → (kindOf w ≡ expirationKind .number → ⊥) → First p (mayFollow p) w ws → map packed last ≡ w ∷ ws
   class-next other (class k e) = e
   class-next {p} other (strike s e ew legal leading r) = absurd (omega (arith, leb→le p (s .month) leading))
   class-next {p} {w} other (expiration s vs q ew es legal leading r) =
       absurd (other (kind-packed (Expiration (s .month)) w (fits (Expiration (s .month)) (month-legal now s legal)) ew))
 
   pub expiration-none :
-      {p w : ℕ} {ws : List ℕ} → (kindOf w ≡ 5 → ⊥)
+      {p w : ℕ} {ws : List ℕ} → (kindOf w ≡ expirationKind .number → ⊥)
       → SeriesThen now p (mayFollow p) xs (w ∷ ws) ↔ (map packed (classesWords xs []) ≡ w ∷ ws)
   expiration-none other = (λ r. class-next other (first r), no-series)
 

@@ -3,15 +3,16 @@ use Prim.Native.Nat.{ℕ, zero, suc, _+_, _≤_, _<_}
 use mathlib.Core.Path.{_≡_, refl, sym}
 use mathlib.Core.Bool.{Bool, true, false, _&&_, and-assoc, and-true}
 use mathlib.Core.List.{List, [], _∷_}
+use native.Mathlib.Numerals.{add-one}
 use native.Mathlib.Omega.{arith}
 use lib.ListN.{length, drop, getD, replicate, drop-of-length-le}
+use lib.Seq.{drop-cons}
 use lib.Bits.{bitOr, or-add-and, and-le-l, and-le-r}
 use lib.Dec.{T, eqb, eqb→eq}
 use borrow.Author.Tests.{eqb-true, eqb-false, eq-eqb, ne-eqb}
+use Rattle.scan.specs.Stretches.{isZero}
 use Rattle.logic.specs.Lists.{every}
 use Rattle.logic.proofs.Tests.{ands}
-use Rattle.scan.specs.Tests.{isZero}
-use Rattle.scan.proofs.Places.{word-at}
 
 or-zero : (a b : ℕ) → eqb (bitOr a b) 0 ≡ (eqb a 0 && eqb b 0)
 or-zero a b = go (eqb a 0) refl (eqb b 0) refl
@@ -31,8 +32,8 @@ module _ (all i : ℕ) (ws : List ℕ) where
       → (eqb all 0 && every isZero (drop i ws))
       ≡ (eqb (bitOr all (getD ws i 0)) 0 && every isZero (drop (i + 1) ws))
   zeros-more l =
-      rw (word-at ws i l, or-zero all (getD ws i 0))
-      (sym (and-assoc (eqb all 0) (eqb (getD ws i 0) 0) (every isZero (drop (i + 1) ws))))
+      rw (add-one, drop-cons ws i 0 l, or-zero all (getD ws i 0))
+      (sym (and-assoc (eqb all 0) (eqb (getD ws i 0) 0) (every isZero (drop (suc i) ws))))
 
   pub zeros-done : length ws ≤ i → (eqb all 0 && every isZero (drop i ws)) ≡ eqb all 0
   zeros-done l = rw (drop-of-length-le ws l) (and-true (eqb all 0))

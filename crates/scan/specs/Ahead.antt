@@ -5,7 +5,7 @@ use mathlib.Core.Path.{_≡_}
 use mathlib.Core.Bool.{cond}
 use mathlib.Core.List.{List, [], _∷_}
 use lib.ListN.{length, drop, getD, take}
-use Rattle.scan.specs.Tests.{isNextStrike}
+use Rattle.word.specs.Strikes.{isNextStrike}
 use Rattle.scan.specs.declared.ahead.Ahead.{Ahead}
 
 -- a binary number, its lowest digit first: 1 for each word that is no next strike after the one before it

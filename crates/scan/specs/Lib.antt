@@ -1,3 +1,3 @@
-pub mod Tests
+pub mod NextStrikes
 pub mod Ahead
 pub mod Stretches

@@ -3,11 +3,13 @@
 use Prim.Native.Nat.{ℕ, _+_, _≤_}
 use mathlib.Core.Path.{_≡_}
 use mathlib.Core.Logic.{_↔_}
-use mathlib.Core.Bool.{Bool, true}
+use mathlib.Core.Bool.{Bool, true, _&&_}
 use mathlib.Core.List.{List, [], _∷_, map}
 use lib.ListN.{length, drop}
-use lib.Dec.{T, leb, ltb}
+use lib.Dec.{T, eqb, leb, ltb}
 use Rattle.logic.specs.Lists.{rises, every}
+use Rattle.word.specs.Limits.{highestStrike}
+use Rattle.word.specs.Kinds.{keyOf, strikeKind}
 use Rattle.word.specs.Programs.{program}
 use Rattle.word.specs.Codec.{packed}
 use Rattle.book.specs.Facts.{Series, OpenClass, number, isBelow, precedes, owned}
@@ -17,11 +19,19 @@ use Rattle.scan.specs.Ahead.{Tells}
 use Rattle.scan.specs.declared.Stretch.{Stretch}
 use Rattle.scan.specs.declared.Stretch.the-variants.{EndsAt, Breaks}
 
+-- "Words past those used are zero."
+abbrev pub isZero : ℕ → Bool
+isZero w = eqb w 0
+
 -- the first, if there is one, passes the test
 module _ {A : Type 0} (test : A → Bool) where
   abbrev pub leads : List A → Bool
   leads [] = true
   leads (x ∷ xs) = test x
+
+-- of the first and the last of strikes that rise: the first is above 0 and the last is at most the highest
+abbrev pub areStrikes : ℕ → ℕ → Bool
+areStrikes first last = ltb 0 (keyOf strikeKind first) && leb (keyOf strikeKind last) highestStrike
 
 -- the series may follow the expiration p, 0 for none, else its month + 1, in another one
 abbrev pub mayFollow : ℕ → Series → Bool

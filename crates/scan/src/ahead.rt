@@ -3,11 +3,10 @@
 ghost use mathlib.Core.Path.{_≡_};
 ghost use Prim.Native.Nat.{_+_, _-_, _<_, _≤_, suc};
 ghost use lib.ListN.{drop, getD, length, take};
-ghost use Rattle.word.specs.Codec.{kindOf};
-ghost use Rattle.scan.specs.Tests.{isNextStrike, nextLength, orderOf};
+ghost use Rattle.word.specs.Kinds.{kindOf, expirationKind};
+ghost use Rattle.scan.specs.NextStrikes.{nextLength};
 ghost use Rattle.scan.specs.Ahead.{otherBits, Tells};
-use word::field::field_of;
-use word::limits::is_ground;
+use word::strike::is_next_strike;
 
 // The others, words that are no next strikes, from `at` on: `bits` has one bit for each of the 64 words from `base` on,
 // lowest first, which is 1 for an other.
@@ -15,23 +14,6 @@ pub struct Ahead {
     pub base: usize,
     pub bits: u64,
     pub at: usize,
-}
-
-// What rises from an expiration to its strikes and from strike to strike: the kind, without its highest bit, and then
-// the strike.
-fn order_of(w: u32) -> u32
-    ensures { λ r. ⌜ r ≡ orderOf w ⌝ }
-{
-    field_of(w, 28, 3) * 268435456 + field_of(w, 0, 15)
-}
-
-// Whether w is a strike word that may follow the word before it. That a first strike is not 0 and a last one not above
-// 19,999 is asked elsewhere, once for a stretch.
-fn is_next_strike(before: u32, w: u32) -> bool
-    ensures { λ r. ⌜ r ≡ isNextStrike before w ⌝ }
-{
-    (field_of(w, 20, 12) == 1536)
-        & (is_ground(field_of(w, 15, 3)) & (order_of(before) < order_of(w)))
 }
 
 // The others among the words after the first, a bit for each.
@@ -150,7 +132,7 @@ pub fn skip_to(s: &[u32], ahead: Ahead, at: usize) -> Ahead
 
 // What is ahead of the next other after the word `ahead.at`, which is one.
 pub fn next_other(s: &[u32], ahead: Ahead) -> Ahead
-    requires { ⌜ Tells (now s) ahead × ((ahead .at < length (now s)) × (kindOf (getD (now s) (ahead .at) 0) ≡ 5)) ⌝ }
+    requires { ⌜ Tells (now s) ahead × ((ahead .at < length (now s)) × (kindOf (getD (now s) (ahead .at) 0) ≡ expirationKind .number)) ⌝ }
     ensures { λ r. ⌜ Tells (now (s .entry)) r
         × (r .at
         ≡ suc (ahead .at)

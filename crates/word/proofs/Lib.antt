@@ -4,5 +4,7 @@ pub mod RangeTests
 pub mod Fields
 pub mod Digits
 pub mod Words
+pub mod RawWords
+pub mod FigureWords
 pub mod Counts
 pub mod Refusals

@@ -1,4 +1,5 @@
--- A word and what it says are each other's inverse: each kind by its fields, the rest from these by cases on the tests. Assumes nothing.
+-- A word and what it says are each other's inverse: each kind by its fields, the rest from these by cases on the tests.
+-- Assumes nothing.
 use mathlib.Core.Path.{_≡_, refl, sym, ap, _∙_}
 use mathlib.Core.Bool.{Bool, true, false, cond, _&&_, true≢false}
 use mathlib.Core.List.{List, [], _∷_, map}
@@ -8,9 +9,12 @@ use lib.ListN.{getD}
 use lib.Dec.{eqb}
 use borrow.Author.Tests.{leb-true, eqb-true, eq-eqb}
 use Rattle.word.specs.Limits.{isStrike, isMonth, isClassNumber, isLength, isDesignation, isGround, isMark}
-use Rattle.word.specs.Programs.{Program, programs, programCount, program, areDesignations}
-use Rattle.word.specs.Field.{field}
-use Rattle.word.specs.Codec.{isLegal, packed, FitEach, Fits, fieldsAs, kindOf, reading, Word, Head, Class, Close, Volume, Expiration, Strike, Invalid}
+use Rattle.word.specs.declared.field.Field.{Field}
+use Rattle.word.specs.declared.kind.Kind.{Kind}
+use Rattle.word.specs.Programs.{Program, programs, programCount, program, areDesignations, designationWidth, designationIn, designationsIn, dollarProgram, halfProgram}
+use Rattle.word.specs.Field.{field, end}
+use Rattle.word.specs.Kinds.{kindField, kindOf, keyOf, headKind, usedField, classKind, closeKind, volumeKind, expirationKind, strikeKind, groundField, putField, callField}
+use Rattle.word.specs.Codec.{isLegal, packed, shifted, kindPlaced, FitEach, Fits, fieldsAs, strikeSaid, reading, Word, Head, Class, Close, Volume, Expiration, Strike, Invalid}
 use Rattle.logic.proofs.Tests.{and-both}
 use Rattle.word.proofs.RangeTests.{between-high}
 use Rattle.word.proofs.Fields.{field-packed}
@@ -44,12 +48,12 @@ legal-fits Invalid legal = omega arith
 -- the kind and the fields of a packed word are those that were packed
 
 abbrev pub kindIn : Word → ℕ
-kindIn (Head now used) = 1
-kindIn (Class number ds) = 2
-kindIn (Close price) = 3
-kindIn (Volume contracts) = 4
-kindIn (Expiration month) = 5
-kindIn (Strike h ground put call) = 6
+kindIn (Head now used) = headKind .number
+kindIn (Class number ds) = classKind .number
+kindIn (Close price) = closeKind .number
+kindIn (Volume contracts) = volumeKind .number
+kindIn (Expiration month) = expirationKind .number
+kindIn (Strike h ground put call) = strikeKind .number
 kindIn Invalid = 0
 
 pub kind-packed : (x : Word) (w : ℕ) → Fits x → packed x ≡ w → kindOf w ≡ kindIn x
@@ -64,32 +68,41 @@ kind-packed (Expiration month) w fits e = omega arith
 kind-packed (Strike h ground put call) w fits e = omega arith
 kind-packed Invalid w fits e = omega arith
 
+-- the kind as it stands above a field
+abbrev kindAbove : Kind → Field → ℕ
+kindAbove k f = k .number * 2 ^ (kindField .low - end f)
+
 pub head-fields :
-    (w now used : ℕ) → Fits (Head now used) → packed (Head now used) ≡ w → (field w 0 10 ≡ now) × (field w 10 16 ≡ used)
-head-fields w now used fits e = (omega arith, field-packed w now used (1 * 2 ^ 2) 10 16 (omega arith) (omega arith) (omega arith))
+    (w now used : ℕ) → Fits (Head now used) → packed (Head now used) ≡ w
+    → (keyOf headKind w ≡ now) × (field w usedField ≡ used)
+head-fields w now used fits e = (
+  omega arith,
+  field-packed w now used (kindAbove headKind usedField) usedField (omega arith) (omega arith) (omega arith),
+)
 
 -- a class word's number, and its designation in each program
 pub class-fields :
     (w number : ℕ) (ds : List ℕ) → Fits (Class number ds) → packed (Class number ds) ≡ w
-    → (field w 0 14 ≡ number) × (map (λ g. field w (g .low) 2) programs ≡ ds)
+    → (keyOf classKind w ≡ number) × (designationsIn w ≡ ds)
 class-fields w number [] fits e = absurd (fits .1)
 class-fields w number (d ∷ []) fits e = absurd (fits .1 .1)
 class-fields w number (d ∷ h ∷ []) fits e =
-    let first : field w 14 2 ≡ d =
-    field-packed w number d (h + 2 * 2 ^ 12) 14 2 (omega arith) (omega arith) (omega arith) in
-    let second : field w 16 2 ≡ h =
-    field-packed w (number + d * 2 ^ 14) h (2 * 2 ^ 10) 16 2 (omega arith) (omega arith) (omega arith) in
+    let first : designationIn dollarProgram w ≡ d =
+    field-packed w number d (h + classKind .number * 2 ^ (kindField .low - halfProgram .bits .low)) (dollarProgram .bits)
+    (omega arith) (omega arith) (omega arith) in
+    let second : designationIn halfProgram w ≡ h =
+    field-packed w (number + shifted d (dollarProgram .bits)) h (kindAbove classKind (halfProgram .bits))
+    (halfProgram .bits) (omega arith) (omega arith) (omega arith) in
     (omega arith, λ i. first i ∷ second i ∷ [])
 class-fields w number (d ∷ h ∷ x ∷ ds) fits e = absurd (fits .1 .1 .1)
 
 pub class-designation :
     (w number : ℕ) (ds : List ℕ) → Fits (Class number ds) → packed (Class number ds) ≡ w
-    → (p : ℕ) → 1 ≤ p → p ≤ programCount → field w (program p .low) 2 ≡ getD ds (p - 1) 0
+    → (p : ℕ) → 1 ≤ p → p ≤ programCount → designationIn (program p) w ≡ getD ds (p - 1) 0
 class-designation w number ds fits e p low high =
     go p low high ∙ ap (λ (l : List ℕ). getD l (p - 1) 0) (class-fields w number ds fits e .1)
   where
-    go : (p : ℕ) → 1 ≤ p → p ≤ programCount
-        → field w (program p .low) 2 ≡ getD (map (λ g. field w (g .low) 2) programs) (p - 1) 0
+    go : (p : ℕ) → 1 ≤ p → p ≤ programCount → designationIn (program p) w ≡ getD (designationsIn w) (p - 1) 0
     go zero low high = absurd (omega (arith, low))
     go (suc zero) low high = refl
     go (suc (suc zero)) low high = refl
@@ -98,8 +111,10 @@ class-designation w number ds fits e p low high =
 -- the number of a class word, by its designations one by one
 pub class-packed :
     (number : ℕ) (ds : List ℕ) → Fits (Class number ds)
-    → (getD ds 0 0 < 2 ^ 2) × (getD ds 1 0 < 2 ^ 2)
-    × (packed (Class number ds) ≡ number + getD ds 0 0 * 2 ^ 14 + getD ds 1 0 * 2 ^ 16 + 2 * 2 ^ 28)
+    → (getD ds 0 0 < 2 ^ designationWidth) × (getD ds 1 0 < 2 ^ designationWidth)
+    × (packed (Class number ds)
+    ≡ number + shifted (getD ds 0 0) (dollarProgram .bits) + shifted (getD ds 1 0) (halfProgram .bits)
+    + kindPlaced classKind)
 class-packed number [] fits = absurd (fits .1)
 class-packed number (d ∷ []) fits = absurd (fits .1 .1)
 class-packed number (d ∷ h ∷ []) fits = (fits .1 .0, fits .1 .1 .0, omega arith)
@@ -107,13 +122,16 @@ class-packed number (d ∷ h ∷ x ∷ ds) fits = absurd (fits .1 .1 .1)
 
 pub strike-fields :
     (w h ground put call : ℕ) → Fits (Strike h ground put call) → packed (Strike h ground put call) ≡ w
-    → (field w 0 15 ≡ h) × (field w 15 3 ≡ ground) × (field w 18 1 ≡ put) × (field w 19 1 ≡ call)
-strike-fields w h ground put call fits e = (
-  omega arith,
-  field-packed w h ground (put + call * 2 + 6 * 2 ^ 10) 15 3 (omega arith) (omega arith) (omega arith),
-  field-packed w (h + ground * 2 ^ 15) put (call + 6 * 2 ^ 9) 18 1 (omega arith) (omega arith) (omega arith),
-  field-packed w (h + ground * 2 ^ 15 + put * 2 ^ 18) call (6 * 2 ^ 8) 19 1 (omega arith) (omega arith) (omega arith),
-)
+    → (keyOf strikeKind w ≡ h) × (field w groundField ≡ ground) × (field w putField ≡ put) × (field w callField ≡ call)
+strike-fields w h ground put call fits e =
+    let marked = h + shifted ground groundField in
+    let above = call * 2 + kindAbove strikeKind groundField in (
+      omega arith,
+      field-packed w h ground (put + above) groundField (omega arith) (omega arith) (omega arith),
+      field-packed w marked put (call + kindAbove strikeKind putField) putField (omega arith) (omega arith) (omega arith),
+      field-packed w (marked + shifted put putField) call (kindAbove strikeKind callField) callField (omega arith)
+          (omega arith) (omega arith),
+    )
 
 pub fields-packed : (x : Word) → Fits x → fieldsAs (kindOf (packed x)) (packed x) ≡ x
 fields-packed x fits = ap (λ (k : ℕ). fieldsAs k (packed x)) (kind-packed x (packed x) fits refl) ∙ go x fits
@@ -123,9 +141,9 @@ fields-packed x fits = ap (λ (k : ℕ). fieldsAs k (packed x)) (kind-packed x (
     go (Class number ds) f =
         let e = class-fields (packed (Class number ds)) number ds f refl in
         λ i. Class (e .0 i) (e .1 i)
-    go (Close price) f = let e : field (packed (Close price)) 0 20 ≡ price = omega arith in ap Close e
-    go (Volume contracts) f = let e : field (packed (Volume contracts)) 0 24 ≡ contracts = omega arith in ap Volume e
-    go (Expiration month) f = let e : field (packed (Expiration month)) 0 10 ≡ month = omega arith in ap Expiration e
+    go (Close price) f = let e : keyOf closeKind (packed (Close price)) ≡ price = omega arith in ap Close e
+    go (Volume contracts) f = let e : keyOf volumeKind (packed (Volume contracts)) ≡ contracts = omega arith in ap Volume e
+    go (Expiration month) f = let e : keyOf expirationKind (packed (Expiration month)) ≡ month = omega arith in ap Expiration e
     go (Strike h ground put call) f =
         let e = strike-fields (packed (Strike h ground put call)) h ground put call f refl in
         λ i. Strike (e .0 i) (e .1 i) (e .2 i) (e .3 i)

@@ -1,12 +1,15 @@
 -- Document 01, "Kind 1, the head" to "Kind 6, a strike", "Bits 28 to 31 of a word are its kind", "every bit not named
 -- is zero": the six kinds of word, packed and read. Assumes nothing.
-use Prim.Native.Nat.{ℕ, _+_, _*_, _/_, _^_, _<_, _≤_}
+use Prim.Native.Nat.{ℕ, _+_, _*_, _^_, _<_, _≤_}
 use mathlib.Core.Bool.{Bool, false, cond, _&&_}
-use mathlib.Core.List.{List, [], _∷_, map}
+use mathlib.Core.List.{List, [], _∷_}
 use lib.Dec.{eqb}
+use Rattle.word.specs.declared.field.Field.{Field}
+use Rattle.word.specs.declared.kind.Kind.{Kind}
 use Rattle.word.specs.Limits.{isStrike, isMonth, isClassNumber, isVolume, isLength, isClose, isGround, isMark}
-use Rattle.word.specs.Programs.{Program, programs, areDesignations}
+use Rattle.word.specs.Programs.{Program, programs, areDesignations, designationWidth, designationsIn}
 use Rattle.word.specs.Field.{field}
+use Rattle.word.specs.Kinds.{kindField, kindOf, keyOf, headKind, usedField, classKind, closeKind, volumeKind, expirationKind, strikeKind, groundField, putField, callField}
 
 -- what a word of the book says, by its kind; Invalid where it is none
 pub data Word : Type 0 where
@@ -28,20 +31,29 @@ isLegal (Expiration month) = isMonth month
 isLegal (Strike h ground put call) = isStrike h && (isGround ground && (isMark put && isMark call))
 isLegal Invalid = false
 
--- the designations, each from its program's lowest bit on
+-- a number from the lowest bit of a field on
+abbrev pub shifted : ℕ → Field → ℕ
+shifted n f = n * 2 ^ f .low
+
+-- the designations, each in its program's field
 abbrev pub placed : List Program → List ℕ → ℕ
 placed [] ds = 0
 placed (g ∷ gs) [] = 0
-placed (g ∷ gs) (d ∷ ds) = d * 2 ^ g .low + placed gs ds
+placed (g ∷ gs) (d ∷ ds) = shifted d (g .bits) + placed gs ds
 
--- the number whose bits are the word: a field from bit k on counts 2 ^ k times, and "every bit not named is zero"
+abbrev pub kindPlaced : Kind → ℕ
+kindPlaced k = shifted (k .number) kindField
+
+-- the number whose bits are the word: its key and its other fields, each from its lowest bit on, and its kind; "every
+-- bit not named is zero"
 abbrev pub packed : Word → ℕ
-packed (Head now used) = now + used * 2 ^ 10 + 1 * 2 ^ 28
-packed (Class number ds) = number + placed programs ds + 2 * 2 ^ 28
-packed (Close price) = price + 3 * 2 ^ 28
-packed (Volume contracts) = contracts + 4 * 2 ^ 28
-packed (Expiration month) = month + 5 * 2 ^ 28
-packed (Strike h ground put call) = h + ground * 2 ^ 15 + put * 2 ^ 18 + call * 2 ^ 19 + 6 * 2 ^ 28
+packed (Head now used) = now + shifted used usedField + kindPlaced headKind
+packed (Class number ds) = number + placed programs ds + kindPlaced classKind
+packed (Close price) = price + kindPlaced closeKind
+packed (Volume contracts) = contracts + kindPlaced volumeKind
+packed (Expiration month) = month + kindPlaced expirationKind
+packed (Strike h ground put call) =
+    h + shifted ground groundField + shifted put putField + shifted call callField + kindPlaced strikeKind
 packed Invalid = 0
 
 -- a designation for each program, small enough for its bits
@@ -49,32 +61,38 @@ abbrev pub FitEach : List Program → List ℕ → Type 0
 FitEach [] [] = 0 ≤ 0
 FitEach [] (d ∷ ds) = ⊥
 FitEach (g ∷ gs) [] = ⊥
-FitEach (g ∷ gs) (d ∷ ds) = (d < 2 ^ 2) × FitEach gs ds
+FitEach (g ∷ gs) (d ∷ ds) = (d < 2 ^ designationWidth) × FitEach gs ds
+
+-- a key is small enough for its bits
+abbrev pub FitsKey : Kind → ℕ → Type 0
+FitsKey k n = n < 2 ^ k .width
 
 -- every field is small enough for its bits
 abbrev pub Fits : Word → Type 0
-Fits (Head now used) = (now < 2 ^ 10) × (used < 2 ^ 16)
-Fits (Class number ds) = (number < 2 ^ 14) × FitEach programs ds
-Fits (Close price) = price < 2 ^ 20
-Fits (Volume contracts) = contracts < 2 ^ 24
-Fits (Expiration month) = month < 2 ^ 10
-Fits (Strike h ground put call) = (h < 2 ^ 15) × ((ground < 2 ^ 3) × ((put < 2 ^ 1) × (call < 2 ^ 1)))
+Fits (Head now used) = FitsKey headKind now × (used < 2 ^ usedField .width)
+Fits (Class number ds) = FitsKey classKind number × FitEach programs ds
+Fits (Close price) = FitsKey closeKind price
+Fits (Volume contracts) = FitsKey volumeKind contracts
+Fits (Expiration month) = FitsKey expirationKind month
+Fits (Strike h ground put call) =
+    FitsKey strikeKind h
+    × ((ground < 2 ^ groundField .width) × ((put < 2 ^ putField .width) × (call < 2 ^ callField .width)))
 Fits Invalid = 0 ≤ 0
 
--- the fields of w, read as those of a word of kind k
+-- the fields of w, read as those of a strike word
+abbrev pub strikeSaid : ℕ → Word
+strikeSaid w = Strike (keyOf strikeKind w) (field w groundField) (field w putField) (field w callField)
+
+-- the fields of w, read as those of a word of the kind of this number
 abbrev pub fieldsAs : ℕ → ℕ → Word
 fieldsAs k w =
-    cond (eqb k 1) (Head (field w 0 10) (field w 10 16))
-    (cond (eqb k 2) (Class (field w 0 14) (map (λ g. field w (g .low) 2) programs))
-    (cond (eqb k 3) (Close (field w 0 20))
-    (cond (eqb k 4) (Volume (field w 0 24))
-    (cond (eqb k 5) (Expiration (field w 0 10))
-    (cond (eqb k 6) (Strike (field w 0 15) (field w 15 3) (field w 18 1) (field w 19 1))
+    cond (eqb k (headKind .number)) (Head (keyOf headKind w) (field w usedField))
+    (cond (eqb k (classKind .number)) (Class (keyOf classKind w) (designationsIn w))
+    (cond (eqb k (closeKind .number)) (Close (keyOf closeKind w))
+    (cond (eqb k (volumeKind .number)) (Volume (keyOf volumeKind w))
+    (cond (eqb k (expirationKind .number)) (Expiration (keyOf expirationKind w))
+    (cond (eqb k (strikeKind .number)) (strikeSaid w)
     Invalid)))))
-
--- "Bits 28 to 31 of a word are its kind"
-abbrev pub kindOf : ℕ → ℕ
-kindOf w = w / 2 ^ 28
 
 -- x where its fields are in their limits and w has no bit beside them, else Invalid
 abbrev pub confirmed : Word → ℕ → Word

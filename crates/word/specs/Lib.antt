@@ -1,8 +1,12 @@
 pub mod Limits
-pub mod Programs
 pub mod Field
+pub mod Programs
 pub mod Digits
+pub mod Kinds
 pub mod Codec
 pub mod Class
 pub mod Caps
 pub mod Answers
+pub mod Head
+pub mod Figures
+pub mod Strikes

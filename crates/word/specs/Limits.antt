@@ -1,6 +1,6 @@
 -- Document 01, "A price P is in cents, 1 to 999,999." to "a lent run of 1 to 65,535 words", and the limits of fields,
 -- "(0 none, 1 ours, 2 another exchange's)": the limits of every number. Assumes nothing.
-use Prim.Native.Nat.{ℕ}
+use Prim.Native.Nat.{ℕ, _+_, min}
 use mathlib.Core.Bool.{Bool, _&&_}
 use lib.Dec.{leb}
 
@@ -8,8 +8,11 @@ abbrev pub between : ℕ → ℕ → ℕ → Bool
 between low high n = leb low n && leb n high
 
 -- "A price P is in cents, 1 to 999,999."
+abbrev pub highestPrice : ℕ
+highestPrice = 999999
+
 abbrev pub isPrice : ℕ → Bool
-isPrice p = between 1 999999 p
+isPrice p = between 1 highestPrice p
 
 -- "A strike is counted in half dollars, h from 1 to 19,999"
 abbrev pub highestStrike : ℕ
@@ -19,20 +22,40 @@ abbrev pub isStrike : ℕ → Bool
 isStrike h = between 1 highestStrike h
 
 -- "A month is 0 to 1,023"
+abbrev pub lastMonth : ℕ
+lastMonth = 1023
+
 abbrev pub isMonth : ℕ → Bool
-isMonth m = leb m 1023
+isMonth m = leb m lastMonth
+
+-- "each expiration from `now` to `now` + 39"
+abbrev pub monthsAhead : ℕ
+monthsAhead = 39
+
+-- the last month that may stand in a book of the month `now`
+abbrev pub latestMonth : ℕ → ℕ
+latestMonth now = min (now + monthsAhead) lastMonth
 
 -- "A class number is 1 to 16,383."
+abbrev pub highestClass : ℕ
+highestClass = 16383
+
 abbrev pub isClassNumber : ℕ → Bool
-isClassNumber c = between 1 16383 c
+isClassNumber c = between 1 highestClass c
 
 -- "Volume, the national average of contracts a day, is 0 to 9,999,999."
+abbrev pub highestVolume : ℕ
+highestVolume = 9999999
+
 abbrev pub isVolume : ℕ → Bool
-isVolume n = leb n 9999999
+isVolume n = leb n highestVolume
 
 -- "The book is a lent run of 1 to 65,535 words of 32 bits."
+abbrev pub longestRun : ℕ
+longestRun = 65535
+
 abbrev pub isLength : ℕ → Bool
-isLength n = between 1 65535 n
+isLength n = between 1 longestRun n
 
 -- "(0 none, 1 ours, 2 another exchange's)"
 abbrev pub isDesignation : ℕ → Bool
@@ -40,7 +63,7 @@ isDesignation d = leb d 2
 
 -- "close in bits 0–19, 0 when none has come": no close yet, or a price
 abbrev pub isClose : ℕ → Bool
-isClose p = leb p 999999
+isClose p = leb p highestPrice
 
 -- "ground in 15–17 (0 to 3)"
 abbrev pub isGround : ℕ → Bool

@@ -2,16 +2,18 @@
 -- "A new d of 1 needs a close below 5,000 for $1, or ..": one row for each program. Assumes nothing.
 use Prim.Native.Nat.{ℕ, _-_}
 use mathlib.Core.Bool.{Bool, true, false, _&&_}
-use mathlib.Core.List.{List, [], _∷_}
+use mathlib.Core.List.{List, [], _∷_, map}
 use lib.ListN.{length, getD}
 use lib.Dec.{leb, ltb}
 use Rattle.word.specs.declared.class.ClassRecord.{ClassRecord}
+use Rattle.word.specs.declared.field.Field.{Field}
+use Rattle.word.specs.Field.{field}
 use Rattle.word.specs.Limits.{between, isDesignation}
 
 pub record Program : Type 0 where
   pub number : ℕ
-  -- the lowest bit of its designation in a class word
-  pub low : ℕ
+  -- where its designation stands in a class word
+  pub bits : Field
   -- how many classes may have designation 1
   pub cap : ℕ
   -- "8 no close yet (.. and `D` to a new 1)": whether a new 1 needs a close
@@ -19,10 +21,21 @@ pub record Program : Type 0 where
   -- "9 close or volume doesn't qualify": here they do
   pub qualifies : ClassRecord → Bool
 
+-- how many bits a designation has: "14–15", "16–17"
+abbrev pub designationWidth : ℕ
+designationWidth = 2
+
 -- "1 for $1"; "$1 designation in 14–15"; "at most 150 classes with $1 designation 1"; "A new d of 1 needs a close below
 -- 5,000 for $1"
 abbrev pub dollarProgram : Program
-dollarProgram = record { number = 1; low = 14; cap = 150; needsClose = true; qualifies = λ r. ltb (r .close) 5000 }
+dollarProgram =
+    record {
+      number = 1;
+      bits = record { low = 14; width = designationWidth };
+      cap = 150;
+      needsClose = true;
+      qualifies = λ r. ltb (r .close) 5000;
+    }
 
 -- "2 for $0.50"; "$0.50 designation in 16–17"; "at most 20 with $0.50 designation 1"; "or a close of at most 500 and a
 -- volume of at least 1,000 for $0.50"
@@ -30,7 +43,7 @@ abbrev pub halfProgram : Program
 halfProgram =
     record {
       number = 2;
-      low = 16;
+      bits = record { low = 16; width = designationWidth };
       cap = 20;
       needsClose = true;
       qualifies = λ r. leb (r .close) 500 && leb 1000 (r .volume);
@@ -56,3 +69,10 @@ areDesignations [] [] = true
 areDesignations [] (d ∷ ds) = false
 areDesignations (g ∷ gs) [] = false
 areDesignations (g ∷ gs) (d ∷ ds) = isDesignation d && areDesignations gs ds
+
+-- the designation in the program g that a class word says, and those in all programs
+abbrev pub designationIn : Program → ℕ → ℕ
+designationIn g w = field w (g .bits)
+
+abbrev pub designationsIn : ℕ → List ℕ
+designationsIn w = map (λ g. designationIn g w) programs

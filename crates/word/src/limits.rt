@@ -1,13 +1,32 @@
 // The limits of the numbers that a call or a word carries.
 ghost use mathlib.Core.Path.{_≡_};
-ghost use Rattle.word.specs.Limits.{isPrice, isStrike, isMonth, isClassNumber, isVolume, isLength, isDesignation, isClose, isGround, isMark};
+ghost use Prim.Native.Nat.{_≤_};
+ghost use Rattle.word.specs.Limits.{isPrice, isStrike, isMonth, isClassNumber, isVolume, isLength, isDesignation, isClose, isGround, isMark, lastMonth, latestMonth};
 use crate::strike::Strike;
+
+// In cents.
+const HIGHEST_PRICE: u32 = 999999;
+
+const LAST_MONTH: u32 = 1023;
+
+// How far ahead of the current month an expiration may stand.
+pub const MONTHS_AHEAD: u32 = 39;
+
+const HIGHEST_CLASS: u32 = 16383;
+
+const HIGHEST_VOLUME: u32 = 9999999;
+
+const LONGEST_RUN: usize = 65535;
+
+const HIGHEST_DESIGNATION: u32 = 2;
+
+const HIGHEST_GROUND: u32 = 3;
 
 // A price in cents.
 pub fn is_price(p: u32) -> bool
     ensures { λ r. ⌜ r ≡ isPrice p ⌝ }
 {
-    (1 <= p) & (p <= 999999)
+    (1 <= p) & (p <= HIGHEST_PRICE)
 }
 
 // A strike in half dollars.
@@ -20,45 +39,57 @@ pub fn is_strike(h: u32) -> bool
 pub fn is_month(m: u32) -> bool
     ensures { λ r. ⌜ r ≡ isMonth m ⌝ }
 {
-    m <= 1023
+    m <= LAST_MONTH
+}
+
+// The last month that may stand in a book of the month `current`.
+pub fn latest_month(current: u32) -> u32
+    requires { ⌜ current ≤ lastMonth ⌝ }
+    ensures { λ r. ⌜ r ≡ latestMonth current ⌝ }
+{
+    if current < LAST_MONTH - MONTHS_AHEAD {
+        current + MONTHS_AHEAD
+    } else {
+        LAST_MONTH
+    }
 }
 
 pub fn is_class_number(c: u32) -> bool
     ensures { λ r. ⌜ r ≡ isClassNumber c ⌝ }
 {
-    (1 <= c) & (c <= 16383)
+    (1 <= c) & (c <= HIGHEST_CLASS)
 }
 
 pub fn is_volume(n: u32) -> bool
     ensures { λ r. ⌜ r ≡ isVolume n ⌝ }
 {
-    n <= 9999999
+    n <= HIGHEST_VOLUME
 }
 
 // The length of a run that can be a book.
 pub fn is_length(n: usize) -> bool
     ensures { λ r. ⌜ r ≡ isLength n ⌝ }
 {
-    (1 <= n) & (n <= 65535)
+    (1 <= n) & (n <= LONGEST_RUN)
 }
 
 pub fn is_designation(d: u32) -> bool
     ensures { λ r. ⌜ r ≡ isDesignation d ⌝ }
 {
-    d <= 2
+    d <= HIGHEST_DESIGNATION
 }
 
 // A price, or 0 when none has come.
 pub fn is_close(p: u32) -> bool
     ensures { λ r. ⌜ r ≡ isClose p ⌝ }
 {
-    p <= 999999
+    p <= HIGHEST_PRICE
 }
 
 pub fn is_ground(g: u32) -> bool
     ensures { λ r. ⌜ r ≡ isGround g ⌝ }
 {
-    g <= 3
+    g <= HIGHEST_GROUND
 }
 
 // A mark of open interest.

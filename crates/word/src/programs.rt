@@ -3,6 +3,7 @@ ghost use mathlib.Core.Path.{_≡_};
 ghost use Prim.Native.Nat.{_≤_};
 ghost use Rattle.word.specs.Programs.{isProgram, program, programCount};
 use crate::class::ClassRecord;
+use crate::field::Field;
 
 // Their numbers, and how many there are.
 pub const DOLLAR: u32 = 1;
@@ -11,10 +12,18 @@ pub const HALF: u32 = 2;
 
 pub const COUNT: u32 = 2;
 
-// The lowest bits of their designations in a class word.
-pub const DOLLAR_LOW: u32 = 14;
+// Where a class word holds their designations.
+pub const DOLLAR_BITS: Field = Field {
+    low: 14,
+    width: DESIGNATION_WIDTH,
+};
 
-pub const HALF_LOW: u32 = 16;
+pub const HALF_BITS: Field = Field {
+    low: 16,
+    width: DESIGNATION_WIDTH,
+};
+
+const DESIGNATION_WIDTH: u32 = 2;
 
 pub fn is_program(p: u32) -> bool
     ensures { λ r. ⌜ r ≡ isProgram p ⌝ }

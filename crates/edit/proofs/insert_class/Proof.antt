@@ -4,7 +4,7 @@ use mathlib.Core.Path.{_∙_, ap}
 use mathlib.Core.List.{[], _∷_, map}
 use Rattle.word.specs.declared.class.ClassRecord.{ClassRecord}
 use Rattle.word.specs.Codec.{packed}
-use Rattle.book.specs.Layout.{figuresWords}
+use Rattle.word.specs.Figures.{figuresWords}
 use Rattle.edit.specs.Insertion.{insertWords}
 use Rattle.edit.proofs.Edits.{opened-fit, opened-room, class-inserted}
 use Rattle.edit.proofs.insert_class.Statement.{statement}

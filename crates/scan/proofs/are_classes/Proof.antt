@@ -1,12 +1,17 @@
 -- `are_classes` tests the classes: each way through the loop is one law of the loop.
-use Prim.Native.Nat.{_+_, _-_}
-use mathlib.Core.Path.{_≡_, refl}
+use Prim.Native.Nat.{ℕ, _+_, _-_}
+use mathlib.Core.Path.{_≡_, refl, ap, _∙_}
+use mathlib.Core.Bool.{Bool, true, false, _||_}
 use native.Mathlib.Omega.{arith}
 use lib.ListN.{length}
+use lib.Dec.{ltb}
 use borrow.Author.Needs.{needs}
+use Rattle.word.specs.Caps.{own}
+use Rattle.word.specs.Figures.{figuresLength}
+use Rattle.word.specs.Programs.{program}
 use Rattle.scan.specs.Ahead.{Tells}
 use Rattle.scan.specs.Stretches.{SeriesEnd}
-use Rattle.scan.proofs.Classes.{Walked, Counted, walked-start, walked-short, walked-wrong, walked-counted, walked-end, counted-exceeded, counted-breaks, counted-more}
+use Rattle.scan.proofs.Classes.{Walked, Counted, counted-same, walked-start, walked-short, walked-wrong, walked-counted, walked-end, counted-exceeded, counted-breaks, counted-more}
 use Rattle.scan.proofs.are_classes.Statement.{statement}
 use Rattle.scan.proofs.are_classes.Tie as tie
 
@@ -17,39 +22,63 @@ Inv-loop current s n ahead₀ i₀ last₀ dollars₀ halves₀ ahead i last dol
 abbrev μ-loop : tie.MeasureT-loop
 μ-loop current s n ahead₀ i₀ last₀ dollars₀ halves₀ ahead i last dollars halves = length s - i
 
+-- where the words of figures passed their test, from where the class's number is read
+abbrev figured : tie.After-key Inv-loop μ-loop → tie.Else2 Inv-loop μ-loop
+figured c = c .before .before
+
+-- the turn of the loop
+abbrev turn : tie.Else2 Inv-loop μ-loop → tie.At-loop Inv-loop μ-loop
+turn c = c .before .before .before .before
+
+abbrev start : tie.At-loop Inv-loop μ-loop → tie.Start Inv-loop μ-loop
+start c = c .before .before .before
+
+-- where the number is read, from where the class is counted
+abbrev numbered : tie.After-counted2 Inv-loop μ-loop → tie.After-key Inv-loop μ-loop
+numbered c = c .before .before .before .before
+
+-- where the class is counted, from the tests of the caps on
+abbrev tallied : tie.After-is-exceeded2 Inv-loop μ-loop → tie.After-counted2 Inv-loop μ-loop
+tallied c = c .before .before
+
+-- where the caps are kept, from the end of the series on
+abbrev capped : tie.After-expirations-end Inv-loop μ-loop → tie.Else3 Inv-loop μ-loop
+capped c = c .before .before
+
 -- the class at i is counted
 counted :
     (c : tie.After-counted2 Inv-loop μ-loop)
-    → let test = c .before .before .before .before .before in
-    let loop = test .before .before .before .before .before .before .before .before .before in
-    let args = loop .before .before .before .args in
-    Counted (args .current) (args .s .now) (loop .loop .i) (c .before .before .before .before .field-of .result)
+    → let at = turn (figured (numbered c)) in
+    let args = start at .args in
+    Counted (args .current) (args .s .now) (at .loop .i) (numbered c .key .result)
     (c .before .before .counted .result .0) (c .counted2 .result .0)
 counted c =
-    let test = c .before .before .before .before .before in
-    let volume = test .before in
-    let close = volume .before .before in
-    let class = close .before .before in
-    let room = class .before in
-    rw (
-      c .counted2 .ensures,
-      c .before .field-of3 .ensures,
-      c .before .before .counted .ensures,
-      c .before .before .before .field-of2 .ensures,
-      c .before .before .before .before .field-of .ensures,
-    )
-    (walked-counted (room .before .before .before .loop .inv .0) (room .if1 .left)
-    (simp (class .is-class-above .ensures, close .is-close-word .ensures, volume .is-volume-word .ensures)
-    at (test .if2 .left)))
+    let passed = figured (numbered c) in
+    let loop = turn passed .loop in
+    let dollar = c .before .before in
+    let walk =
+    walked-counted (loop .inv .0) (passed .before .before .if1 .left)
+    (rw (passed .before .are-figures .ensures) at (passed .if2 .left)) in
+    counted-same walk (numbered c .key .ensures)
+    (dollar .counted .ensures ∙ ap (λ (d : ℕ). loop .dollars .0 + own d) (dollar .before .field-of .ensures))
+    (c .counted2 .ensures ∙ ap (λ (d : ℕ). loop .halves .0 + own d) (c .before .field-of2 .ensures))
+
+-- the caps are exceeded or kept by the counts
+caps :
+    (c : tie.After-is-exceeded2 Inv-loop μ-loop) (over : Bool)
+    → (c .before .is-exceeded .result || c .is-exceeded2 .result) ≡ over
+    → (ltb (program 1 .cap) (tallied c .before .before .counted .result .0)
+    || ltb (program 2 .cap) (tallied c .counted2 .result .0))
+    ≡ over
+caps c over e = rw (c .before .is-exceeded .ensures, c .is-exceeded2 .ensures) at e
 
 -- its series end where the next class starts
 ended :
     (c : tie.After-stretch Inv-loop μ-loop)
-    → let test = c .before .before .before .before .before .before .before .before .before .before .before .before in
-    let loop = test .before .before .before .before .before .before .before .before .before in
-    let args = loop .before .before .before .args in
+    → let at = turn (figured (numbered (tallied (capped (c .before .before) .before)))) in
+    let args = start at .args in
     let ahead = c .stretch .given .0 .0 in
-    SeriesEnd (args .current) (args .s .now) (loop .loop .i + 3) (ahead .at) × Tells (args .s .now) ahead
+    SeriesEnd (args .current) (args .s .now) (at .loop .i + figuresLength) (ahead .at) × Tells (args .s .now) ahead
 ended c =
     let end = c .before .before in
     rw (c .stretch .given .1, end .before .skip-to .ensures .1) at (end .expirations-end .ensures)
@@ -62,58 +91,34 @@ loop-holds c =
     let start = c .before .before in
     (walked-start (start .args .current) (start .args .s .now) (start .pre .1), c .look-ahead .ensures)
 
-mul-w : tie.Need-mul-w Inv-loop μ-loop
-mul-w c = search needs
-
-shared-slice-read-w : tie.Need-shared-slice-read-w Inv-loop μ-loop
-shared-slice-read-w c = search needs
-
 sub-if1 : tie.Need-sub-if1 Inv-loop μ-loop
 sub-if1 c = search needs
 
 returns : tie.Need-returns Inv-loop μ-loop
 returns c =
     let at = c .before .before in
-    (λ t. absurd t, walked-short (at .before .loop .inv .0) (at .loop-test .taken) (c .if1 .taken))
+    (λ t. absurd t, walked-short (at .loop .inv .0) (c .before .loop-test .taken) (c .if1 .taken))
 
-is-class-above-requires : tie.Need-is-class-above-requires Inv-loop μ-loop
-is-class-above-requires c κs = search needs
-
-add-is-close-word : tie.Need-add-is-close-word Inv-loop μ-loop
-add-is-close-word c = search needs
-
-mul-is-close-word : tie.Need-mul-is-close-word Inv-loop μ-loop
-mul-is-close-word c = search needs
-
-shared-slice-read-is-close-word : tie.Need-shared-slice-read-is-close-word Inv-loop μ-loop
-shared-slice-read-is-close-word c = search needs
-
-is-close-word-requires : tie.Need-is-close-word-requires Inv-loop μ-loop
-is-close-word-requires c κs = search needs
-
-add-is-volume-word : tie.Need-add-is-volume-word Inv-loop μ-loop
-add-is-volume-word c = search needs
-
-mul-is-volume-word : tie.Need-mul-is-volume-word Inv-loop μ-loop
-mul-is-volume-word c = search needs
-
-shared-slice-read-is-volume-word : tie.Need-shared-slice-read-is-volume-word Inv-loop μ-loop
-shared-slice-read-is-volume-word c = search needs
-
-is-volume-word-requires : tie.Need-is-volume-word-requires Inv-loop μ-loop
-is-volume-word-requires c κs = search needs
+are-figures-requires : tie.Need-are-figures-requires Inv-loop μ-loop
+are-figures-requires c κs = search needs
 
 returns-2 : tie.Need-returns-2 Inv-loop μ-loop
 returns-2 c =
-    let volume = c .before in
-    let close = volume .before .before in
-    let class = close .before .before in
-    let room = class .before in (
+    let tested = c .before in
+    let room = tested .before in (
       λ t. absurd t,
-      walked-wrong (room .before .before .before .loop .inv .0) (room .if1 .left)
-          (simp (class .is-class-above .ensures, close .is-close-word .ensures, volume .is-volume-word .ensures)
-          at (c .if2 .taken)),
+      walked-wrong (room .before .before .loop .inv .0) (room .if1 .left)
+          (rw (tested .are-figures .ensures) at (c .if2 .taken)),
     )
+
+mul-w : tie.Need-mul-w Inv-loop μ-loop
+mul-w c = search needs
+
+shared-slice-read-w : tie.Need-shared-slice-read-w Inv-loop μ-loop
+shared-slice-read-w c = search needs
+
+key-requires : tie.Need-key-requires Inv-loop μ-loop
+key-requires c κs = search needs
 
 field-of-requires : tie.Need-field-of-requires Inv-loop μ-loop
 field-of-requires c κs = search needs
@@ -123,9 +128,6 @@ field-of-requires-2 c κs = search needs
 
 counted-requires : tie.Need-counted-requires Inv-loop μ-loop
 counted-requires c κs = search needs
-
-field-of-requires-3 : tie.Need-field-of-requires-3 Inv-loop μ-loop
-field-of-requires-3 c κs = search needs
 
 counted-requires-2 : tie.Need-counted-requires-2 Inv-loop μ-loop
 counted-requires-2 c κs = search needs
@@ -138,27 +140,22 @@ is-exceeded-requires-2 c κs = search needs
 
 returns-3 : tie.Need-returns-3 Inv-loop μ-loop
 returns-3 c =
-    let half = c .before in
-    let dollar = half .before in (
-      λ t. absurd t,
-      counted-exceeded (counted (dollar .before))
-          (simp (dollar .is-exceeded .ensures, half .is-exceeded2 .ensures) at (c .if3 .taken)),
-    )
+    let test = c .before in
+    (λ t. absurd t, counted-exceeded (counted (tallied test)) (caps test true (c .if3 .taken)))
 
 add-skip-to : tie.Need-add-skip-to Inv-loop μ-loop
 add-skip-to c = search needs
 
 skip-to-requires : tie.Need-skip-to-requires Inv-loop μ-loop
 skip-to-requires c κs =
-    let room = c .before .before .before .before .before .before .before .before .before .before .before .before .before .before in
-    let at = room .before .before .before in
-    (at .loop .inv .1 .0, (omega (arith, at .loop .inv .1 .1), omega (arith, room .if1 .left)))
+    let passed = figured (numbered (tallied (c .before))) in
+    let at = turn passed in
+    (at .loop .inv .1 .0, (omega (arith, at .loop .inv .1 .1), omega (arith, passed .before .before .if1 .left)))
 
 expirations-end-requires : tie.Need-expirations-end-requires Inv-loop μ-loop
 expirations-end-requires c κs =
-    let test = c .before .before .before .before .before .before .before .before .before in
-    let at = test .before .before .before .before .before .before .before .before .before in
-    (at .before .before .before .pre .0, c .skip-to .ensures .0)
+    let at = turn (figured (numbered (tallied (c .before .before)))) in
+    (start at .pre .0, c .skip-to .ensures .0)
 
 enum-known-stretch : tie.Need-enum-known-stretch Inv-loop μ-loop
 enum-known-stretch c = search needs
@@ -170,7 +167,7 @@ returns-4 : tie.Need-returns-4 Inv-loop μ-loop
 returns-4 c =
     let end = c .before .before in (
       λ t. absurd t,
-      counted-breaks (counted (end .before .before .before .before .before))
+      counted-breaks (counted (tallied (capped end .before)))
           (rw (c .enum-told .given .1, end .before .skip-to .ensures .1) at (end .expirations-end .ensures)),
     )
 
@@ -179,12 +176,10 @@ loop-less c = omega (arith, ended (c .before))
 
 loop-again : tie.Need-loop-again Inv-loop μ-loop
 loop-again c =
-    let kept = c .before .before .before .before .before in
-    let half = kept .before in
-    let dollar = half .before in
+    let kept = capped (c .before .before .before) in
     let end = ended (c .before) in (
-      counted-more (counted (dollar .before)) (c .before .stretch .given .0 .0 .at)
-          (simp (dollar .is-exceeded .ensures, half .is-exceeded2 .ensures) at (kept .if3 .left)) (end .0),
+      counted-more (counted (tallied (kept .before))) (c .before .stretch .given .0 .0 .at)
+          (caps (kept .before) false (kept .if3 .left)) (end .0),
       (end .1, refl),
     )
 
@@ -199,24 +194,16 @@ are-classes-spec =
     μ-loop
     look-ahead-requires
     loop-holds
-    mul-w
-    shared-slice-read-w
     sub-if1
     returns
-    is-class-above-requires
-    add-is-close-word
-    mul-is-close-word
-    shared-slice-read-is-close-word
-    is-close-word-requires
-    add-is-volume-word
-    mul-is-volume-word
-    shared-slice-read-is-volume-word
-    is-volume-word-requires
+    are-figures-requires
     returns-2
+    mul-w
+    shared-slice-read-w
+    key-requires
     field-of-requires
-    field-of-requires-2
     counted-requires
-    field-of-requires-3
+    field-of-requires-2
     counted-requires-2
     is-exceeded-requires
     is-exceeded-requires-2

@@ -6,8 +6,8 @@ use native.Mathlib.Omega.{arith}
 use lib.ListN.{length, drop}
 use lib.Dec.{eqb}
 use borrow.Author.Needs.{needs}
+use Rattle.scan.specs.Stretches.{isZero}
 use Rattle.logic.specs.Lists.{every}
-use Rattle.scan.specs.Tests.{isZero}
 use Rattle.scan.proofs.Zeros.{zeros-more, zeros-done}
 use Rattle.scan.proofs.are_zero.Statement.{statement}
 use Rattle.scan.proofs.are_zero.Tie as tie

@@ -1,14 +1,17 @@
 -- `expirations_end` finds the end of a class's series: each way through the loop is one law of the loop.
-use Prim.Native.Nat.{suc, _+_, _-_, min}
+use Prim.Native.Nat.{suc, _+_, _-_}
 use mathlib.Core.Path.{_≡_, refl, sym, _∙_}
 use native.Mathlib.Omega.{arith}
 use lib.ListN.{length, drop, getD}
 use lib.Dec.{T}
 use borrow.Author.Needs.{needs}
-use Rattle.word.specs.Codec.{Expiration, packed, kindOf}
-use Rattle.scan.specs.Tests.{nextLength}
+use borrow.Author.Tests.{eqb-true, eqb-false}
+use Rattle.word.specs.Limits.{latestMonth}
+use Rattle.word.specs.Kinds.{kindOf, expirationKind}
+use Rattle.word.specs.Codec.{Expiration, packed}
+use Rattle.scan.specs.NextStrikes.{nextLength}
 use Rattle.scan.specs.Ahead.{Tells}
-use Rattle.scan.proofs.Words.{isBetween, between-kind}
+use Rattle.scan.proofs.ExpirationWords.{isBetween, between-kind}
 use Rattle.scan.proofs.Expirations.{Expirations, expirations-start, expirations-done, expirations-stop, expirations-passed, expirations-failed, expirations-wrong, expirations-empty, expirations-outside, expirations-more}
 use Rattle.scan.proofs.expirations_end.Statement.{statement}
 use Rattle.scan.proofs.expirations_end.Tie as tie
@@ -24,7 +27,7 @@ abbrev μ-loop : tie.MeasureT-loop
 latest :
     (c : tie.After-expiration-word2 Inv-loop μ-loop)
     → c .before .expiration-word .result
-    ≡ packed (Expiration (min (c .before .before .before .before .args .current + 39) 1023))
+    ≡ packed (Expiration (latestMonth (c .before .before .before .before .args .current)))
 latest c = rw (c .before .expiration-word .ensures, c .before .before .latest-month .ensures)
 
 -- the word at i passed the comparison
@@ -41,7 +44,7 @@ passed c =
 kind-five :
     (c : tie.Else1 Inv-loop μ-loop)
     → let at = c .before .before .before in
-    kindOf (getD (at .before .before .before .before .before .args .s .now) (at .loop .i) 0) ≡ 5
+    kindOf (getD (at .before .before .before .before .before .args .s .now) (at .loop .i) 0) ≡ expirationKind .number
 kind-five c =
     let at = c .before .before .before in
     let a = at .before .before .before .before .before .args in
@@ -76,14 +79,14 @@ mul-w c = search needs
 shared-slice-read-w : tie.Need-shared-slice-read-w Inv-loop μ-loop
 shared-slice-read-w c = search needs
 
-kind-requires : tie.Need-kind-requires Inv-loop μ-loop
-kind-requires c κs = search needs
+is-of-kind-requires : tie.Need-is-of-kind-requires Inv-loop μ-loop
+is-of-kind-requires c κs = search needs
 
 returns : tie.Need-returns Inv-loop μ-loop
 returns c =
     let out = c .before .before in
     let at = out .before .before .before in
-    expirations-wrong (at .loop .inv .0) (out .before .before .loop-test .taken) (sym (c .before .kind .ensures) ∙ c .if2 .taken)
+    expirations-wrong (at .loop .inv .0) (out .before .before .loop-test .taken) (eqb-true _ _ (sym (c .before .is-of-kind .ensures) ∙ c .if2 .taken))
     (expirations-failed (at .loop .inv .0) (at .before .before .expiration-word .result) (latest (at .before)) (out .if1 .taken))
 
 returns-2 : tie.Need-returns-2 Inv-loop μ-loop
@@ -92,7 +95,7 @@ returns-2 c =
     let at = out .before .before .before in (
       rw (at .loop .inv .1 .1)
           (expirations-stop (at .loop .inv .0) (out .before .before .loop-test .taken)
-          (λ k. c .if2 .left (c .before .kind .ensures ∙ k))),
+          (eqb-false _ _ (sym (c .before .is-of-kind .ensures) ∙ c .if2 .left))),
       at .loop .inv .1 .0,
     )
 
@@ -175,7 +178,7 @@ expirations-end-spec =
     loop-holds
     mul-w
     shared-slice-read-w
-    kind-requires
+    is-of-kind-requires
     returns
     returns-2
     next-other-requires

@@ -3,6 +3,7 @@ use Prim.Native.Nat.{ℕ}
 use mathlib.Core.Path.{_≡_, sym, ap, _∙_}
 use mathlib.Core.Bool.{true}
 use mathlib.Core.List.{List}
+use native.Mathlib.Omega.{arith}
 use lib.ListN.{length, length-replicate}
 use borrow.Author.Needs.{needs}
 use borrow.Author.Tests.{not-true, not-false}
@@ -28,29 +29,31 @@ returns c = begun-not (words (c .before)) (sym (c .before .is-length .ensures) �
 zero-all-requires : tie.Need-zero-all-requires
 zero-all-requires c κs = search needs
 
-head-word-requires : tie.Need-head-word-requires
-head-word-requires c κs = search needs
+-- where its length has passed its test, from where it is cleared
+abbrev measured : tie.After-zero-all → tie.Else1
+measured c = c .before .before
 
-slice-write-run : tie.Need-slice-write-run
-slice-write-run c =
-    let cleared = c .before .before .before in
-    let kept = cleared .before .before in
-    let n = length (words (kept .before)) in
-    let some = some-words n (long kept) in
-    let same = ap length (cleared .zero-all .ensures) ∙ length-replicate n 0 in
-    search needs
+-- the run that is cleared is as long
+cleared : (c : tie.After-zero-all) → length (c .zero-all .last .0) ≡ length (words (measured c .before))
+cleared c = ap length (c .zero-all .ensures) ∙ length-replicate (length (words (measured c .before))) 0
+
+write-requires : tie.Need-write-requires
+write-requires c κs =
+    let clear = c .before .before .before in
+    let some = some-words (length (words (measured clear .before))) (long (measured clear)) in
+    (omega (arith, cleared clear), (omega arith, omega arith))
 
 same-length : tie.Need-same-length
 same-length c = search needs
 
 returns-2 : tie.Need-returns-2
 returns-2 c =
-    let cleared = c .before .before .before in
-    let kept = cleared .before .before in
-    begun (words (kept .before)) (cleared .zero-all .last .0) (c .head-word .result) (long kept)
-    (cleared .zero-all .ensures) (c .head-word .ensures)
+    let written = c .before .before in
+    let clear = written .before .before .before .before in
+    let kept = measured clear in
+    begun (words (kept .before)) (clear .zero-all .last .0) (written .write .last .0) (long kept)
+    (clear .zero-all .ensures) (written .write .ensures)
 
 pub fresh-spec : {M : Type 1} → statement M
 fresh-spec =
-    tie.close
-    (tie.spec is-length-requires returns zero-all-requires head-word-requires slice-write-run same-length returns-2)
+    tie.close (tie.spec is-length-requires returns zero-all-requires write-requires same-length returns-2)

@@ -1,20 +1,19 @@
 -- `is_book` tests what a book is: each return is one law of the parts of a book.
-use Prim.Native.Nat.{ℕ, _/_, _^_, _≤_}
+use Prim.Native.Nat.{ℕ, _≤_}
 use mathlib.Core.Path.{_≡_, sym, _∙_}
 use mathlib.Core.Logic.{_↔_}
 use mathlib.Core.Bool.{true, false, not}
 use mathlib.Core.List.{List}
 use native.Mathlib.Omega.{arith}
-use lib.ListN.{length, getD, length-take}
+use lib.ListN.{length, length-take}
 use lib.Dec.{T}
 use borrow.Author.Needs.{needs}
 use borrow.Author.Tests.{not-true, not-false}
-use Rattle.word.specs.Field.{field}
+use Rattle.word.specs.Head.{firstPlace, monthIn, isHead}
 use Rattle.word.specs.Limits.{isLength}
 use Rattle.logic.proofs.Tests.{true-T}
-use Rattle.scan.specs.Tests.{isHeadWord}
 use Rattle.scan.specs.Stretches.{Classes}
-use Rattle.scan.proofs.Books.{monthIn, front, used-front, some-words, head-within, wrong-length, wrong-head, wrong-classes, zeros-left}
+use Rattle.scan.proofs.Books.{front, used-front, some-words, head-within, wrong-length, wrong-head, wrong-classes, zeros-left}
 use Rattle.scan.proofs.is_book.Statement.{statement}
 use Rattle.scan.proofs.is_book.Tie as tie
 
@@ -22,72 +21,60 @@ use Rattle.scan.proofs.is_book.Tie as tie
 abbrev words : tie.After-is-length → List ℕ
 words c = c .before .before .args .run .now
 
--- the place where its length has passed its test, from the reads of the head on
-abbrev measured : tie.After-field-of2 → tie.Else1
-measured c = c .before .before .before
-
 long : (c : tie.Else1) → isLength (length (words (c .before))) ≡ true
 long c = sym (c .before .is-length .ensures) ∙ not-false _ (c .if1 .left)
+
+-- so it has a head
+some-word : (c : tie.Else1) → firstPlace ≤ length (words (c .before))
+some-word c = some-words (length (words (c .before))) (long c)
 
 returns : tie.Need-returns
 returns c = wrong-length (words (c .before)) (sym (c .before .is-length .ensures) ∙ not-true _ (c .if1 .taken))
 
--- the bits from 26 on are all that a word of 32 bits has above them
-top : (c : tie.After-field-of2) → let w = getD (words (measured c .before)) 0 0 in field w 26 6 ≡ w / 2 ^ 26
-top c = omega (arith, c .before .before .shared-slice-known2 .given 0)
+-- the place where its length has passed its test, from that where the head has
+abbrev measured : tie.Else2 → tie.Else1
+measured c = c .before .before
+
+-- the run that is lent, from where its head has passed its test on
+abbrev run : tie.Else2 → List ℕ
+run c = words (measured c .before)
 
 -- the head passed its test
-headed :
-    (c : tie.Else2) → let ws = words (measured (c .before) .before) in
-    not (isHeadWord (length ws) (getD ws 0 0)) ≡ false
-headed c =
-    let reads = c .before in
-    simp (reads .before .field-of .ensures, reads .field-of2 .ensures, top reads) at (c .if2 .left)
+headed : (c : tie.Else2) → not (isHead (run c)) ≡ false
+headed c = rw (c .before .is-head .ensures) at (c .if2 .left)
 
 -- so its count of words is within the run
 within :
-    (c : tie.Else2) → let u = c .before .before .field-of .result in
-    (1 ≤ u) × (u ≤ length (words (measured (c .before) .before)))
-within c =
-    omega (arith, c .before .before .field-of .ensures, head-within (words (measured (c .before) .before)) (headed c))
+    (c : tie.After-used) → (firstPlace ≤ c .used .result) × (c .used .result ≤ length (run (c .before)))
+within c = rw (c .used .ensures) (head-within (run (c .before)) (headed (c .before)))
 
 -- the place where the head has passed its test, from the test of the classes on
-abbrev passed : tie.After-are-classes → tie.Else2
-passed c = c .before .before .before
+abbrev counted : tie.After-are-classes → tie.After-used
+counted c = c .before .before .before
 
 -- the words used are tested as the head says
 classes :
-    (c : tie.After-are-classes) → let ws = words (measured (passed c .before) .before) in
+    (c : tie.After-are-classes) → let ws = run (counted c .before) in
     T (c .are-classes .result) ↔ Classes (monthIn ws) 0 0 0 (front ws)
 classes c =
-    let used = passed c .before .before .field-of in
-    let ws = words (measured (passed c .before) .before) in
-    let month = c .before .before .field-of3 .ensures in
-    rw (← month, ← used .ensures, ← used-front (used .result) ws) (c .are-classes .ensures)
+    let used = counted c .used in
+    let ws = run (counted c .before) in
+    rw (← c .before .before .month .ensures, ← used .ensures, ← used-front (used .result) ws) (c .are-classes .ensures)
 
 is-length-requires : tie.Need-is-length-requires
 is-length-requires c κs = search needs
 
-shared-slice-read-head : tie.Need-shared-slice-read-head
-shared-slice-read-head c = let some = some-words (length (words (c .before .before))) (long (c .before)) in search needs
-
-field-of-requires : tie.Need-field-of-requires
-field-of-requires c κs = search needs
-
-cast-used : tie.Need-cast-used
-cast-used c = search needs
-
-field-of-requires-2 : tie.Need-field-of-requires-2
-field-of-requires-2 c κs = search needs
+is-head-requires : tie.Need-is-head-requires
+is-head-requires c κs = some-word c
 
 returns-2 : tie.Need-returns-2
-returns-2 c =
-    let reads = c .before in
-    wrong-head (words (measured reads .before))
-    (simp (reads .before .field-of .ensures, reads .field-of2 .ensures, top reads) at (c .if2 .taken))
+returns-2 c = wrong-head (words (c .before .before .before)) (rw (c .before .is-head .ensures) at (c .if2 .taken))
 
-field-of-requires-3 : tie.Need-field-of-requires-3
-field-of-requires-3 c κs = search needs
+used-requires : tie.Need-used-requires
+used-requires c κs = some-word (measured c)
+
+month-requires : tie.Need-month-requires
+month-requires c κs = some-word (measured (c .before))
 
 sub-are-classes : tie.Need-sub-are-classes
 sub-are-classes c = omega (arith, within (c .before))
@@ -101,22 +88,22 @@ part-are-classes-end c = let fits = within (c .before) in search needs
 are-classes-requires : tie.Need-are-classes-requires
 are-classes-requires c κs =
     let fits = within (c .before .before) in
-    (omega arith, simp length-take (omega arith))
+    (omega (arith, c .before .month .ensures), simp length-take (omega arith))
 
 returns-3 : tie.Need-returns-3
 returns-3 c =
     let test = c .before in
-    wrong-classes (words (measured (passed test .before) .before))
+    wrong-classes (run (counted test .before))
     (λ r. rw (not-true (test .are-classes .result) (c .if3 .taken)) at (classes test .1 r))
 
 mul-are-zero : tie.Need-mul-are-zero
 mul-are-zero c = search needs
 
 sub-are-zero : tie.Need-sub-are-zero
-sub-are-zero c = omega (arith, within (c .before .before .before .before))
+sub-are-zero c = omega (arith, within (counted (c .before)))
 
 part-are-zero-start : tie.Need-part-are-zero-start
-part-are-zero-start c = let fits = within (c .before .before .before .before) in search needs
+part-are-zero-start c = let fits = within (counted (c .before)) in search needs
 
 part-are-zero-end : tie.Need-part-are-zero-end
 part-are-zero-end c = search needs
@@ -128,10 +115,9 @@ returns-4 : tie.Need-returns-4
 returns-4 c =
     let left = c .before .before in
     let test = left .before in
-    let head = passed test in
-    let start = measured (head .before) in
-    rw (head .before .before .field-of .ensures) at (c .are-zero .ensures)
-    ∙ zeros-left (words (start .before)) (long start) (headed head)
+    let head = counted test .before in
+    rw (counted test .used .ensures) at (c .are-zero .ensures)
+    ∙ zeros-left (run head) (long (measured head)) (headed head)
     (classes test .0 (true-T (test .are-classes .result) (not-false (test .are-classes .result) (left .if3 .left))))
 
 pub is-book-spec : {M : Type 1} → statement M
@@ -140,12 +126,10 @@ is-book-spec =
     (tie.spec
     is-length-requires
     returns
-    shared-slice-read-head
-    field-of-requires
-    cast-used
-    field-of-requires-2
+    is-head-requires
     returns-2
-    field-of-requires-3
+    used-requires
+    month-requires
     sub-are-classes
     part-are-classes-start
     part-are-classes-end

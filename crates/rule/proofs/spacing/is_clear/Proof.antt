@@ -1,13 +1,14 @@
--- `is_clear` answers whether the strike clears the standing one: its callees ensure its parts, in the same shape. Assumes nothing.
+-- `is_clear` answers whether the strike clears the standing one: its callees ensure its parts, in the same shape.
+-- Assumes nothing.
 use borrow.Author.Needs.{needs}
 use Rattle.rule.proofs.spacing.is_clear.Statement.{statement}
 use Rattle.rule.proofs.spacing.is_clear.Tie as tie
 
+key-requires : tie.Need-key-requires
+key-requires c κs = search needs
+
 field-of-requires : tie.Need-field-of-requires
 field-of-requires c κs = search needs
-
-field-of-requires-2 : tie.Need-field-of-requires-2
-field-of-requires-2 c κs = search needs
 
 is-crowded-requires : tie.Need-is-crowded-requires
 is-crowded-requires c κs = search needs
@@ -29,23 +30,25 @@ distance-requires c κs = search needs
 
 returns : tie.Need-returns
 returns c =
+    let long = c .before .before .before in
+    let crowded = long .before .before in
     rw (
       c .distance .ensures,
       c .before .cents2 .ensures,
       c .before .before .cents .ensures,
-      c .before .before .before .is-long .ensures,
-      c .before .before .before .before .is-crowded2 .ensures,
-      c .before .before .before .before .before .is-crowded .ensures,
-      c .before .before .before .before .before .before .field-of2 .ensures,
-      c .before .before .before .before .before .before .before .field-of .ensures,
+      long .is-long .ensures,
+      long .before .is-crowded2 .ensures,
+      crowded .is-crowded .ensures,
+      crowded .before .field-of .ensures,
+      crowded .before .before .key .ensures,
     )
 
 pub is-clear-spec : {M : Type 1} → statement M
 is-clear-spec =
     tie.close
     (tie.spec
+    key-requires
     field-of-requires
-    field-of-requires-2
     is-crowded-requires
     is-crowded-requires-2
     is-long-requires

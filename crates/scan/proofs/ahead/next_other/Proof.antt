@@ -5,7 +5,7 @@ use native.Mathlib.Omega.{arith}
 use lib.ListN.{length, drop, getD}
 use lib.Count.{trailing-le}
 use borrow.Author.Needs.{needs}
-use Rattle.scan.specs.Tests.{nextLength}
+use Rattle.scan.specs.NextStrikes.{nextLength}
 use Rattle.scan.proofs.Others.{Searched, searched-start, searched-on, searched-all, searched-first, searched-found, expiration-some, tells-end}
 use Rattle.scan.proofs.ahead.next_other.Statement.{statement}
 use Rattle.scan.proofs.ahead.next_other.Tie as tie

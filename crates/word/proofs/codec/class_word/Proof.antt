@@ -23,8 +23,8 @@ put-at-requires-2 c κs =
     let packed = class-packed (start .args .figures .number) (start .args .figures .designations) (start .pre) in
     omega (arith, packed .0, packed .1, start .pre .0)
 
-put-at-requires-3 : tie.Need-put-at-requires-3
-put-at-requires-3 c κs =
+with-kind-requires : tie.Need-with-kind-requires
+with-kind-requires c κs =
     let start = c .before .before .before in
     let packed = class-packed (start .args .figures .number) (start .args .figures .designations) (start .pre) in
     omega (arith, packed .0, packed .1, start .pre .0)
@@ -38,4 +38,4 @@ returns c =
 pub class-word-spec : {M : Type 1} → statement M
 class-word-spec =
     tie.close
-    (tie.spec array-read-put-at put-at-requires array-read-put-at-2 put-at-requires-2 put-at-requires-3 returns)
+    (tie.spec array-read-put-at put-at-requires array-read-put-at-2 put-at-requires-2 with-kind-requires returns)

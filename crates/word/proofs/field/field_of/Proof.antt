@@ -13,10 +13,14 @@ shl-result : tie.Need-shl-result
 shl-result c = search needs
 
 sub-result : tie.Need-sub-result
-sub-result c = omega (arith, one-shifted (c .args .width) (c .pre .1), pow-pos (c .args .width))
+sub-result c =
+    let start = c .before .before in
+    omega (arith, one-shifted (start .args .f .width) (start .pre .1), pow-pos (start .args .f .width))
 
 returns : tie.Need-returns
-returns c = masked (c .args .w) (c .args .low) (c .args .width) (c .pre .1)
+returns c =
+    let start = c .before .before in
+    masked (start .args .w) (start .args .f) (start .pre .1)
 
 pub field-of-spec : {M : Type 1} → statement M
 field-of-spec = tie.close (tie.spec shr-result shl-result sub-result returns)

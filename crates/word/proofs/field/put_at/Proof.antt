@@ -8,7 +8,9 @@ shl-result : tie.Need-shl-result
 shl-result c = search needs
 
 returns : tie.Need-returns
-returns c = put (c .args .below) (c .args .value) (c .args .low) (c .pre .1 .0) (c .pre .1 .1)
+returns c =
+    let start = c .before in
+    put (start .args .below) (start .args .value) (start .args .f .low) (start .pre .above) (start .pre .small)
 
 pub put-at-spec : {M : Type 1} → statement M
 put-at-spec = tie.close (tie.spec shl-result returns)

@@ -1,0 +1,94 @@
+-- `read` gives the figures of a class: each field is what its call gives. Assumes nothing.
+use mathlib.Core.List.{[], _∷_}
+use borrow.Author.Needs.{needs}
+use Rattle.word.proofs.figures.read.Statement.{statement}
+use Rattle.word.proofs.figures.read.Tie as tie
+
+mul-field-of : tie.Need-mul-field-of
+mul-field-of c = search needs
+
+shared-slice-read-field-of : tie.Need-shared-slice-read-field-of
+shared-slice-read-field-of c = search needs
+
+field-of-requires : tie.Need-field-of-requires
+field-of-requires c κs = search needs
+
+mul-field-of-2 : tie.Need-mul-field-of-2
+mul-field-of-2 c = search needs
+
+shared-slice-read-field-of-2 : tie.Need-shared-slice-read-field-of-2
+shared-slice-read-field-of-2 c = search needs
+
+field-of-requires-2 : tie.Need-field-of-requires-2
+field-of-requires-2 c κs = search needs
+
+mul-key : tie.Need-mul-key
+mul-key c = search needs
+
+shared-slice-read-key : tie.Need-shared-slice-read-key
+shared-slice-read-key c = search needs
+
+key-requires : tie.Need-key-requires
+key-requires c κs = search needs
+
+add-key : tie.Need-add-key
+add-key c = search needs
+
+mul-key-2 : tie.Need-mul-key-2
+mul-key-2 c = search needs
+
+shared-slice-read-key-2 : tie.Need-shared-slice-read-key-2
+shared-slice-read-key-2 c = search needs
+
+key-requires-2 : tie.Need-key-requires-2
+key-requires-2 c κs = search needs
+
+add-key-2 : tie.Need-add-key-2
+add-key-2 c = search needs
+
+mul-key-3 : tie.Need-mul-key-3
+mul-key-3 c = search needs
+
+shared-slice-read-key-3 : tie.Need-shared-slice-read-key-3
+shared-slice-read-key-3 c = search needs
+
+key-requires-3 : tie.Need-key-requires-3
+key-requires-3 c κs = search needs
+
+returns : tie.Need-returns
+returns c =
+    let volume = c in
+    let close = volume .before .before in
+    let number = close .before .before in
+    let half = number .before .before in
+    let dollar = half .before .before in
+    λ i.
+    record {
+      number = number .key .ensures i;
+      close = close .key2 .ensures i;
+      volume = volume .key3 .ensures i;
+      designations = dollar .field-of .ensures i ∷ half .field-of2 .ensures i ∷ [];
+    }
+
+pub read-spec : {M : Type 1} → statement M
+read-spec =
+    tie.close
+    (tie.spec
+    mul-field-of
+    shared-slice-read-field-of
+    field-of-requires
+    mul-field-of-2
+    shared-slice-read-field-of-2
+    field-of-requires-2
+    mul-key
+    shared-slice-read-key
+    key-requires
+    add-key
+    mul-key-2
+    shared-slice-read-key-2
+    key-requires-2
+    add-key-2
+    mul-key-3
+    shared-slice-read-key-3
+    key-requires-3
+    returns)

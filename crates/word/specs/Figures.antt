@@ -1,0 +1,61 @@
+-- Document 01, "One of each follows its class word, close first.", "with every field in its limits": the words of a
+-- class's figures, and their limits. Assumes nothing.
+use Prim.Native.Nat.{ℕ, _+_}
+use mathlib.Core.Bool.{Bool, _&&_}
+use mathlib.Core.List.{List, _∷_}
+use lib.Dec.{ltb}
+use lib.ListN.{getD}
+use Rattle.word.specs.declared.class.ClassRecord.{ClassRecord}
+use Rattle.word.specs.Limits.{isClassNumber, isClose, isDesignation, isVolume}
+use Rattle.word.specs.Programs.{programs, areDesignations, designationIn, designationsIn, dollarProgram, halfProgram}
+use Rattle.word.specs.Field.{end}
+use Rattle.word.specs.Kinds.{classKind, closeKind, volumeKind, keyOf, isOfKind, isBare, belowKind}
+use Rattle.word.specs.Codec.{Word, Class, Close, Volume}
+
+-- "The words the facts take are 1 + 3 × classes + ..": the words of a class's figures
+abbrev pub figuresLength : ℕ
+figuresLength = 3
+
+-- the class word of a class's figures
+abbrev pub classWord : ClassRecord → Word
+classWord r = Class (r .number) (r .designations)
+
+-- "One of each follows its class word, close first.": the words of a class's figures, then `rest`
+abbrev pub figuresWords : ClassRecord → List Word → List Word
+figuresWords r rest = classWord r ∷ Close (r .close) ∷ Volume (r .volume) ∷ rest
+
+-- "with every field in its limits"
+abbrev pub areFigures : ClassRecord → Bool
+areFigures r =
+    isClassNumber (r .number)
+    && (areDesignations programs (r .designations) && (isClose (r .close) && isVolume (r .volume)))
+
+-- ---- the words that begin at an index of a run
+
+-- what they say
+abbrev pub figuresAt : ℕ → List ℕ → ClassRecord
+figuresAt at ws =
+    record {
+      number = keyOf classKind (getD ws at 0);
+      close = keyOf closeKind (getD ws (at + 1) 0);
+      volume = keyOf volumeKind (getD ws (at + 2) 0);
+      designations = designationsIn (getD ws at 0);
+    }
+
+-- a class word whose number is above the one before it; no bit is set from where its last designation ends
+abbrev pub isClassAbove : ℕ → ℕ → Bool
+isClassAbove above w =
+    isBare classKind (end (halfProgram .bits)) w
+    && (ltb above (keyOf classKind w)
+    && (isDesignation (designationIn dollarProgram w) && isDesignation (designationIn halfProgram w)))
+
+abbrev pub isCloseWord : ℕ → Bool
+isCloseWord w = isOfKind closeKind w && isClose (belowKind w)
+
+abbrev pub isVolumeWord : ℕ → Bool
+isVolumeWord w = isOfKind volumeKind w && isVolume (belowKind w)
+
+-- they are those of figures in their limits, of a class whose number is above the one before it
+abbrev pub areFiguresAt : ℕ → ℕ → List ℕ → Bool
+areFiguresAt above at ws =
+    isClassAbove above (getD ws at 0) && (isCloseWord (getD ws (at + 1) 0) && isVolumeWord (getD ws (at + 2) 0))
