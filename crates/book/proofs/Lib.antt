@@ -19,5 +19,6 @@ pub mod Expirations
 pub mod ClassWords
 pub mod Splices
 pub mod Runs
+pub mod OpenPlaces
 pub mod SplicedRuns
 pub mod Followed

@@ -16,6 +16,10 @@ use Rattle.book.specs.Views.{class, viewOf, isStanding}
 abbrev pub classPlace : ℕ → Facts → ℕ
 classPlace c f = firstPlace + length (classesWords (only (λ x. ltb (number x) c) (f .classes)) [])
 
+-- the index of the class word c; 0 where it is not open
+abbrev pub openPlace : ℕ → Facts → ℕ
+openPlace c f = cond {A = ℕ} (isOpen c (f .classes)) (classPlace c f) 0
+
 -- whether the expiration m of the class c has strikes
 abbrev pub hasExpiration : ℕ → ℕ → Facts → Bool
 hasExpiration c m f = some (λ s. eqb (s .month) m) (class f c .series)

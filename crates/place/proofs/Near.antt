@@ -1,6 +1,6 @@
 -- What is found near an index, by the tests of the definition: where it is one of the words, the word there holds the
 -- key. Assumes nothing.
-use Prim.Native.Nat.{ℕ, _+_, _≤_, _<_}
+use Prim.Native.Nat.{ℕ, _+_, _-_, _≤_, _<_}
 use mathlib.Core.Path.{_≡_, refl}
 use mathlib.Core.Bool.{Bool, true, false, cond, not, _&&_}
 use mathlib.Core.List.{List}
@@ -8,17 +8,21 @@ use native.Mathlib.Omega.{arith}
 use lib.Dec.{leb, ltb}
 use lib.ListN.{length, getD}
 use borrow.Author.Tests.{leb-true, lt-ltb, le-ltb, le-leb}
-use Rattle.place.specs.Search.{isHolding, isAmid, firstAbout, foundNear}
+use Rattle.place.specs.Search.{isHolding, aboutCount, beforeCount, isAmid, firstAbout, foundNear}
 
 module _ (near : ℕ) (ws : List ℕ) where
-  pub is-amid : 8 ≤ near → near + 24 < length ws → isAmid near ws ≡ true
-  is-amid low high = rw (le-leb 8 near low, lt-ltb (near + 24) (length ws) high)
+  -- where the words about `near` end
+  abbrev end : ℕ
+  end = near + (aboutCount - beforeCount)
 
-  pub not-amid : (8 ≤ near → length ws ≤ near + 24) → isAmid near ws ≡ false
-  not-amid high = go (leb 8 near) refl
+  pub is-amid : beforeCount ≤ near → end < length ws → isAmid near ws ≡ true
+  is-amid low high = rw (le-leb beforeCount near low, lt-ltb end (length ws) high)
+
+  pub not-amid : (beforeCount ≤ near → length ws ≤ end) → isAmid near ws ≡ false
+  not-amid high = go (leb beforeCount near) refl
     where
-      go : (b : Bool) → leb 8 near ≡ b → (b && ltb (near + 24) (length ws)) ≡ false
-      go true e = le-ltb (near + 24) (length ws) (high (leb-true 8 near e))
+      go : (b : Bool) → leb beforeCount near ≡ b → (b && ltb end (length ws)) ≡ false
+      go true e = le-ltb end (length ws) (high (leb-true beforeCount near e))
       go false e = refl
 
   module _ (kind width key : ℕ) where

@@ -1,14 +1,15 @@
 -- Inner: the first of a list that passes a test, and the tests by which words are sought. Assumes nothing.
-use Prim.Native.Nat.{ℕ, suc, _+_, _-_, _*_, _^_, _<_}
+use Prim.Native.Nat.{ℕ, suc, _+_, _-_, _*_, _^_, _<_, _≤_}
 use mathlib.Core.Path.{_≡_}
 use mathlib.Core.Bool.{Bool, true, cond, not, _&&_}
 use mathlib.Core.List.{List, [], _∷_, map}
 use lib.ListN.{drop, getD, length, take}
-use lib.Dec.{eqb, leb, ltb}
+use lib.Dec.{T, eqb, leb, ltb}
 use Rattle.word.specs.declared.class.ClassRecord.{ClassRecord}
 use Rattle.word.specs.Field.{field}
 use Rattle.word.specs.Codec.{kindOf}
 use Rattle.word.specs.Programs.{programs}
+use Rattle.logic.specs.Lists.{every}
 
 module _ {A : Type 0} (test : A → Bool) where
   -- how many stand before the first that passes the test
@@ -40,13 +41,27 @@ isFrom kind width key w = isOfKind kind w && leb key (field w 0 width)
 abbrev pub isHolding : ℕ → ℕ → ℕ → ℕ → Bool
 isHolding kind width key w = isOfKind kind w && eqb (field w 0 width) key
 
--- whether there are 8 words before `near` and more than 24 from it on
-abbrev pub isAmid : ℕ → List ℕ → Bool
-isAmid near ws = leb 8 near && ltb (near + 24) (length ws)
+-- a kind of words and a key in their lowest field, of `width` bits, for which a grade has room
+pub record Gradable (kind width key : ℕ) : Type 0 where
+  pub is-kind : kind < 16
+  pub narrow : width ≤ 28
+  pub small : key < 2 ^ 28
 
--- the first of the 32 words about `near` that is of a lower kind, or of the kind and with at least the key
+-- how many words about an index are looked at, and how many of them stand before it
+abbrev pub aboutCount : ℕ
+aboutCount = 32
+
+abbrev pub beforeCount : ℕ
+beforeCount = 8
+
+-- whether so many words stand before `near`, and more than the others from it on
+abbrev pub isAmid : ℕ → List ℕ → Bool
+isAmid near ws = leb beforeCount near && ltb (near + (aboutCount - beforeCount)) (length ws)
+
+-- the first of the words about `near` that is of a lower kind, or of the kind and with at least the key
 abbrev pub firstAbout : ℕ → ℕ → ℕ → ℕ → List ℕ → ℕ
-firstAbout near kind width key ws = near - 8 + firstAt (isUpTo kind width key) (take 32 (drop (near - 8) ws))
+firstAbout near kind width key ws =
+    near - beforeCount + firstAt (isUpTo kind width key) (take aboutCount (drop (near - beforeCount) ws))
 
 -- where a word of the kind holds the key: `near`, or else the first about it; the length where neither does, or where
 -- `near` is not amid the words
@@ -66,6 +81,15 @@ pub record Rises (kind width key : ℕ) (ws : List ℕ) : Type 0 where
   pub equal :
       (i : ℕ) → i < length ws → isOfKind kind (getD ws i 0) ≡ true → field (getD ws i 0) 0 width ≡ key
       → i ≡ firstAt (isFrom kind width key) ws
+
+-- words among which the first of the kind from the key on can be sought by guesses
+pub record Guessable (kind width key : ℕ) (ws : List ℕ) : Type 0 where
+  pub is-kind : kind < 16
+  pub narrow : width ≤ 14
+  pub small : key < 2 ^ width
+  pub no-lower : T (every (isNoLower kind) ws)
+  pub few : length ws ≤ 65535
+  pub rises : Rises kind width key ws
 
 -- what the three words of a class say, which begin at this index
 abbrev pub figuresAt : ℕ → List ℕ → ClassRecord

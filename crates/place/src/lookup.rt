@@ -4,13 +4,13 @@ ghost use mathlib.Core.Bool.{_&&_};
 ghost use Prim.Native.Nat.{_+_, _-_, _<_, _≤_};
 ghost use lib.Dec.{T, eqb, ltb};
 ghost use lib.ListN.{drop, getD, length, take};
-ghost use Rattle.word.specs.Limits.{isClassNumber, isMonth, isStrike};
+ghost use Rattle.word.specs.Limits.{isClassNumber, isStrike};
 ghost use Rattle.book.specs.Facts.{isOpen};
 ghost use Rattle.book.specs.Layout.{factsOf, used};
 ghost use Rattle.book.specs.Books.{isBook};
-ghost use Rattle.book.specs.Places.{ClassBegins, classPlace};
+ghost use Rattle.book.specs.Places.{ClassBegins, classPlace, openPlace};
 ghost use Rattle.place.specs.Search.{firstAt, isFrom, isHolding, isUpTo, figuresAt};
-ghost use Rattle.place.specs.Lookups.{Searchable, expirationOf, placesAfter, rememberedPlace, strikeSearchOf};
+ghost use Rattle.place.specs.Lookups.{AfterHead, Searchable, expirationOf, strikeSearchOf};
 use crate::head;
 use crate::search::first;
 use crate::search::first_rising;
@@ -19,9 +19,11 @@ use crate::search::holds;
 use word::class::ClassRecord;
 use word::codec::expiration_word;
 use word::field::field_of;
-use word::limits::is_class_number;
 use word::programs::DOLLAR_LOW;
 use word::programs::HALF_LOW;
+
+// A book of up to this many words is searched without what is remembered: that costs less.
+const FEW_WORDS: usize = 256;
 
 // Where the strikes of an expiration stand; where it has none, both are the index before which its word would stand.
 pub struct Expiration {
@@ -56,7 +58,7 @@ pub fn figures_at(run: &[u32], at: usize) -> ClassRecord
 
 // The index of the first class word from `from` on, or the words used.
 pub fn next_class(run: &[u32], from: usize) -> usize
-    requires { ⌜ T (isBook (now run)) × ((0 < from) × (from ≤ used (factsOf (now run)))) ⌝ }
+    requires { ⌜ AfterHead (now run) from ⌝ }
     ensures { λ r. ⌜ (let end = used (factsOf (now (run .entry))) in
         (r ≡ from + firstAt (isFrom 2 14 0) (take (end - from) (drop from (now (run .entry))))) × (r ≤ end)) ⌝ }
 {
@@ -66,7 +68,7 @@ pub fn next_class(run: &[u32], from: usize) -> usize
 
 // Where the class c stands, or where its words would be put. It is looked for first about `near`, which may be any
 // number; 0 where nothing is known.
-pub fn class_at(run: &[u32], near: usize, c: u32) -> usize
+fn class_near(run: &[u32], near: usize, c: u32) -> usize
     requires { ⌜ T (isBook (now run)) × T (isClassNumber c) ⌝ }
     ensures { λ r. ⌜ r ≡ classPlace c (factsOf (now (run .entry))) ⌝ }
 {
@@ -81,19 +83,19 @@ pub fn class_at(run: &[u32], near: usize, c: u32) -> usize
     1 + first_rising(words, 2, 14, c)
 }
 
-// Where the class c stands, or where its words would be put, in a book of more than 256 words; 0 in a shorter one,
-// where a search costs less than to remember. `places` holds where classes were found, by the last ten bits of their
-// numbers: they move little from call to call. Any numbers will do, since they only shorten the search.
-pub fn remembered_place(run: &[u32], places: &mut [u32], c: u32) -> usize
-    requires { ⌜ T (isBook (now run)) × (length (now places) ≡ 1024) ⌝ }
-    ensures { λ r. ⌜ r ≡ rememberedPlace c (factsOf (now (run .entry))) ⌝ }
-    ensures { λ _. ⌜ now (places .exit) ≡ placesAfter c (factsOf (now (run .entry))) (now (places .entry)) ⌝ }
+// Where the class c stands, or where its words would be put. `places` holds where classes were found, each in the slot
+// that its number has modulo their count, since they move little from call to call; 0 where nothing is known. Any
+// numbers will do, and any count of them: they only shorten the search, and nothing is said of them afterwards.
+pub fn class_at(run: &[u32], places: &mut [u32], c: u32) -> usize
+    requires { ⌜ T (isBook (now run)) × T (isClassNumber c) ⌝ }
+    ensures { λ r. ⌜ r ≡ classPlace c (factsOf (now (run .entry))) ⌝ }
 {
-    if !is_class_number(c) | (head::used(run) <= 256) {
-        return 0;
+    let count = places.len();
+    if (count == 0) | (head::used(run) <= FEW_WORDS) {
+        return class_near(run, 0, c);
     }
-    let slot = (c % 1024) as usize;
-    let at = class_at(run, places[slot] as usize, c);
+    let slot = c as usize % count;
+    let at = class_near(run, places[slot] as usize, c);
     places[slot] = at as u32;
     at
 }
@@ -109,10 +111,19 @@ pub fn is_open_at(run: &[u32], at: usize, c: u32) -> bool
     field_of(run[at], 0, 14) == c
 }
 
+// Where the words of the class c begin; 0 where it is not open. `places` as for `class_at`.
+pub fn open_at(run: &[u32], places: &mut [u32], c: u32) -> usize
+    requires { ⌜ T (isBook (now run)) × T (isClassNumber c) ⌝ }
+    ensures { λ r. ⌜ r ≡ openPlace c (factsOf (now (run .entry))) ⌝ }
+{
+    let at = class_at(run, places, c);
+    if is_open_at(run, at, c) { at } else { 0 }
+}
+
 // The index of the first word of the class at `class` that is an expiration of the month m or of a later one, or where
 // its words end.
 fn expiration_at(run: &[u32], class: usize, m: u32) -> usize
-    requires { ⌜ T (isBook (now run)) × (T (isMonth m) × (class + 3 ≤ used (factsOf (now run)))) ⌝ }
+    requires { ⌜ Searchable (now run) class m ⌝ }
     ensures { λ r. ⌜ (let end = used (factsOf (now (run .entry))) in
         (r ≡ class + 3 + firstAt (isUpTo 5 10 m) (take (end - (class + 3)) (drop (class + 3) (now (run .entry)))))
         × (r ≤ end)) ⌝ }

@@ -1,15 +1,31 @@
 // The first word of a kind that holds at least a key, or of a lower kind, 16 words at a time; and the first of a kind
 // from a key on, by guesses where the words of the kind rise.
 ghost use mathlib.Core.Path.{_≡_};
-ghost use Prim.Native.Nat.{_*_, _^_, _<_, _≤_};
+ghost use Prim.Native.Nat.{_*_, _<_, _≤_};
 ghost use mathlib.Core.List.{map};
-ghost use lib.Dec.{T, leb};
+ghost use lib.Dec.{leb};
 ghost use lib.ListN.{length};
 ghost use Rattle.word.specs.Digits.{binary};
-ghost use Rattle.logic.specs.Lists.{every};
-ghost use Rattle.place.specs.Search.{firstAt, foundNear, isFrom, isHolding, isNoLower, gradeOf, isUpTo, Rises};
+ghost use Rattle.place.specs.Search.{firstAt, foundNear, Gradable, Guessable, isFrom, isHolding, gradeOf, isUpTo};
 use word::codec::kind;
 use word::field::field_of;
+
+// How many words are tested at a time.
+const BLOCK: usize = 16;
+
+// How many words about an index are looked at, and how many of them stand before it.
+const ABOUT: usize = 32;
+
+const BEFORE: usize = 8;
+
+// By how many words a guess stays before where a key is expected.
+const SHORT_OF: usize = 32;
+
+// One guess in so many is the middle.
+const TURNS: u32 = 8;
+
+// So many words are searched without a further guess.
+const FEW_LEFT: usize = 64;
 
 // A word by its kind, and in its kind by how little its lowest field, of `width` bits, holds.
 fn grade(w: u32, width: u32) -> u32
@@ -27,7 +43,7 @@ fn graded_of_16(block: &[u32], width: u32, most: u32) -> u32
 {
     let mut bits = 0;
     let mut i = 0;
-    while i < 16 {
+    while i < BLOCK {
         let bit = if grade(block[i], width) <= most {
             2 << i
         } else {
@@ -58,17 +74,17 @@ fn first_plainly(words: &[u32], width: u32, most: u32) -> usize
 // The index of the first word of a lower kind, or of the kind and with at least `key` in its lowest field, of `width`
 // bits; or the length. 16 words at a time.
 pub fn first(words: &[u32], kind: u32, width: u32, key: u32) -> usize
-    requires { ⌜ (kind < 16) × ((width ≤ 28) × (key < 2 ^ 28)) ⌝ }
+    requires { ⌜ Gradable kind width key ⌝ }
     ensures { λ r. ⌜ (r ≡ firstAt (isUpTo kind width key) (now (words .entry))) × (r ≤ length (now (words .entry))) ⌝ }
 {
     let most = kind * 268435456 + (268435455 - key);
     let mut i = 0;
-    while 16 <= words.len() - i {
-        let bits = graded_of_16(&words[i..i + 16], width, most);
+    while BLOCK <= words.len() - i {
+        let bits = graded_of_16(&words[i..i + BLOCK], width, most);
         if bits != 0 {
             return i + u32::trailing_zeros(bits) as usize - 1;
         }
-        i += 16;
+        i += BLOCK;
     }
     i + first_plainly(&words[i..words.len()], width, most)
 }
@@ -84,21 +100,21 @@ pub fn holds(w: u32, of: u32, width: u32, key: u32) -> bool
 // The index of a word of the kind that holds the key, where it stands at `near` or a few words from it; else the
 // length.
 pub fn found_near(words: &[u32], near: usize, of: u32, width: u32, key: u32) -> usize
-    requires { ⌜ (of < 16) × ((width ≤ 28) × (key < 2 ^ 28)) ⌝ }
+    requires { ⌜ Gradable of width key ⌝ }
     ensures { λ r. ⌜ r ≡ foundNear near of width key (now (words .entry)) ⌝ }
 {
     let n = words.len();
-    if (near < 8) | (n < 32) {
+    if (near < BEFORE) | (n < ABOUT) {
         return n;
     }
-    if n - 24 <= near {
+    if n - (ABOUT - BEFORE) <= near {
         return n;
     }
     if holds(words[near], of, width, key) {
         return near;
     }
-    let from = near - 8;
-    let at = from + first(&words[from..from + 32], of, width, key);
+    let from = near - BEFORE;
+    let at = from + first(&words[from..from + ABOUT], of, width, key);
     if holds(words[at], of, width, key) {
         return at;
     }
@@ -116,17 +132,19 @@ fn expected(span: usize, key: u32, below: u32, above: u32) -> usize
         return span / 2;
     }
     let there = span * (key - below) as usize / (above - below) as usize;
-    if there < 32 { 0 } else { there - 32 }
+    if there < SHORT_OF {
+        0
+    } else {
+        there - SHORT_OF
+    }
 }
 
 // The first word of the kind that holds at least the key, where the words of the kind rise: the next word of the kind
 // from a guess on decides on which side of the guess the search goes on. What the last of them holds is a guess too
 // until a word is seen that holds more than the key: at first twice the key, as if it were in the middle, and then what
-// the words passed let expect. Every eighth guess is the middle.
+// the words passed let expect.
 pub fn first_rising(words: &[u32], of: u32, width: u32, key: u32) -> usize
-    requires { ⌜ ((of < 16) × ((width ≤ 14) × (key < 2 ^ width)))
-        × (T (every (isNoLower of) (now words))
-        × ((length (now words) ≤ 65535) × Rises of width key (now words))) ⌝ }
+    requires { ⌜ Guessable of width key (now words) ⌝ }
     ensures { λ r. ⌜ (r ≡ firstAt (isFrom of width key) (now (words .entry))) × (r ≤ length (now (words .entry))) ⌝ }
 {
     let n = words.len();
@@ -143,7 +161,7 @@ pub fn first_rising(words: &[u32], of: u32, width: u32, key: u32) -> usize
     let mut above = if 2 * key < most { 2 * key } else { most };
     let mut known = false;
     let mut turn: u32 = 1;
-    while 64 < high - low {
+    while FEW_LEFT < high - low {
         let span = high - low;
         let guess = if turn == 0 {
             span / 2
@@ -151,7 +169,7 @@ pub fn first_rising(words: &[u32], of: u32, width: u32, key: u32) -> usize
             expected(span, key, below, above)
         };
         let middle = low + guess;
-        turn = (turn + 1) % 8;
+        turn = (turn + 1) % TURNS;
         let next = middle + first(&words[middle..high], of, width, 0);
         if next == high {
             high = middle;

@@ -14,6 +14,12 @@ use crate::limits::is_ground;
 // A strike, counted in half dollars.
 pub struct Strike(pub u32);
 
+// The marks of open interest of a strike: that of its put and that of its call.
+pub struct Marks {
+    pub put: u32,
+    pub call: u32,
+}
+
 impl Strike {
     pub const HIGHEST: Strike = Strike(19999);
 

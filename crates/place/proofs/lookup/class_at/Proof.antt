@@ -1,88 +1,103 @@
--- `class_at` finds a class: the first class word from its number on stands where the class does or would, and a class word near by that holds its number is that first. Assumes nothing.
-use Prim.Native.Nat.{_-_, _^_, _<_}
-use mathlib.Core.Path.{_≡_}
-use mathlib.Core.Bool.{true}
+-- `class_at` answers what `class_near` finds, whatever the slot remembers: where there are places the slot is one of
+-- them, and the place that it is given is within the words used. Assumes nothing.
+use Prim.Native.Nat.{ℕ, _%_, _<_}
+use mathlib.Core.Path.{_≡_, refl, sym}
+use mathlib.Core.Bool.{Bool, true, false, _||_, false≢true}
+use native.Mathlib.Nat.{mod-lt}
 use native.Mathlib.Omega.{arith}
-use lib.ListN.{take, drop, getD}
+use lib.Dec.{eqb, leb}
+use lib.ListN.{length}
+use mir.Facts.{fits-widen}
 use borrow.Author.Needs.{needs}
-use borrow.Author.Tests.{eqb-true}
-use Rattle.word.specs.Limits.{isClassNumber}
-use Rattle.logic.proofs.Tests.{and-both, T-true}
-use Rattle.word.proofs.RangeTests.{between-high}
-use Rattle.place.specs.Search.{isHolding}
-use Rattle.place.proofs.Near.{near-holds}
-use Rattle.place.proofs.Heads.{book-room}
-use Rattle.place.proofs.Found.{body-short, body-kinds, class-rises, class-sought}
+use borrow.Author.Tests.{eqb-false}
+use Rattle.place.proofs.Heads.{book-room, book-long}
+use Rattle.place.proofs.Found.{class-within}
 use Rattle.place.proofs.lookup.class_at.Statement.{statement}
 use Rattle.place.proofs.lookup.class_at.Tie as tie
 
-number-small : (s : tie.Start) → s .args .c < 2 ^ 14
-number-small s = omega (arith, between-high 1 16383 (s .args .c) (T-true (isClassNumber (s .args .c)) (s .pre .1)))
+-- ---- the places of the proof
+
+abbrev start : tie.Else1 → tie.Start
+start c = c .before .before .before .before
+
+abbrev remembering : tie.After-class-near2 → tie.Else1
+remembering c = c .before .before
+
+-- ---- what is known there
+
+-- there are places
+some-places : (c : tie.Else1) → 0 < length (start c .args .places .now)
+some-places c = go (eqb count 0) refl (c .if1 .left)
+  where
+    count : ℕ
+    count = length (start c .args .places .now)
+
+    go : (none : Bool) → eqb count 0 ≡ none → (none || leb (c .before .used .result) 256) ≡ false → 0 < count
+    go true d e = absurd (false≢true (sym e))
+    go false d e = omega (arith, eqb-false count 0 d)
+
+slot-within : (c : tie.Else1) → let a = start c .args in a .c % length (a .places .now) < length (a .places .now)
+slot-within c = mod-lt (start c .args .c) (some-places c)
+
+-- ---- what is to be shown there
 
 used-requires : tie.Need-used-requires
 used-requires c κs = search needs
 
-sub-words : tie.Need-sub-words
-sub-words c = search needs
-
-part-words-start : tie.Need-part-words-start
-part-words-start c = search needs
-
-part-words-end : tie.Need-part-words-end
-part-words-end c = omega (arith, book-room _ (c .before .before .pre .0))
-
-sub-found-near : tie.Need-sub-found-near
-sub-found-near c = search needs
-
-found-near-requires : tie.Need-found-near-requires
-found-near-requires c κs =
-    (omega arith, (omega arith, omega (arith, number-small (c .before .before .before .before))))
-
-add-result : tie.Need-add-result
-add-result c = search needs
+class-near-requires : tie.Need-class-near-requires
+class-near-requires c κs = search needs
 
 returns : tie.Need-returns
-returns c =
-    let n = c .before in
-    let u = n .before .before .before in
-    let s = u .before .before in
-    let e = u .used .ensures in
-    let words = take (u .used .result - 1) (drop 1 (s .args .run .now)) in
-    let there = n .found-near .ensures in
-    let held : isHolding 2 14 (s .args .c) (getD words (n .found-near .result) 0) ≡ true =
-    rw there (near-holds (s .args .near - 1) words 2 14 (s .args .c) (rw there at (c .if2 .taken))) in
-    let holds = and-both _ _ held in
-    class-sought _ (s .pre .0) _ _ _ e
-    (class-rises _ (s .pre .0) _ _ e .equal _ (c .if2 .taken) (holds .0) (eqb-true _ _ (holds .1)))
+returns c = search needs
 
-first-rising-requires : tie.Need-first-rising-requires
-first-rising-requires c κs =
-    let u = c .before .before in
-    let s = u .before .before in
+rem-slot : tie.Need-rem-slot
+rem-slot c = omega (arith, some-places c)
+
+mul-class-near : tie.Need-mul-class-near
+mul-class-near c = omega (arith, slot-within c)
+
+slice-read-class-near : tie.Need-slice-read-class-near
+slice-read-class-near c = omega (arith, slot-within (c .before))
+
+cast-class-near : tie.Need-cast-class-near
+cast-class-near c = fits-widen tt (c .slice-known2 .given _)
+
+class-near-requires-2 : tie.Need-class-near-requires-2
+class-near-requires-2 c κs = search needs
+
+cast-places : tie.Need-cast-places
+cast-places c =
+    let s = start (remembering c) in
+    let w = s .args .run .now in
     let book = s .pre .0 in
-    let e = u .used .ensures in
-    ((omega arith, (omega arith, number-small s)), (body-kinds _ book _ e, (body-short _ book _ e, class-rises _ book _ _ e)))
+    omega (arith, c .class-near2 .ensures, class-within w book (s .args .c), book-room w book, book-long w book)
 
-add-result-2 : tie.Need-add-result-2
-add-result-2 c = search needs
+mul-places : tie.Need-mul-places
+mul-places c = omega (arith, slot-within (remembering c))
+
+slice-write-places : tie.Need-slice-write-places
+slice-write-places c = omega (arith, slot-within (remembering c))
+
+same-length : tie.Need-same-length
+same-length c = search needs
 
 returns-2 : tie.Need-returns-2
-returns-2 c =
-    let u = c .before .before .before in
-    class-sought _ (u .before .before .pre .0) _ _ _ (u .used .ensures) (c .first-rising .ensures .0)
+returns-2 c = search needs
 
 pub class-at-spec : {M : Type 1} → statement M
 class-at-spec =
     tie.close
     (tie.spec
     used-requires
-    sub-words
-    part-words-start
-    part-words-end
-    sub-found-near
-    found-near-requires
-    add-result
+    class-near-requires
     returns
-    first-rising-requires
-    add-result-2
+    rem-slot
+    mul-class-near
+    slice-read-class-near
+    cast-class-near
+    class-near-requires-2
+    cast-places
+    mul-places
+    slice-write-places
+    same-length
     returns-2)

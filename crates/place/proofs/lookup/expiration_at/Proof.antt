@@ -1,39 +1,59 @@
 -- `expiration_at` searches the words after the three of the class, to the last one used. Assumes nothing.
+use Prim.Native.Nat.{_+_, _≤_}
 use native.Mathlib.Omega.{arith}
 use lib.Dec.{leb→le}
+use lib.ListN.{length}
 use borrow.Author.Needs.{needs}
+use Rattle.book.specs.Layout.{used, factsOf}
 use Rattle.place.proofs.Heads.{book-room}
+use Rattle.place.proofs.Found.{begins-room}
 use Rattle.place.proofs.lookup.expiration_at.Statement.{statement}
 use Rattle.place.proofs.lookup.expiration_at.Tie as tie
 
+abbrev start : tie.After-used → tie.Start
+start c = c .before .before
+
+-- the class's words are among those used, which are words of the run
+within :
+    (s : tie.Start)
+    → let ws = s .args .run .now in
+    (s .args .class + 3 ≤ used (factsOf ws)) × (used (factsOf ws) ≤ length ws)
+within s = (begins-room _ (s .pre .book) _ (s .pre .begins), book-room _ (s .pre .book))
+
 add-begin : tie.Need-add-begin
-add-begin c = omega (arith, book-room _ (c .before .pre .0))
+add-begin c = omega (arith, within (c .before))
 
 used-requires : tie.Need-used-requires
 used-requires c κs = search needs
 
 mul-first : tie.Need-mul-first
-mul-first c = omega (arith, book-room _ (c .before .before .pre .0))
+mul-first c = omega (arith, within (start c))
 
 sub-first : tie.Need-sub-first
-sub-first c = search needs
+sub-first c = omega (arith, within (start c))
 
 part-first-start : tie.Need-part-first-start
-part-first-start c = search needs
+part-first-start c = omega (arith, within (start c))
 
 part-first-end : tie.Need-part-first-end
-part-first-end c = omega (arith, book-room _ (c .before .before .pre .0))
+part-first-end c = omega (arith, within (start c))
 
 first-requires : tie.Need-first-requires
 first-requires c κs =
-    let s = c .before .before .before in
-    (omega arith, (omega arith, omega (arith, leb→le (s .args .m) 1023 (s .pre .1 .0))))
+    let s = start (c .before) in
+    record {
+      is-kind = omega arith;
+      narrow = omega arith;
+      small = omega (arith, leb→le (s .args .m) 1023 (s .pre .month));
+    }
 
 add-result : tie.Need-add-result
-add-result c = omega (arith, book-room _ (c .before .before .before .before .pre .0))
+add-result c = omega (arith, within (start (c .before .before)))
 
 returns : tie.Need-returns
-returns c = (rw (← c .before .before .used .ensures, c .first .ensures .0), omega arith)
+returns c =
+    let u = c .before .before in
+    (rw (← u .used .ensures, c .first .ensures .0), omega (arith, within (start u)))
 
 pub expiration-at-spec : {M : Type 1} → statement M
 expiration-at-spec =

@@ -1,19 +1,28 @@
 -- `look_up_expiration` finds the strikes of an expiration: after its word where that stands, to the next word that is
 -- no strike. Assumes nothing.
-use Prim.Native.Nat.{_+_, _≤_, _<_}
+use Prim.Native.Nat.{_≤_, _<_}
 use native.Mathlib.Omega.{arith}
 use lib.Dec.{leb→le}
 use lib.ListN.{length}
 use borrow.Author.Needs.{needs}
 use Rattle.book.specs.Layout.{used, factsOf}
 use Rattle.place.proofs.Heads.{book-room}
-use Rattle.place.proofs.Found.{begins-room}
 use Rattle.place.proofs.Answers.{used-there, no-expiration, its-strikes}
 use Rattle.place.proofs.lookup.look_up_expiration.Statement.{statement}
 use Rattle.place.proofs.lookup.look_up_expiration.Tie as tie
 
-room : (s : tie.Start) → s .args .class + 3 ≤ used (factsOf (s .args .run .now))
-room s = begins-room _ (s .pre .book) _ (s .pre .begins)
+-- ---- the places of the proof
+
+abbrev start : tie.After-expiration-at → tie.Start
+start c = c .before .before
+
+abbrev placed : tie.After-is-word-at → tie.After-expiration-at
+placed c = c .before .before
+
+abbrev stands : tie.After-used → tie.After-is-word-at
+stands c = c .before .before
+
+-- ---- what is known there
 
 month-small : (s : tie.Start) → s .args .m ≤ 1023
 month-small s = leb→le (s .args .m) 1023 (s .pre .month)
@@ -21,19 +30,18 @@ month-small s = leb→le (s .args .m) 1023 (s .pre .month)
 -- the word of the expiration is one of those used, which are words of the run
 within :
     (c : tie.Else1)
-    → let p = c .before .before .before in
-    let ws = p .before .before .args .run .now in
-    (p .expiration-at .result < used (factsOf ws)) × (used (factsOf ws) ≤ length ws)
-within c =
-    let p = c .before .before .before in (
-      used-there _ _ _ _ (c .before .is-word-at .ensures) (c .if1 .left),
-      book-room _ (p .before .before .pre .book),
-    )
+    → let place = placed (c .before) in
+    let ws = start place .args .run .now in
+    (place .expiration-at .result < used (factsOf ws)) × (used (factsOf ws) ≤ length ws)
+within c = (
+  used-there _ _ _ _ (c .before .is-word-at .ensures) (c .if1 .left),
+  book-room _ (start (placed (c .before)) .pre .book),
+)
+
+-- ---- what is to be shown there
 
 expiration-at-requires : tie.Need-expiration-at-requires
-expiration-at-requires c κs =
-    let s = c .before in
-    (s .pre .book, (s .pre .month, room s))
+expiration-at-requires c κs = let s = c .before in s .pre
 
 expiration-word-requires : tie.Need-expiration-word-requires
 expiration-word-requires c κs = omega (arith, month-small (c .before .before))
@@ -43,12 +51,13 @@ is-word-at-requires c κs = search needs
 
 returns : tie.Need-returns
 returns c =
-    let i = c .before in
-    let p = i .before .before in
-    let s = p .before .before in
+    let asked = c .before in
+    let place = placed asked in
+    let s = start place in
     λ x.
-    no-expiration _ (s .pre .book) _ _ (month-small s) _ _ _ (p .expiration-at .ensures .0)
-    (i .before .expiration-word .ensures) (i .is-word-at .ensures) (x .number) (x .is-open) (x .place) (c .if1 .taken)
+    no-expiration _ (s .pre .book) _ _ (month-small s) _ _ _ (place .expiration-at .ensures .0)
+    (asked .before .expiration-word .ensures) (asked .is-word-at .ensures) (x .number) (x .is-open) (x .place)
+    (c .if1 .taken)
 
 add-from : tie.Need-add-from
 add-from c = omega (arith, within c)
@@ -77,12 +86,12 @@ add-t16 c = omega (arith, within (c .before .before .before))
 returns-2 : tie.Need-returns-2
 returns-2 c =
     let u = c .before .before in
-    let i = u .before .before in
-    let p = i .before .before in
-    let s = p .before .before in
+    let asked = stands u in
+    let place = placed asked in
+    let s = start place in
     λ x.
-    its-strikes _ (s .pre .book) _ _ (month-small s) _ _ _ (p .expiration-at .ensures .0)
-    (i .before .expiration-word .ensures) (i .is-word-at .ensures) (x .number) (x .is-open) (x .place)
+    its-strikes _ (s .pre .book) _ _ (month-small s) _ _ _ (place .expiration-at .ensures .0)
+    (asked .before .expiration-word .ensures) (asked .is-word-at .ensures) (x .number) (x .is-open) (x .place)
     (u .before .if1 .left) _ (u .used .ensures) _ (c .first .ensures .0)
 
 pub look-up-expiration-spec : {M : Type 1} → statement M

@@ -1,7 +1,9 @@
--- `first_rising` finds the first word by guesses: a word of the kind that holds less than the key stands before it, so what is left from `low` on has it, and one that holds the key is it. Assumes nothing.
+-- `first_rising` finds the first word by guesses: a word of the kind that holds less than the key stands before it, so
+-- what is left from `low` on has it, and one that holds the key is it. Assumes nothing.
 use Prim.Native.Nat.{ℕ, _+_, _-_, _*_, _/_, _^_, _≤_, _<_}
 use mathlib.Core.Path.{_≡_, sym, ap₂, _∙_}
 use mathlib.Core.Bool.{true, _&&_}
+use mathlib.Core.List.{List}
 use mathlib.Core.Logic.{⊎-elim}
 use native.Mathlib.Nat.{div-le-self, mul-le-mul}
 use native.Mathlib.Omega.{arith}
@@ -23,85 +25,115 @@ Inv-loop words of width key n most low₀ high₀ below₀ above₀ known₀ tur
 abbrev μ-loop : tie.MeasureT-loop
 μ-loop words of width key n most low₀ high₀ below₀ above₀ known₀ turn₀ low high below above known turn = high - low
 
--- the function's entry
-abbrev entry : tie.At-loop Inv-loop μ-loop → tie.Start Inv-loop μ-loop
-entry l = l .before .before .before .before .before .before .before .before .before
+-- ---- the places of the proof
+
+abbrev entry : tie.After-kind Inv-loop μ-loop → tie.Start Inv-loop μ-loop
+entry c = c .before .before .before .before
+
+-- where the first word is not it
+abbrev opened : tie.Else2 Inv-loop μ-loop → tie.Start Inv-loop μ-loop
+opened c = entry (c .before .before .before)
+
+abbrev start : tie.At-loop Inv-loop μ-loop → tie.Start Inv-loop μ-loop
+start c = opened (c .before .before)
+
+-- before the places where a guess is made, where the next word of the kind is sought and where it is found: the loop
+abbrev turn-of : tie.Joined4 Inv-loop μ-loop → tie.At-loop Inv-loop μ-loop
+turn-of c = c .before .before
+
+abbrev guess-of : tie.After-first Inv-loop μ-loop → tie.Joined4 Inv-loop μ-loop
+guess-of c = c .before .before .before
+
+abbrev in-turn : tie.Else5 Inv-loop μ-loop → tie.At-loop Inv-loop μ-loop
+in-turn c = turn-of (guess-of (c .before))
+
+-- where its field was read, and it does not hold the key
+abbrev found-of : tie.Else6 Inv-loop μ-loop → tie.Else5 Inv-loop μ-loop
+found-of c = c .before .before .before
+
+-- ---- the words and numbers there
+
+abbrev middle : tie.Joined4 Inv-loop μ-loop → ℕ
+middle c = turn-of c .loop .low + c .if4 .guess
+
+abbrev next : tie.Else5 Inv-loop μ-loop → ℕ
+next c = middle (guess-of (c .before)) + c .before .first .result
+
+abbrev words : tie.Else5 Inv-loop μ-loop → List ℕ
+words c = start (in-turn c) .args .words .now
+
+-- ---- what is known there
 
 key-small : (s : tie.Start Inv-loop μ-loop) → s .args .key < 2 ^ 14
-key-small s = omega (arith, s .pre .0 .1 .1, pow-mono {i = s .args .width} {j = 14} (s .pre .0 .1 .0))
+key-small s = omega (arith, s .pre .small, pow-mono {i = s .args .width} {j = 14} (s .pre .narrow))
 
 -- the guess is within the words left
-guess-within : (c : tie.Joined4 Inv-loop μ-loop) → let l = c .before .before .loop in l .low + c .if4 .guess < l .high
-guess-within c =
-    ⊎-elim (λ x. omega (arith, x .1)) (λ x. omega (arith, x .1 .ensures, x .2)) (c .if4 .came)
+guess-within : (c : tie.Joined4 Inv-loop μ-loop) → middle c < turn-of c .loop .high
+guess-within c = ⊎-elim (λ x. omega (arith, x .1)) (λ x. omega (arith, x .1 .ensures, x .2)) (c .if4 .came)
 
--- the word at which the side is decided is of the kind
+-- so is the word at which the side is decided
+next-within : (c : tie.Else5 Inv-loop μ-loop) → next c < in-turn c .loop .high
+next-within c = omega (arith, guess-within (guess-of (c .before)))
+
+-- .. which is of the kind
 of-kind :
-    (c : tie.Else5 Inv-loop μ-loop)
-    → let f = c .before in
-    let j = f .before .before .before in
-    let l = j .before .before in
-    let a = entry l .args in
-    let next = l .loop .low + j .if4 .guess + f .first .result in
-    (next < l .loop .high) × (isOfKind (a .of) (getD (a .words .now) next 0) ≡ true)
+    (c : tie.Else5 Inv-loop μ-loop) → isOfKind (start (in-turn c) .args .of) (getD (words c) (next c) 0) ≡ true
 of-kind c =
-    let f = c .before in
-    let j = f .before .before .before in
-    let l = j .before .before in
-    let s = entry l in
+    let from = middle (guess-of (c .before)) in
+    let l = in-turn c .loop in
+    let s = start (in-turn c) in
     let a = s .args in
-    let middle = l .loop .low + j .if4 .guess in
-    let next =
-    f .first .ensures .0
-    ∙ part-from (a .of) (a .width) 0 (omega arith) (a .words .now) (l .loop .high - middle) middle (s .pre .1 .0) in
-    let less : l .loop .low + j .if4 .guess + f .first .result < l .loop .high = omega (arith, guess-within j) in (
-      less,
-      and-both _ _ (part-passes (a .words .now) _ _ (l .loop .inv .1) (isFrom (a .of) (a .width) 0) 0 _ next less) .0,
-    )
+    let is-next =
+    c .before .first .ensures .0
+    ∙ part-from (a .of) (a .width) 0 (omega arith) (words c) (l .high - from) from (s .pre .no-lower) in
+    and-both _ _ (part-passes (words c) _ _ (l .inv .1) (isFrom (a .of) (a .width) 0) 0 _ is-next (next-within c)) .0
 
 -- the words up to one that holds less are passed
 passed :
     (c : tie.Then7 Inv-loop μ-loop)
-    → let f = c .before .before .before .before .before in
-    let j = f .before .before .before in
-    let l = j .before .before in
-    let a = entry l .args in
-    Seeking (isFrom (a .of) (a .width) (a .key)) (a .words .now) (l .loop .low + j .if4 .guess + f .first .result + 1)
+    → let t = found-of (c .before) in
+    let a = start (in-turn t) .args in
+    Seeking (isFrom (a .of) (a .width) (a .key)) (words t) (next t + 1)
 passed c =
-    let t = c .before .before .before .before in
-    let s = entry (t .before .before .before .before .before .before) in
-    let k = of-kind t in
+    let t = found-of (c .before) in
+    let rises = start (in-turn t) .pre .rises in
+    let held = c .before .before .field-of2 .ensures in
     seek-before _ _ _
-    (omega (arith, s .pre .1 .1 .1 .below _ (omega (arith, k .0)) (k .1) (omega (arith, c .before .before .field-of2 .ensures))))
+    (omega (arith, rises .below _ (omega (arith, next-within t)) (of-kind t) (omega (arith, held))))
 
--- what it holds, times the words left after it, is a small number
-passed-small :
-    (c : tie.Then7 Inv-loop μ-loop)
-    → let h = c .before .before in
-    let k = h .before .before in
-    let f = k .before in
-    let j = f .before .before .before in
-    let l = j .before .before .loop in
-    let held = h .field-of2 .result in
-    let low = l .low + j .if4 .guess + f .first .result + 1 in
-    (held < 2 ^ 14) × (held * (l .high - low) ≤ 16383 * 65535) × (held * (l .high - low) / low ≤ held * (l .high - low))
-passed-small c =
-    let h = c .before .before in
-    let k = h .before .before in
-    let f = k .before in
-    let j = f .before .before .before in
-    let l = j .before .before .loop in
-    let s = entry (j .before .before) in
-    let held = h .field-of2 .result in
-    let next = l .low + j .if4 .guess + f .first .result in
-    let low = next + 1 in
-    let word = getD (s .args .words .now) next 0 in
-    let small : held < 2 ^ 14 =
-    omega (arith, h .field-of2 .ensures, field-less word 0 (s .args .width) 14 (s .pre .0 .1 .0)) in (
-      small,
-      mul-le-mul {n₁ = held} {m₁ = l .high - low} {n₂ = 16383} {m₂ = 65535} (omega arith) (omega (arith, s .pre .1 .1 .0, l .inv .1)),
-      div-le-self (held * (l .high - low)) low,
+-- what it holds
+held-small : (c : tie.Then7 Inv-loop μ-loop) → c .before .before .field-of2 .result < 2 ^ 14
+held-small c =
+    let t = found-of (c .before) in
+    let s = start (in-turn t) in
+    omega (
+      arith,
+      c .before .before .field-of2 .ensures,
+      field-less (getD (words t) (next t) 0) 0 (s .args .width) 14 (s .pre .narrow),
     )
+
+-- .. times the words left after it is a small number
+product-small :
+    (c : tie.Then7 Inv-loop μ-loop)
+    → let t = found-of (c .before) in
+    c .before .before .field-of2 .result * (in-turn t .loop .high - (next t + 1)) ≤ 16383 * 65535
+product-small c =
+    let t = found-of (c .before) in
+    let l = in-turn t .loop in
+    let few = start (in-turn t) .pre .few in
+    mul-le-mul {n₁ = c .before .before .field-of2 .result} {m₁ = l .high - (next t + 1)} {n₂ = 16383} {m₂ = 65535}
+    (omega (arith, held-small c)) (omega (arith, few, l .inv .1))
+
+quotient-small :
+    (c : tie.Then7 Inv-loop μ-loop)
+    → let t = found-of (c .before) in
+    let product = c .before .before .field-of2 .result * (in-turn t .loop .high - (next t + 1)) in
+    product / (next t + 1) ≤ product
+quotient-small c =
+    let t = found-of (c .before) in
+    div-le-self (c .before .before .field-of2 .result * (in-turn t .loop .high - (next t + 1))) (next t + 1)
+
+-- ---- what is to be shown there
 
 returns : tie.Need-returns Inv-loop μ-loop
 returns c =
@@ -125,10 +157,11 @@ returns-2 : tie.Need-returns-2 Inv-loop μ-loop
 returns-2 c =
     let f = c .before in
     let k = f .before .before in
-    let a = k .before .before .before .before .args in
+    let a = entry k .args in
     let test = isFrom (a .of) (a .width) (a .key) in (
       seek-hit test (a .words .now) 0 0 (seek-start test (a .words .now)) (omega arith)
-          (ap₂ (λ (x y : ℕ). eqb x (a .of) && leb (a .key) y) (sym (k .kind .ensures)) (sym (f .field-of .ensures)) ∙ c .if2 .taken),
+          (ap₂ (λ (x y : ℕ). eqb x (a .of) && leb (a .key) y) (sym (k .kind .ensures)) (sym (f .field-of .ensures))
+          ∙ c .if2 .taken),
       omega arith,
     )
 
@@ -136,10 +169,10 @@ shl-most : tie.Need-shl-most Inv-loop μ-loop
 shl-most c = search needs
 
 mul-if3 : tie.Need-mul-if3 Inv-loop μ-loop
-mul-if3 c = omega (arith, key-small (c .before .before .before .before .before .before .before))
+mul-if3 c = omega (arith, key-small (opened c))
 
 mul-above : tie.Need-mul-above Inv-loop μ-loop
-mul-above c = omega (arith, key-small (c .before .before .before .before .before .before .before .before))
+mul-above c = omega (arith, key-small (opened (c .before)))
 
 loop-holds : tie.Need-loop-holds Inv-loop μ-loop
 loop-holds c = (omega arith, omega arith, seek-start _ _, omega arith)
@@ -175,76 +208,78 @@ first-requires : tie.Need-first-requires Inv-loop μ-loop
 first-requires c κs = search needs
 
 add-next : tie.Need-add-next Inv-loop μ-loop
-add-next c = omega (arith, guess-within (c .before .before .before))
+add-next c = omega (arith, guess-within (guess-of c))
 
 loop-less : tie.Need-loop-less Inv-loop μ-loop
-loop-less c = omega (arith, guess-within (c .before .before .before .before))
+loop-less c = omega (arith, guess-within (guess-of (c .before)))
 
 loop-again : tie.Need-loop-again Inv-loop μ-loop
 loop-again c =
-    let j = c .before .before .before .before in
-    (omega arith, omega (arith, guess-within j), j .before .before .loop .inv .2, omega arith)
+    let j = guess-of (c .before) in
+    (omega arith, omega (arith, guess-within j), turn-of j .loop .inv .2, omega arith)
 
 mul-field-of : tie.Need-mul-field-of Inv-loop μ-loop
-mul-field-of c = omega (arith, guess-within (c .before .before .before .before))
+mul-field-of c = omega (arith, next-within c)
 
 shared-slice-read-field-of-2 : tie.Need-shared-slice-read-field-of-2 Inv-loop μ-loop
-shared-slice-read-field-of-2 c = omega (arith, guess-within (c .before .before .before .before .before))
+shared-slice-read-field-of-2 c = omega (arith, next-within (c .before))
 
 field-of-requires-2 : tie.Need-field-of-requires-2 Inv-loop μ-loop
 field-of-requires-2 c κs = search needs
 
 returns-3 : tie.Need-returns-3 Inv-loop μ-loop
 returns-3 c =
-    let t = c .before .before .before in
-    let s = entry (t .before .before .before .before .before .before) in
-    let k = of-kind t in (
-      s .pre .1 .1 .1 .equal _ (omega (arith, k .0)) (k .1) (sym (c .before .field-of2 .ensures) ∙ c .if6 .taken),
-      omega (arith, k .0),
+    let read = c .before in
+    let t = read .before .before in
+    let rises = start (in-turn t) .pre .rises in (
+      rises .equal _ (omega (arith, next-within t)) (of-kind t) (sym (read .field-of2 .ensures) ∙ c .if6 .taken),
+      omega (arith, next-within t),
     )
 
 add-low : tie.Need-add-low Inv-loop μ-loop
-add-low c = omega (arith, of-kind (c .before .before .before .before) .0)
+add-low c = omega (arith, next-within (found-of (c .before)))
 
 sub-above : tie.Need-sub-above Inv-loop μ-loop
-sub-above c = omega (arith, of-kind (c .before .before .before .before .before) .0)
+sub-above c = omega (arith, next-within (found-of (c .before .before)))
 
 cast-above : tie.Need-cast-above Inv-loop μ-loop
-cast-above c = omega (arith, of-kind (c .before .before .before .before .before) .0)
+cast-above c = omega (arith, next-within (found-of (c .before .before)))
 
 mul-above-2 : tie.Need-mul-above-2 Inv-loop μ-loop
-mul-above-2 c = omega (arith, passed-small (c .before))
+mul-above-2 c = omega (arith, product-small (c .before))
 
 cast-above-2 : tie.Need-cast-above-2 Inv-loop μ-loop
-cast-above-2 c = omega (arith, of-kind (c .before .before .before .before .before) .0)
+cast-above-2 c = omega (arith, next-within (found-of (c .before .before)))
 
 div-above : tie.Need-div-above Inv-loop μ-loop
 div-above c = omega arith
 
 add-above : tie.Need-add-above Inv-loop μ-loop
-add-above c = omega (arith, passed-small (c .before))
+add-above c =
+    let t = c .before in
+    omega (arith, held-small t, product-small t, quotient-small t)
 
 loop-less-2 : tie.Need-loop-less-2 Inv-loop μ-loop
-loop-less-2 c = omega (arith, of-kind (c .before .before .before .before .before) .0)
+loop-less-2 c = omega (arith, next-within (found-of (c .before .before)))
 
 loop-again-2 : tie.Need-loop-again-2 Inv-loop μ-loop
 loop-again-2 c =
-    (omega (arith, of-kind (c .before .before .before .before .before) .0), omega arith, passed (c .before), omega arith)
+    (omega (arith, next-within (found-of (c .before .before))), omega arith, passed (c .before), omega arith)
 
 loop-less-3 : tie.Need-loop-less-3 Inv-loop μ-loop
-loop-less-3 c = omega (arith, of-kind (c .before .before .before .before .before) .0)
+loop-less-3 c = omega (arith, next-within (found-of (c .before .before)))
 
 loop-again-3 : tie.Need-loop-again-3 Inv-loop μ-loop
 loop-again-3 c =
-    (omega (arith, of-kind (c .before .before .before .before .before) .0), omega arith, passed (c .before), omega arith)
+    (omega (arith, next-within (found-of (c .before .before))), omega arith, passed (c .before), omega arith)
 
 loop-less-4 : tie.Need-loop-less-4 Inv-loop μ-loop
-loop-less-4 c = omega (arith, guess-within (c .before .before .before .before .before .before .before .before))
+loop-less-4 c = omega (arith, guess-within (guess-of (found-of (c .before) .before)))
 
 loop-again-4 : tie.Need-loop-again-4 Inv-loop μ-loop
 loop-again-4 c =
-    let j = c .before .before .before .before .before .before .before .before in
-    (omega arith, omega (arith, guess-within j), j .before .before .loop .inv .2, omega arith)
+    let j = guess-of (found-of (c .before) .before) in
+    (omega arith, omega (arith, guess-within j), turn-of j .loop .inv .2, omega arith)
 
 mul-first-2 : tie.Need-mul-first-2 Inv-loop μ-loop
 mul-first-2 c = search needs
@@ -260,8 +295,8 @@ part-first-end-2 c = search needs
 
 first-requires-2 : tie.Need-first-requires-2 Inv-loop μ-loop
 first-requires-2 c κs =
-    let s = entry (c .before .before) in
-    (s .pre .0 .0, (omega arith, omega (arith, key-small s)))
+    let s = start (c .before .before) in
+    record { is-kind = s .pre .is-kind; narrow = omega (arith, s .pre .narrow); small = omega (arith, key-small s) }
 
 add-result : tie.Need-add-result Inv-loop μ-loop
 add-result c = search needs
@@ -269,12 +304,13 @@ add-result c = search needs
 returns-4 : tie.Need-returns-4 Inv-loop μ-loop
 returns-4 c =
     let l = c .before .before .before in
-    let s = entry l in
+    let s = start l in
     let a = s .args in
     let low = l .loop .low in
+    let left = length (a .words .now) - low in
+    let small : a .key < 2 ^ 28 = omega (arith, key-small s) in
     seek-rest _ _ _ (l .loop .inv .2) _
-    (c .first2 .ensures .0
-    ∙ part-from (a .of) (a .width) (a .key) (omega (arith, key-small s)) (a .words .now) (length (a .words .now) - low) low (s .pre .1 .0))
+    (c .first2 .ensures .0 ∙ part-from (a .of) (a .width) (a .key) small (a .words .now) left low (s .pre .no-lower))
 
 pub first-rising-spec : {M : Type 1} → statement M
 first-rising-spec =
