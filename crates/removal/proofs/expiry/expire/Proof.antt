@@ -66,7 +66,10 @@ part-first-end : tie.Need-part-first-end Inv-loop μ-loop
 part-first-end c = omega (arith, c .before .before .loop .inv .room, c .before .before .loop .inv .long, c .before .before .before .used .ensures)
 
 first-requires : tie.Need-first-requires Inv-loop μ-loop
-first-requires c κs = omega (arith, c .before .before .before .before .before .before .before .pre .1)
+first-requires c κs =
+    let counted = c .before .before .before .before in
+    let asked = counted .before .before .before in
+    record { is-kind = omega arith; narrow = omega arith; small = omega (arith, asked .pre .1) }
 
 add-stays : tie.Need-add-stays Inv-loop μ-loop
 add-stays c = omega arith
