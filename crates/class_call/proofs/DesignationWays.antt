@@ -28,7 +28,7 @@ use Rattle.book.proofs.Programs.{designations-set}
 use Rattle.book.proofs.Order.{granted-answer}
 use Rattle.book.proofs.Answered.{made-refused}
 use Rattle.edit.specs.Asked.{Storable}
-use Rattle.class_call.proofs.Ways.{passed, Found, found-figures, found-limits}
+use Rattle.class_call.proofs.Ways.{passed, Found, found-seen, found-figures, found-limits}
 use Rattle.class_call.proofs.FigureWays.{Stored, storable, figures-set}
 
 -- ---- what a claim draws
@@ -88,7 +88,7 @@ module _
       (drawn : claim ≡ firstOr Done (claims p d r (factsOf w))) where
     answer : answerTo (length w) 0 (on c (callD p d)) (factsOf w) ≡ claim
     unfolding answerTo effectOn
-    answer = rw (within, found .is-open, ← found-figures w book c at r found) (sym drawn)
+    answer = rw (within, found-seen w c at r found, ← found-figures w book c at r found) (sym drawn)
 
     pub designation-refused : isAccepted claim ≡ false → Made (on c (callD p d)) w [] claim w []
     designation-refused refused = made-refused (on c (callD p d)) w [] book claim refused answer

@@ -21,7 +21,7 @@ use Rattle.book.specs.Made.{over, Made}
 use Rattle.logic.proofs.Tests.{ands, and-intro}
 use Rattle.book.proofs.Answered.{made-accepted}
 use Rattle.edit.specs.Asked.{Storable}
-use Rattle.class_call.proofs.Ways.{passed, Found, found-open, found-figures, found-number, found-limits}
+use Rattle.class_call.proofs.Ways.{passed, Found, found-open, found-seen, found-place, found-figures, found-number, found-limits}
 
 -- what `store_figures` leaves
 abbrev pub Stored : List ℕ → ClassRecord → List ℕ → Type 0
@@ -40,8 +40,8 @@ module _
       record {
         book = book;
         limits = rw e limits;
-        is-open = rw number (found-open w book c at r found);
-        place = found .place ∙ ap (λ (k : ℕ). classPlace k (factsOf w)) (sym number);
+        is-open = rw number (found-open w c at r found);
+        place = found-place w c at r found ∙ ap (λ (k : ℕ). classPlace k (factsOf w)) (sym number);
       }
 
   -- a call that makes this change
@@ -72,8 +72,8 @@ module _
   pub close-set : (w′ : List ℕ) → Stored w new w′ → Made (on c (callC p)) w [] Done w′ []
   unfolding answerTo effectOn
   close-set w′ stored =
-      figures-set w book c at r found (withClose p) refl new e (on c (callC p)) refl w′ (rw (within, found .is-open))
-      stored
+      figures-set w book c at r found (withClose p) refl new e (on c (callC p)) refl w′
+      (rw (within, found-seen w c at r found)) stored
 
 -- ---- `V`
 
@@ -89,5 +89,5 @@ module _
   pub volume-set : (w′ : List ℕ) → Stored w new w′ → Made (on c (callV n)) w [] Done w′ []
   unfolding answerTo effectOn
   volume-set w′ stored =
-      figures-set w book c at r found (withVolume n) refl new e (on c (callV n)) refl w′ (rw (within, found .is-open))
-      stored
+      figures-set w book c at r found (withVolume n) refl new e (on c (callV n)) refl w′
+      (rw (within, found-seen w c at r found)) stored

@@ -12,13 +12,13 @@ use Rattle.word.specs.declared.class.ClassRecord.{ClassRecord}
 use Rattle.word.specs.declared.answer.Answer.the-variants.{Done, Removed, Refused}
 use Rattle.word.specs.declared.answer.Refusal.the-variants.{AlreadyOpen, MonthOutside, NoClose, OutOfWords}
 use Rattle.word.specs.Limits.{isMonth, isClassNumber}
-use Rattle.book.specs.Facts.{Facts, newClass, isOpen, wordsOf, wordsTaken}
+use Rattle.book.specs.Facts.{newClass, isOpen, wordsOf, wordsTaken}
 use Rattle.book.specs.Layout.{used, layout, factsOf}
 use Rattle.book.specs.Books.{areFigures, isBook}
 use Rattle.book.specs.Views.{class, viewOf, isNotOpen, isReviewed}
 use Rattle.book.specs.Changes.{monthSet, classOpened, update, classReviewed, reviewedCount}
 use Rattle.book.specs.Calls.{callM, on, callO, callR, effectOn, answerTo}
-use Rattle.book.specs.Places.{classPlace}
+use Rattle.book.specs.Places.{classPlace, openPlace}
 use Rattle.book.specs.Made.{Made}
 use Rattle.logic.proofs.Tests.{ands, true-T}
 use Rattle.logic.proofs.Lists.{length-only}
@@ -27,10 +27,11 @@ use Rattle.book.proofs.ClassLaws.{number-of, sum-put}
 use Rattle.book.proofs.Layouts.{used-taken}
 use Rattle.book.proofs.Splices.{words-opened}
 use Rattle.book.proofs.ClassWords.{class-good}
+use Rattle.book.proofs.OpenPlaces.{place-open, place-begins}
 use Rattle.book.proofs.Answered.{made-refused, made-accepted}
 use Rattle.place.specs.Search.{firstAt, isFrom, figuresAt}
 use Rattle.place.proofs.Heads.{book-good, book-form, book-is, book-room, book-long}
-use Rattle.place.proofs.Found.{class-room, figures-found, class-ended}
+use Rattle.place.proofs.Found.{begins-room, figures-found, class-ended}
 use Rattle.edit.specs.Asked.{Openable}
 use Rattle.removal.specs.Asked.{Reviewable}
 
@@ -41,33 +42,39 @@ passed b e = true-T b (not-false b e)
 -- ---- an open class
 
 module _
-    (w : List ℕ) (book : T (isBook w)) (c at : ℕ) (is-open : isNotOpen (viewOf c (factsOf w)) ≡ false)
-    (place : at ≡ classPlace c (factsOf w)) where
+    (w : List ℕ) (book : T (isBook w)) (c at : ℕ) (sought : at ≡ openPlace c (factsOf w)) (there : at ≡ 0 → ⊥) where
   pub open-within : at + 3 ≤ used (factsOf w)
-  open-within = omega (arith, class-room w book c (passed (isOpen c (factsOf w .classes)) is-open))
+  open-within = begins-room w book at (place-begins c (factsOf w) at sought there)
 
   pub open-room : at + 3 ≤ length w
   open-room = omega (arith, open-within, book-room w book)
 
--- an open class, where it stands and what its words say
+-- an open class, where it was found and what its words say
 pub record Found (w : List ℕ) (c at : ℕ) (r : ClassRecord) : Type 0 where
-  pub is-open : isNotOpen (viewOf c (factsOf w)) ≡ false
-  pub place : at ≡ classPlace c (factsOf w)
+  pub sought : at ≡ openPlace c (factsOf w)
+  pub there : at ≡ 0 → ⊥
   pub said : r ≡ figuresAt at w
 
-module _ (w : List ℕ) (book : T (isBook w)) (c at : ℕ) (r : ClassRecord) (found : Found w c at r) where
+module _ (w : List ℕ) (c at : ℕ) (r : ClassRecord) (found : Found w c at r) where
   pub found-open : T (isOpen c (factsOf w .classes))
-  found-open = passed (isOpen c (factsOf w .classes)) (found .is-open)
+  found-open = place-begins c (factsOf w) at (found .sought) (found .there) .is-open
 
+  pub found-seen : isNotOpen (viewOf c (factsOf w)) ≡ false
+  found-seen = ap not (place-open c (factsOf w) at (found .sought) (found .there))
+
+  pub found-place : at ≡ classPlace c (factsOf w)
+  found-place = place-begins c (factsOf w) at (found .sought) (found .there) .place
+
+module _ (w : List ℕ) (book : T (isBook w)) (c at : ℕ) (r : ClassRecord) (found : Found w c at r) where
   pub found-figures : r ≡ class (factsOf w) c .figures
-  found-figures = found .said ∙ figures-found w book c found-open at (found .place)
+  found-figures = found .said ∙ figures-found w book c (found-open w c at r found) at (found-place w c at r found)
 
   pub found-number : r .number ≡ c
   found-number = ap (λ (x : ClassRecord). x .number) found-figures ∙ number-of c (factsOf w .classes)
 
   pub found-limits : T (areFigures r)
   found-limits =
-      let g = class-good (length w) (factsOf w) c (book-good w book) found-open in
+      let g = class-good (length w) (factsOf w) c (book-good w book) (found-open w c at r found) in
       rw found-figures (search ands)
 
 -- ---- `M`
@@ -138,7 +145,7 @@ module _
   unfolding answerTo effectOn
   review-no-close e =
       made-refused (on c callR) w [] book (Refused NoClose) refl
-      (rw (within, found .is-open, ← found-figures w book c at r found, eq-eqb (r .close) 0 e))
+      (rw (within, found-seen w c at r found, ← found-figures w book c at r found, eq-eqb (r .close) 0 e))
 
   -- with what `next_class` ensures
   module _
@@ -146,8 +153,8 @@ module _
       (e : to ≡ at + 3 + firstAt (isFrom 2 14 0) (take (used (factsOf w) - (at + 3)) (drop (at + 3) w))) where
     abbrev pub class-reviewable : Reviewable w (at + 3) to (r .close)
     class-reviewable =
-        let o = found-open w book c at r found in
-        let p : at + 3 ≡ classPlace c (factsOf w) + 3 = omega (arith, found .place) in
+        let o = found-open w c at r found in
+        let p : at + 3 ≡ classPlace c (factsOf w) + 3 = omega (arith, found-place w c at r found) in
         record {
           book = book;
           number = c;
@@ -164,7 +171,7 @@ module _
       omega (
         arith,
         length-only (isReviewed x) (x .series),
-        sum-put wordsOf (newClass c) (factsOf w .classes) (found-open w book c at r found),
+        sum-put wordsOf (newClass c) (factsOf w .classes) (found-open w c at r found),
         book-form w book .room,
         book-long w book,
       )
@@ -177,6 +184,6 @@ module _
   unfolding answerTo effectOn
   review-made k w′ done n =
       made-accepted (on c callR) w [] book (Removed k) w′ refl
-      (rw (within, found .is-open, ← found-figures w book c at r found, ne-eqb (r .close) 0 n)
+      (rw (within, found-seen w c at r found, ← found-figures w book c at r found, ne-eqb (r .close) 0 n)
       (ap Removed (sym (done .0))))
       (done .1)

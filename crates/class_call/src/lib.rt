@@ -1,5 +1,5 @@
-// The calls on months and classes, over a run that is known to be a book: `M`, `O`, `C`, `V`, `D` and `R`. `near` is
-// where the class is looked for first: any number will do.
+// The calls on months and classes, over a run that is known to be a book: `M`, `O`, `C`, `V`, `D` and `R`. `places` is
+// what `place::lookup::class_at` remembers of where classes stand: any numbers will do, and any count of them.
 ghost use mathlib.Core.List.{[]};
 ghost use lib.Dec.{T};
 ghost use Rattle.book.specs.Books.{isBook};
@@ -14,6 +14,7 @@ use place::lookup::class_at;
 use place::lookup::figures_at;
 use place::lookup::is_open_at;
 use place::lookup::next_class;
+use place::lookup::open_at;
 use removal::expiry::expire;
 use removal::review;
 use word::answer::Answer;
@@ -47,14 +48,14 @@ pub fn set_month(run: &mut [u32], m: u32) -> Answer
 }
 
 // `O`: opens a class.
-pub fn open_class(run: &mut [u32], near: usize, c: u32) -> Answer
+pub fn open_class(run: &mut [u32], places: &mut [u32], c: u32) -> Answer
     requires { ⌜ T (isBook (now run)) ⌝ }
     ensures { λ r. ⌜ Made (on c callO) (now (run .entry)) [] r (now (run .exit)) [] ⌝ }
 {
     if !is_class_number(c) {
         return Answer::Refused(Refusal::BeyondLimits);
     }
-    let at = class_at(run, near, c);
+    let at = class_at(run, places, c);
     if is_open_at(run, at, c) {
         return Answer::Refused(Refusal::AlreadyOpen);
     }
@@ -66,15 +67,15 @@ pub fn open_class(run: &mut [u32], near: usize, c: u32) -> Answer
 }
 
 // `C`: sets the close.
-pub fn set_close(run: &mut [u32], near: usize, c: u32, p: u32) -> Answer
+pub fn set_close(run: &mut [u32], places: &mut [u32], c: u32, p: u32) -> Answer
     requires { ⌜ T (isBook (now run)) ⌝ }
     ensures { λ r. ⌜ Made (on c (callC p)) (now (run .entry)) [] r (now (run .exit)) [] ⌝ }
 {
     if !(is_class_number(c) & is_price(p)) {
         return Answer::Refused(Refusal::BeyondLimits);
     }
-    let at = class_at(run, near, c);
-    if !is_open_at(run, at, c) {
+    let at = open_at(run, places, c);
+    if at == 0 {
         return Answer::Refused(Refusal::NotOpen);
     }
     let figures = figures_at(run, at);
@@ -83,15 +84,15 @@ pub fn set_close(run: &mut [u32], near: usize, c: u32, p: u32) -> Answer
 }
 
 // `V`: sets the volume.
-pub fn set_volume(run: &mut [u32], near: usize, c: u32, n: u32) -> Answer
+pub fn set_volume(run: &mut [u32], places: &mut [u32], c: u32, n: u32) -> Answer
     requires { ⌜ T (isBook (now run)) ⌝ }
     ensures { λ r. ⌜ Made (on c (callV n)) (now (run .entry)) [] r (now (run .exit)) [] ⌝ }
 {
     if !(is_class_number(c) & is_volume(n)) {
         return Answer::Refused(Refusal::BeyondLimits);
     }
-    let at = class_at(run, near, c);
-    if !is_open_at(run, at, c) {
+    let at = open_at(run, places, c);
+    if at == 0 {
         return Answer::Refused(Refusal::NotOpen);
     }
     let figures = figures_at(run, at);
@@ -100,15 +101,15 @@ pub fn set_volume(run: &mut [u32], near: usize, c: u32, n: u32) -> Answer
 }
 
 // `D`: gives the program p the designation d.
-pub fn designate(run: &mut [u32], near: usize, c: u32, p: u32, d: u32) -> Answer
+pub fn designate(run: &mut [u32], places: &mut [u32], c: u32, p: u32, d: u32) -> Answer
     requires { ⌜ T (isBook (now run)) ⌝ }
     ensures { λ r. ⌜ Made (on c (callD p d)) (now (run .entry)) [] r (now (run .exit)) [] ⌝ }
 {
     if !(is_class_number(c) & (is_program(p) & is_designation(d))) {
         return Answer::Refused(Refusal::BeyondLimits);
     }
-    let at = class_at(run, near, c);
-    if !is_open_at(run, at, c) {
+    let at = open_at(run, places, c);
+    if at == 0 {
         return Answer::Refused(Refusal::NotOpen);
     }
     let figures = figures_at(run, at);
@@ -121,15 +122,15 @@ pub fn designate(run: &mut [u32], near: usize, c: u32, p: u32, d: u32) -> Answer
 }
 
 // `R`: the review.
-pub fn review_class(run: &mut [u32], near: usize, c: u32) -> Answer
+pub fn review_class(run: &mut [u32], places: &mut [u32], c: u32) -> Answer
     requires { ⌜ T (isBook (now run)) ⌝ }
     ensures { λ r. ⌜ Made (on c callR) (now (run .entry)) [] r (now (run .exit)) [] ⌝ }
 {
     if !is_class_number(c) {
         return Answer::Refused(Refusal::BeyondLimits);
     }
-    let at = class_at(run, near, c);
-    if !is_open_at(run, at, c) {
+    let at = open_at(run, places, c);
+    if at == 0 {
         return Answer::Refused(Refusal::NotOpen);
     }
     let figures = figures_at(run, at);

@@ -6,24 +6,29 @@ use borrow.Author.Tests.{not-true, not-false}
 use borrow.Author.Needs.{needs}
 use Rattle.word.specs.Limits.{isClassNumber, isDesignation}
 use Rattle.word.specs.Programs.{isProgram}
+use Rattle.book.specs.Layout.{factsOf}
 use Rattle.book.specs.Calls.{on, callD, effectOn}
 use Rattle.logic.proofs.Tests.{ands}
 use Rattle.book.proofs.Answered.{made-beyond, made-not-open}
+use Rattle.book.proofs.OpenPlaces.{place-none}
 use Rattle.class_call.proofs.Ways.{passed, open-room, Found}
 use Rattle.class_call.proofs.DesignationWays.{designation-program, designation-refused, designation-storable, designation-set}
 use Rattle.class_call.proofs.designate.Statement.{statement}
 use Rattle.class_call.proofs.designate.Tie as tie
 
 -- before the place where the class is open: that where it was looked up, and that where the limits were passed
-abbrev sought : tie.Else2 → tie.After-class-at
+abbrev sought : tie.Else2 → tie.After-open-at
 sought p = p .before .before .before
 
 abbrev limited : tie.Else2 → tie.Else1
-limited p = sought p .before .before
+limited p = sought p .before .before .before
 
--- .. and where the last number was tested
+-- .. and where the first and the last number were tested
+abbrev entry : tie.After-is-class-number → tie.Start
+entry p = p .before .before .before
+
 abbrev start : tie.After-is-designation → tie.Start
-start p = p .before .before .before .before
+start p = entry (p .before .before)
 
 within :
     (p : tie.Else1)
@@ -38,14 +43,10 @@ found :
     (p : tie.After-figures-at)
     → let q = p .before .before in
     let s = start (limited q .before) in
-    Found (s .args .run .now) (s .args .c) (sought q .class-at .result) (p .figures-at .result)
+    Found (s .args .run .now) (s .args .c) (sought q .open-at .result) (p .figures-at .result)
 found p =
     let q = p .before .before in
-    record {
-      is-open = rw (q .before .is-open-at .ensures) at (q .if2 .left);
-      place = sought q .class-at .ensures;
-      said = p .figures-at .ensures;
-    }
+    record { sought = sought q .open-at .ensures; there = q .if2 .left; said = p .figures-at .ensures }
 
 -- before the place where the claim is granted: that where it was asked for
 abbrev granted : tie.Else3 → tie.After-claim-of
@@ -68,35 +69,32 @@ returns c =
     (rw (p .before .before .is-class-number .ensures, p .before .is-program .ensures, p .is-designation .ensures)
     at (c .if1 .taken))
 
-class-at-requires : tie.Need-class-at-requires
-class-at-requires c κs =
-    let p = c .before in
+open-at-requires : tie.Need-open-at-requires
+open-at-requires c κs =
+    let p = c .before .before in
     let s = start (p .before) in
     let t = passed (isClassNumber (s .args .c) && (isProgram (s .args .p) && isDesignation (s .args .d))) (within p) in
     (s .pre, search ands)
 
-is-open-at-requires : tie.Need-is-open-at-requires
-is-open-at-requires c κs = search needs
-
 same-length : tie.Need-same-length
 same-length c = search needs
+
+same-length-2 : tie.Need-same-length-2
+same-length-2 c = search needs
 
 returns-2 : tie.Need-returns-2
 unfolding effectOn
 returns-2 c =
-    let asked = c .before in
-    let p = asked .before .before .before .before in
-    made-not-open _ (callD _ _) _ _ (start (p .before) .pre) _ refl (within p)
-    (rw (asked .is-open-at .ensures) at (c .if2 .taken))
+    let found-none = c .before .before .before in
+    let p = found-none .before .before .before in
+    let s = start (p .before) in
+    made-not-open _ (callD _ _) _ _ (s .pre) _ refl (within p)
+    (place-none (s .args .c) (factsOf (s .args .run .now)) _ (found-none .open-at .ensures) (c .if2 .taken))
 
 figures-at-requires : tie.Need-figures-at-requires
 figures-at-requires c κs =
     let p = c .before in
-    omega (
-      arith,
-      open-room _ (start (limited p .before) .pre) _ _ (rw (p .before .is-open-at .ensures) at (p .if2 .left))
-          (sought p .class-at .ensures),
-    )
+    omega (arith, open-room _ (start (limited p .before) .pre) _ _ (sought p .open-at .ensures) (p .if2 .left))
 
 claim-of-requires : tie.Need-claim-of-requires
 claim-of-requires c κs =
@@ -107,8 +105,11 @@ claim-of-requires c κs =
 is-accepted-requires : tie.Need-is-accepted-requires
 is-accepted-requires c κs = search needs
 
-same-length-2 : tie.Need-same-length-2
-same-length-2 c = search needs
+same-length-3 : tie.Need-same-length-3
+same-length-3 c = search needs
+
+same-length-4 : tie.Need-same-length-4
+same-length-4 c = search needs
 
 returns-3 : tie.Need-returns-3
 returns-3 c =
@@ -135,8 +136,11 @@ store-figures-requires c κs =
     designation-storable _ (s .args .p) (s .args .d) _ (s .pre) (within p) _ _ (found read) _
     (claimed .claim-of .ensures) _ (c .with-designation .ensures)
 
-same-length-3 : tie.Need-same-length-3
-same-length-3 c = search needs
+same-length-5 : tie.Need-same-length-5
+same-length-5 c = search needs
+
+same-length-6 : tie.Need-same-length-6
+same-length-6 c = search needs
 
 returns-4 : tie.Need-returns-4
 returns-4 c =
@@ -158,16 +162,18 @@ designate-spec =
     is-program-requires
     is-designation-requires
     returns
-    class-at-requires
-    is-open-at-requires
+    open-at-requires
     same-length
+    same-length-2
     returns-2
     figures-at-requires
     claim-of-requires
     is-accepted-requires
-    same-length-2
+    same-length-3
+    same-length-4
     returns-3
     with-designation-requires
     store-figures-requires
-    same-length-3
+    same-length-5
+    same-length-6
     returns-4)

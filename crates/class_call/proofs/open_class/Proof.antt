@@ -14,14 +14,20 @@ use Rattle.class_call.proofs.open_class.Statement.{statement}
 use Rattle.class_call.proofs.open_class.Tie as tie
 
 -- before the place where the class is not open: that where it was looked up, and that where the limits were passed
+abbrev found : tie.After-is-open-at → tie.After-class-at
+found p = p .before .before .before .before
+
 abbrev sought : tie.Else2 → tie.After-class-at
-sought p = p .before .before .before
+sought p = found (p .before)
+
+abbrev asked : tie.After-class-at → tie.Else1
+asked p = p .before .before .before
 
 abbrev limited : tie.Else2 → tie.Else1
-limited p = sought p .before .before
+limited p = asked (sought p)
 
 abbrev start : tie.Else1 → tie.Start
-start p = p .before .before .before
+start p = p .before .before .before .before
 
 within : (p : tie.Else1) → not (isClassNumber (start p .args .c)) ≡ false
 within p = rw (p .before .is-class-number .ensures) at (p .if1 .left)
@@ -36,11 +42,13 @@ returns : tie.Need-returns
 unfolding effectOn
 returns c =
     let tested = c .before in
-    made-beyond (on _ callO) _ _ (tested .before .before .pre)
+    made-beyond (on _ callO) _ _ (tested .before .before .before .pre)
     (rw (tested .is-class-number .ensures) at (c .if1 .taken))
 
 class-at-requires : tie.Need-class-at-requires
-class-at-requires c κs = let p = c .before in (start p .pre, passed (isClassNumber (start p .args .c)) (within p))
+class-at-requires c κs =
+    let p = c .before .before in
+    (start p .pre, passed (isClassNumber (start p .args .c)) (within p))
 
 is-open-at-requires : tie.Need-is-open-at-requires
 is-open-at-requires c κs = search needs
@@ -48,11 +56,14 @@ is-open-at-requires c κs = search needs
 same-length : tie.Need-same-length
 same-length c = search needs
 
+same-length-2 : tie.Need-same-length-2
+same-length-2 c = search needs
+
 returns-2 : tie.Need-returns-2
 returns-2 c =
-    let asked = c .before in
-    let p = asked .before .before .before .before in
-    already-open _ _ (start p .pre) (within p) (rw (asked .is-open-at .ensures) at (c .if2 .taken))
+    let told = c .before in
+    let p = asked (found told) in
+    already-open _ _ (start p .pre) (within p) (rw (told .is-open-at .ensures) at (c .if2 .taken))
 
 used-requires : tie.Need-used-requires
 used-requires c κs = search needs
@@ -62,8 +73,11 @@ add-if3 c =
     let book = start (limited (c .before .before)) .pre in
     omega (arith, c .used .ensures, book-room _ book, book-long _ book)
 
-same-length-2 : tie.Need-same-length-2
-same-length-2 c = search needs
+same-length-3 : tie.Need-same-length-3
+same-length-3 c = search needs
+
+same-length-4 : tie.Need-same-length-4
+same-length-4 c = search needs
 
 returns-3 : tie.Need-returns-3
 returns-3 c =
@@ -81,8 +95,11 @@ insert-class-requires c κs =
     class-openable _ _ (start q .pre) (within q) (is-closed p) _ (counted .used .ensures) (fits .if3 .left) _
     (sought p .class-at .ensures)
 
-same-length-3 : tie.Need-same-length-3
-same-length-3 c = search needs
+same-length-5 : tie.Need-same-length-5
+same-length-5 c = search needs
+
+same-length-6 : tie.Need-same-length-6
+same-length-6 c = search needs
 
 returns-4 : tie.Need-returns-4
 returns-4 c =
@@ -103,11 +120,14 @@ open-class-spec =
     class-at-requires
     is-open-at-requires
     same-length
+    same-length-2
     returns-2
     used-requires
     add-if3
-    same-length-2
+    same-length-3
+    same-length-4
     returns-3
     insert-class-requires
-    same-length-3
+    same-length-5
+    same-length-6
     returns-4)

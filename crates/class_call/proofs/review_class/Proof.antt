@@ -1,14 +1,15 @@
 -- `review_class` keeps the contract of `R`: each way out by its law. Assumes nothing.
-use Prim.Native.Nat.{_+_}
+use Prim.Native.Nat.{_+_, _≤_}
 use mathlib.Core.Path.{_≡_, refl}
 use mathlib.Core.Bool.{false, not}
 use native.Mathlib.Omega.{arith}
+use lib.ListN.{length}
 use borrow.Author.Needs.{needs}
 use Rattle.word.specs.Limits.{isClassNumber}
 use Rattle.book.specs.Layout.{factsOf}
-use Rattle.book.specs.Views.{viewOf, isNotOpen}
 use Rattle.book.specs.Calls.{on, callR, effectOn}
 use Rattle.book.proofs.Answered.{made-beyond, made-not-open}
+use Rattle.book.proofs.OpenPlaces.{place-none}
 use Rattle.place.proofs.Heads.{book-long}
 use Rattle.removal.specs.Asked.{Reviewable}
 use Rattle.class_call.proofs.Ways.{passed, open-within, open-room, Found, review-no-close, class-reviewable, review-count, review-made}
@@ -16,29 +17,30 @@ use Rattle.class_call.proofs.review_class.Statement.{statement}
 use Rattle.class_call.proofs.review_class.Tie as tie
 
 -- before the place where the class is open: that where it was looked up, and that where the limits were passed
-abbrev sought : tie.Else2 → tie.After-class-at
+abbrev sought : tie.Else2 → tie.After-open-at
 sought p = p .before .before .before
 
 abbrev limited : tie.Else2 → tie.Else1
-limited p = sought p .before .before
+limited p = sought p .before .before .before
 
 abbrev start : tie.Else1 → tie.Start
-start p = p .before .before .before
+start p = p .before .before .before .before
 
 within : (p : tie.Else1) → not (isClassNumber (start p .args .c)) ≡ false
 within p = rw (p .before .is-class-number .ensures) at (p .if1 .left)
-
-is-open : (p : tie.Else2) → let a = start (limited p) .args in isNotOpen (viewOf (a .c) (factsOf (a .run .now))) ≡ false
-is-open p = rw (p .before .is-open-at .ensures) at (p .if2 .left)
 
 found :
     (p : tie.After-figures-at)
     → let q = p .before .before in
     let s = start (limited q) in
-    Found (s .args .run .now) (s .args .c) (sought q .class-at .result) (p .figures-at .result)
+    Found (s .args .run .now) (s .args .c) (sought q .open-at .result) (p .figures-at .result)
 found p =
     let q = p .before .before in
-    record { is-open = is-open q; place = sought q .class-at .ensures; said = p .figures-at .ensures }
+    record { sought = sought q .open-at .ensures; there = q .if2 .left; said = p .figures-at .ensures }
+
+-- its words are words of the run
+room : (p : tie.Else2) → sought p .open-at .result + 3 ≤ length (start (limited p) .args .run .now)
+room p = open-room _ (start (limited p) .pre) _ _ (sought p .open-at .ensures) (p .if2 .left)
 
 -- before the place where the series end: that where the figures were read
 abbrev read : tie.After-next-class → tie.After-figures-at
@@ -47,7 +49,7 @@ read p = p .before .before .before .before
 abbrev reviewable :
     (p : tie.After-next-class)
     → let q = read p .before .before in
-    Reviewable (start (limited q) .args .run .now) (sought q .class-at .result + 3) (p .next-class .result)
+    Reviewable (start (limited q) .args .run .now) (sought q .open-at .result + 3) (p .next-class .result)
     (read p .figures-at .result .close)
 reviewable p =
     let q = limited (read p .before .before) in
@@ -60,32 +62,37 @@ returns : tie.Need-returns
 unfolding effectOn
 returns c =
     let tested = c .before in
-    made-beyond (on _ callR) _ _ (tested .before .before .pre)
+    made-beyond (on _ callR) _ _ (tested .before .before .before .pre)
     (rw (tested .is-class-number .ensures) at (c .if1 .taken))
 
-class-at-requires : tie.Need-class-at-requires
-class-at-requires c κs = let p = c .before in (start p .pre, passed (isClassNumber (start p .args .c)) (within p))
-
-is-open-at-requires : tie.Need-is-open-at-requires
-is-open-at-requires c κs = search needs
+open-at-requires : tie.Need-open-at-requires
+open-at-requires c κs =
+    let p = c .before .before in
+    (start p .pre, passed (isClassNumber (start p .args .c)) (within p))
 
 same-length : tie.Need-same-length
 same-length c = search needs
 
+same-length-2 : tie.Need-same-length-2
+same-length-2 c = search needs
+
 returns-2 : tie.Need-returns-2
 unfolding effectOn
 returns-2 c =
-    let asked = c .before in
-    let p = asked .before .before .before .before in
-    made-not-open _ callR _ _ (start p .pre) _ refl (within p) (rw (asked .is-open-at .ensures) at (c .if2 .taken))
+    let found-none = c .before .before .before in
+    let p = found-none .before .before .before in
+    let a = start p .args in
+    made-not-open _ callR _ _ (start p .pre) _ refl (within p)
+    (place-none (a .c) (factsOf (a .run .now)) _ (found-none .open-at .ensures) (c .if2 .taken))
 
 figures-at-requires : tie.Need-figures-at-requires
-figures-at-requires c κs =
-    let p = c .before in
-    omega (arith, open-room _ (start (limited p) .pre) _ _ (is-open p) (sought p .class-at .ensures))
+figures-at-requires c κs = omega (arith, room (c .before))
 
-same-length-2 : tie.Need-same-length-2
-same-length-2 c = search needs
+same-length-3 : tie.Need-same-length-3
+same-length-3 c = search needs
+
+same-length-4 : tie.Need-same-length-4
+same-length-4 c = search needs
 
 returns-3 : tie.Need-returns-3
 returns-3 c =
@@ -96,15 +103,18 @@ returns-3 c =
 add-from : tie.Need-add-from
 add-from c =
     let p = c .before .before .before .before in
-    let book = start (limited p) .pre in
-    omega (arith, open-room _ book _ _ (is-open p) (sought p .class-at .ensures), book-long _ book)
+    omega (arith, room p, book-long _ (start (limited p) .pre))
 
 next-class-requires : tie.Need-next-class-requires
 next-class-requires c κs =
     let closed = c .before in
     let p = closed .before .before .before .before in
     let book = start (limited p) .pre in
-    (book, (omega arith, open-within _ book _ _ (is-open p) (sought p .class-at .ensures)))
+    record {
+      book = book;
+      after = omega arith;
+      within = open-within _ book _ _ (sought p .open-at .ensures) (p .if2 .left);
+    }
 
 review-requires : tie.Need-review-requires
 review-requires c κs = reviewable (c .before)
@@ -119,8 +129,11 @@ cast-t24 c =
       review-count _ _ (start q .pre) (within q) _ _ (found (read p)) _ (reviewed .review .ensures (reviewable p) .0),
     )
 
-same-length-3 : tie.Need-same-length-3
-same-length-3 c = search needs
+same-length-5 : tie.Need-same-length-5
+same-length-5 c = search needs
+
+same-length-6 : tie.Need-same-length-6
+same-length-6 c = search needs
 
 returns-4 : tie.Need-returns-4
 returns-4 c =
@@ -137,16 +150,18 @@ review-class-spec =
     (tie.spec
     is-class-number-requires
     returns
-    class-at-requires
-    is-open-at-requires
+    open-at-requires
     same-length
+    same-length-2
     returns-2
     figures-at-requires
-    same-length-2
+    same-length-3
+    same-length-4
     returns-3
     add-from
     next-class-requires
     review-requires
     cast-t24
-    same-length-3
+    same-length-5
+    same-length-6
     returns-4)

@@ -4,39 +4,41 @@ use mathlib.Core.Bool.{false, not, _&&_}
 use native.Mathlib.Omega.{arith}
 use borrow.Author.Needs.{needs}
 use Rattle.word.specs.Limits.{isClassNumber, isVolume}
+use Rattle.book.specs.Layout.{factsOf}
 use Rattle.book.specs.Calls.{on, callV, effectOn}
 use Rattle.logic.proofs.Tests.{ands}
 use Rattle.book.proofs.Answered.{made-beyond, made-not-open}
+use Rattle.book.proofs.OpenPlaces.{place-none}
 use Rattle.class_call.proofs.Ways.{passed, open-room, Found}
 use Rattle.class_call.proofs.FigureWays.{volume-storable, volume-set}
 use Rattle.class_call.proofs.set_volume.Statement.{statement}
 use Rattle.class_call.proofs.set_volume.Tie as tie
 
 -- before the place where the class is open: that where it was looked up, and that where the limits were passed
-abbrev sought : tie.Else2 → tie.After-class-at
+abbrev sought : tie.Else2 → tie.After-open-at
 sought p = p .before .before .before
 
 abbrev limited : tie.Else2 → tie.Else1
-limited p = sought p .before .before
+limited p = sought p .before .before .before
 
-abbrev start : tie.Else1 → tie.Start
+-- .. and where the last number was tested
+abbrev start : tie.After-is-volume → tie.Start
 start p = p .before .before .before .before
 
-within : (p : tie.Else1) → not (isClassNumber (start p .args .c) && isVolume (start p .args .n)) ≡ false
+within :
+    (p : tie.Else1)
+    → let a = start (p .before) .args in
+    not (isClassNumber (a .c) && isVolume (a .n)) ≡ false
 within p = rw (p .before .before .is-class-number .ensures, p .before .is-volume .ensures) at (p .if1 .left)
 
 found :
     (p : tie.After-figures-at)
     → let q = p .before .before in
-    let s = start (limited q) in
-    Found (s .args .run .now) (s .args .c) (sought q .class-at .result) (p .figures-at .result)
+    let s = start (limited q .before) in
+    Found (s .args .run .now) (s .args .c) (sought q .open-at .result) (p .figures-at .result)
 found p =
     let q = p .before .before in
-    record {
-      is-open = rw (q .before .is-open-at .ensures) at (q .if2 .left);
-      place = sought q .class-at .ensures;
-      said = p .figures-at .ensures;
-    }
+    record { sought = sought q .open-at .ensures; there = q .if2 .left; said = p .figures-at .ensures }
 
 is-class-number-requires : tie.Need-is-class-number-requires
 is-class-number-requires c κs = search needs
@@ -48,36 +50,34 @@ returns : tie.Need-returns
 unfolding effectOn
 returns c =
     let tested = c .before in
-    made-beyond (on _ (callV _)) _ _ (tested .before .before .before .pre)
+    made-beyond (on _ (callV _)) _ _ (start tested .pre)
     (rw (tested .before .is-class-number .ensures, tested .is-volume .ensures) at (c .if1 .taken))
 
-class-at-requires : tie.Need-class-at-requires
-class-at-requires c κs =
-    let p = c .before in
-    let t = passed (isClassNumber (start p .args .c) && isVolume (start p .args .n)) (within p) in
-    (start p .pre, search ands)
-
-is-open-at-requires : tie.Need-is-open-at-requires
-is-open-at-requires c κs = search needs
+open-at-requires : tie.Need-open-at-requires
+open-at-requires c κs =
+    let p = c .before .before in
+    let t = passed (isClassNumber (start (p .before) .args .c) && isVolume (start (p .before) .args .n)) (within p) in
+    (start (p .before) .pre, search ands)
 
 same-length : tie.Need-same-length
 same-length c = search needs
 
+same-length-2 : tie.Need-same-length-2
+same-length-2 c = search needs
+
 returns-2 : tie.Need-returns-2
 unfolding effectOn
 returns-2 c =
-    let asked = c .before in
-    let p = asked .before .before .before .before in
-    made-not-open _ (callV _) _ _ (start p .pre) _ refl (within p) (rw (asked .is-open-at .ensures) at (c .if2 .taken))
+    let found-none = c .before .before .before in
+    let p = found-none .before .before .before in
+    let s = start (p .before) in
+    made-not-open _ (callV _) _ _ (s .pre) _ refl (within p)
+    (place-none (s .args .c) (factsOf (s .args .run .now)) _ (found-none .open-at .ensures) (c .if2 .taken))
 
 figures-at-requires : tie.Need-figures-at-requires
 figures-at-requires c κs =
     let p = c .before in
-    omega (
-      arith,
-      open-room _ (start (limited p) .pre) _ _ (rw (p .before .is-open-at .ensures) at (p .if2 .left))
-          (sought p .class-at .ensures),
-    )
+    omega (arith, open-room _ (start (limited p .before) .pre) _ _ (sought p .open-at .ensures) (p .if2 .left))
 
 with-volume-requires : tie.Need-with-volume-requires
 with-volume-requires c κs = search needs
@@ -86,10 +86,13 @@ store-figures-requires : tie.Need-store-figures-requires
 store-figures-requires c κs =
     let read = c .before .before in
     let p = limited (read .before .before) in
-    volume-storable _ _ _ (start p .pre) (within p) _ _ (found read) _ (c .with-volume .ensures)
+    volume-storable _ _ _ (start (p .before) .pre) (within p) _ _ (found read) _ (c .with-volume .ensures)
 
-same-length-2 : tie.Need-same-length-2
-same-length-2 c = search needs
+same-length-3 : tie.Need-same-length-3
+same-length-3 c = search needs
+
+same-length-4 : tie.Need-same-length-4
+same-length-4 c = search needs
 
 returns-3 : tie.Need-returns-3
 returns-3 c =
@@ -97,7 +100,7 @@ returns-3 c =
     let made = stored .before in
     let read = made .before .before in
     let p = limited (read .before .before) in
-    volume-set _ _ _ (start p .pre) (within p) _ _ (found read) _ (made .with-volume .ensures) _
+    volume-set _ _ _ (start (p .before) .pre) (within p) _ _ (found read) _ (made .with-volume .ensures) _
     (stored .store-figures .ensures)
 
 pub set-volume-spec : {M : Type 1} → statement M
@@ -107,12 +110,13 @@ set-volume-spec =
     is-class-number-requires
     is-volume-requires
     returns
-    class-at-requires
-    is-open-at-requires
+    open-at-requires
     same-length
+    same-length-2
     returns-2
     figures-at-requires
     with-volume-requires
     store-figures-requires
-    same-length-2
+    same-length-3
+    same-length-4
     returns-3)
