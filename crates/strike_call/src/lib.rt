@@ -1,6 +1,7 @@
-// The calls on strikes, over a run that is known to be a book: `L`, `J`, `X`, `I` and `A`. `near` is where the class is
-// looked for first: any number will do. `J` and `A`, which only read the run, take a slice of all of it first: that one
-// stays in registers, where the lent one would be copied in memory.
+// The calls on strikes, over a run that is known to be a book: `L`, `J`, `X`, `I` and `A`. `places` is what
+// `place::lookup::class_at` remembers of where classes stand: any numbers will do, and any count of them. `J` and `A`,
+// which only read the run, take a slice of all of it first: that one stays in registers, where the lent one would be
+// copied in memory.
 ghost use mathlib.Core.Bool.{_&&_};
 ghost use mathlib.Core.List.{[]};
 ghost use mathlib.Core.Path.{_≡_};
@@ -17,11 +18,10 @@ use edit::insert_strike;
 use edit::store_marks;
 use place::head;
 use place::lookup::StrikeSearch;
-use place::lookup::class_at;
 use place::lookup::figures_at;
-use place::lookup::is_open_at;
 use place::lookup::look_up_expiration;
 use place::lookup::look_up_strike;
+use place::lookup::open_at;
 use removal::delist;
 use rule::judgement::judge;
 use rule::terms::Setting;
@@ -34,6 +34,7 @@ use word::limits::is_class_number;
 use word::limits::is_mark;
 use word::limits::is_month;
 use word::limits::is_strike;
+use word::strike::Marks;
 use word::strike::Strike;
 
 // Whether the numbers that name a strike are within their limits.
@@ -88,7 +89,7 @@ fn judge_found(run: &[u32], class: usize, found: StrikeSearch, m: u32, h: u32) -
 }
 
 // `J`: the judgement of a strike.
-pub fn judge_strike(run: &[u32], near: usize, c: u32, m: u32, h: u32) -> Answer
+pub fn judge_strike(run: &[u32], places: &mut [u32], c: u32, m: u32, h: u32) -> Answer
     requires { ⌜ T (isBook (now run)) ⌝ }
     ensures { λ r. ⌜ Made (on c (callJ m h)) (now (run .entry)) [] r (now (run .entry)) [] ⌝ }
 {
@@ -96,8 +97,8 @@ pub fn judge_strike(run: &[u32], near: usize, c: u32, m: u32, h: u32) -> Answer
     if !is_place(c, m, h) {
         return Answer::Refused(Refusal::BeyondLimits);
     }
-    let class = class_at(words, near, c);
-    if !is_open_at(words, class, c) {
+    let class = open_at(words, places, c);
+    if class == 0 {
         return Answer::Refused(Refusal::NotOpen);
     }
     let found = look_up_strike(words, class, m, h);
@@ -105,15 +106,15 @@ pub fn judge_strike(run: &[u32], near: usize, c: u32, m: u32, h: u32) -> Answer
 }
 
 // `L`: adds a strike.
-pub fn list_strike(run: &mut [u32], near: usize, c: u32, m: u32, h: u32) -> Answer
+pub fn list_strike(run: &mut [u32], places: &mut [u32], c: u32, m: u32, h: u32) -> Answer
     requires { ⌜ T (isBook (now run)) ⌝ }
     ensures { λ r. ⌜ Made (on c (callL m h)) (now (run .entry)) [] r (now (run .exit)) [] ⌝ }
 {
     if !is_place(c, m, h) {
         return Answer::Refused(Refusal::BeyondLimits);
     }
-    let class = class_at(run, near, c);
-    if !is_open_at(run, class, c) {
+    let class = open_at(run, places, c);
+    if class == 0 {
         return Answer::Refused(Refusal::NotOpen);
     }
     let found = look_up_strike(run, class, m, h);
@@ -130,15 +131,15 @@ pub fn list_strike(run: &mut [u32], near: usize, c: u32, m: u32, h: u32) -> Answ
 }
 
 // `X`: delists a strike.
-pub fn delist_strike(run: &mut [u32], near: usize, c: u32, m: u32, h: u32) -> Answer
+pub fn delist_strike(run: &mut [u32], places: &mut [u32], c: u32, m: u32, h: u32) -> Answer
     requires { ⌜ T (isBook (now run)) ⌝ }
     ensures { λ r. ⌜ Made (on c (callX m h)) (now (run .entry)) [] r (now (run .exit)) [] ⌝ }
 {
     if !is_place(c, m, h) {
         return Answer::Refused(Refusal::BeyondLimits);
     }
-    let class = class_at(run, near, c);
-    if !is_open_at(run, class, c) {
+    let class = open_at(run, places, c);
+    if class == 0 {
         return Answer::Refused(Refusal::NotOpen);
     }
     let found = look_up_strike(run, class, m, h);
@@ -155,27 +156,34 @@ pub fn delist_strike(run: &mut [u32], near: usize, c: u32, m: u32, h: u32) -> An
 }
 
 // `I`: sets the marks of open interest.
-pub fn mark_strike(run: &mut [u32], near: usize, c: u32, m: u32, h: u32, a: u32, b: u32) -> Answer
+pub fn mark_strike(
+    run: &mut [u32],
+    places: &mut [u32],
+    c: u32,
+    m: u32,
+    h: u32,
+    marks: Marks,
+) -> Answer
     requires { ⌜ T (isBook (now run)) ⌝ }
-    ensures { λ r. ⌜ Made (on c (callI m h a b)) (now (run .entry)) [] r (now (run .exit)) [] ⌝ }
+    ensures { λ r. ⌜ Made (on c (callI m h (marks .put) (marks .call))) (now (run .entry)) [] r (now (run .exit)) [] ⌝ }
 {
-    if !(is_place(c, m, h) & (is_mark(a) & is_mark(b))) {
+    if !(is_place(c, m, h) & (is_mark(marks.put) & is_mark(marks.call))) {
         return Answer::Refused(Refusal::BeyondLimits);
     }
-    let class = class_at(run, near, c);
-    if !is_open_at(run, class, c) {
+    let class = open_at(run, places, c);
+    if class == 0 {
         return Answer::Refused(Refusal::NotOpen);
     }
     let found = look_up_strike(run, class, m, h);
     if !found.standing {
         return Answer::Refused(Refusal::NotStanding);
     }
-    store_marks(run, found.at, a, b);
+    store_marks(run, found.at, marks.put, marks.call);
     Answer::Done
 }
 
 // `A`: writes the permitted strikes to the second run.
-pub fn list_permitted(run: &[u32], second: &mut [u32], near: usize, c: u32, m: u32) -> Answer
+pub fn list_permitted(run: &[u32], second: &mut [u32], places: &mut [u32], c: u32, m: u32) -> Answer
     requires { ⌜ T (isBook (now run)) ⌝ }
     ensures { λ r. ⌜ Made (on c (callA m)) (now (run .entry)) (now (second .entry))
         r (now (run .entry)) (now (second .exit)) ⌝ }
@@ -184,8 +192,8 @@ pub fn list_permitted(run: &[u32], second: &mut [u32], near: usize, c: u32, m: u
     if !(is_class_number(c) & is_month(m)) {
         return Answer::Refused(Refusal::BeyondLimits);
     }
-    let at = class_at(words, near, c);
-    if !is_open_at(words, at, c) {
+    let at = open_at(words, places, c);
+    if at == 0 {
         return Answer::Refused(Refusal::NotOpen);
     }
     let class = figures_at(words, at);

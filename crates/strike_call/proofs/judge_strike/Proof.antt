@@ -4,12 +4,12 @@ use mathlib.Core.Path.{_≡_, refl, sym, ap, _∙_}
 use mathlib.Core.Bool.{false, not}
 use mathlib.Core.List.{[]}
 use borrow.Author.Needs.{needs}
-use Rattle.book.specs.Facts.{isOpen}
 use Rattle.book.specs.Layout.{factsOf}
 use Rattle.book.specs.Calls.{on, callJ, isPlace, effectOn}
 use Rattle.book.specs.Places.{ClassBegins}
 use Rattle.logic.proofs.Tests.{ands}
 use Rattle.book.proofs.Answered.{made-beyond, made-not-open}
+use Rattle.book.proofs.OpenPlaces.{place-none, place-begins}
 use Rattle.strike_call.specs.Judging.{Sought}
 use Rattle.strike_call.proofs.Standing.{passed}
 use Rattle.strike_call.proofs.Listing.{judge-done}
@@ -19,33 +19,28 @@ use Rattle.strike_call.proofs.judge_strike.Tie as tie
 -- ---- the places of the proof
 
 abbrev start : tie.Else1 → tie.Start
-start c = c .before .before .before
+start c = c .before .before .before .before
 
-abbrev class : tie.Else2 → tie.After-class-at
-class c = c .before .before
+abbrev class : tie.Else2 → tie.After-open-at
+class c = c .before .before .before
 
 abbrev within : tie.Else2 → tie.Else1
-within c = class c .before
+within c = class c .before .before
 
 -- ---- what is known there
 
 limits : (c : tie.Else1) → let a = start c .args in not (isPlace (a .c) (a .m) (a .h)) ≡ false
 limits c = ap not (sym (c .before .is-place .ensures)) ∙ c .if1 .left
 
-abbrev begins : (c : tie.Else2) → ClassBegins (factsOf (start (within c) .args .run .now)) (class c .class-at .result)
+abbrev begins : (c : tie.Else2) → ClassBegins (factsOf (start (within c) .args .run .now)) (class c .open-at .result)
 begins c =
     let a = start (within c) .args in
-    record {
-      number = a .c;
-      is-open = passed (isOpen (a .c) (factsOf (a .run .now) .classes))
-          (ap not (sym (c .before .is-open-at .ensures)) ∙ c .if2 .left);
-      place = class c .class-at .ensures;
-    }
+    place-begins (a .c) (factsOf (a .run .now)) _ (class c .open-at .ensures) (c .if2 .left)
 
 abbrev sought :
     (c : tie.After-look-up-strike)
     → let a = start (within (c .before)) .args in
-    Sought (a .run .now) (class (c .before) .class-at .result) (c .look-up-strike .result) (a .m) (a .h)
+    Sought (a .run .now) (class (c .before) .open-at .result) (c .look-up-strike .result) (a .m) (a .h)
 sought c =
     let opened = c .before in
     let s = start (within opened) in
@@ -68,29 +63,30 @@ returns : tie.Need-returns
 unfolding effectOn
 returns c =
     let k = c .before in
-    let s = k .before .before in
+    let s = k .before .before .before in
     let a = s .args in
     made-beyond (on (a .c) (callJ (a .m) (a .h))) (a .run .now) [] (s .pre)
     (ap not (sym (k .is-place .ensures)) ∙ c .if1 .taken)
 
-class-at-requires : tie.Need-class-at-requires
-class-at-requires c κs =
-    let a = start c .args in
-    let numbers = passed (isPlace (a .c) (a .m) (a .h)) (limits c) in
-    (start c .pre, search ands)
+open-at-requires : tie.Need-open-at-requires
+open-at-requires c κs =
+    let s = start (c .before) in
+    let a = s .args in
+    let numbers = passed (isPlace (a .c) (a .m) (a .h)) (limits (c .before)) in
+    (s .pre, search ands)
 
-is-open-at-requires : tie.Need-is-open-at-requires
-is-open-at-requires c κs = (start (c .before) .pre, c .class-at .ensures)
+same-length : tie.Need-same-length
+same-length c = search needs
 
 returns-2 : tie.Need-returns-2
 unfolding effectOn
 returns-2 c =
-    let k = c .before in
-    let asked = k .before .before in
-    let s = start asked in
+    let asked = c .before .before .before in
+    let l = asked .before .before in
+    let s = start l in
     let a = s .args in
-    made-not-open (a .c) (callJ (a .m) (a .h)) (a .run .now) [] (s .pre) _ refl (limits asked)
-    (ap not (sym (k .is-open-at .ensures)) ∙ c .if2 .taken)
+    made-not-open (a .c) (callJ (a .m) (a .h)) (a .run .now) [] (s .pre) _ refl (limits l)
+    (place-none (a .c) (factsOf (a .run .now)) _ (asked .open-at .ensures) (c .if2 .taken))
 
 look-up-strike-requires : tie.Need-look-up-strike-requires
 look-up-strike-requires c κs =
@@ -101,6 +97,9 @@ look-up-strike-requires c κs =
 
 judge-found-requires : tie.Need-judge-found-requires
 judge-found-requires c κs = sought c
+
+same-length-2 : tie.Need-same-length-2
+same-length-2 c = search needs
 
 returns-3 : tie.Need-returns-3
 returns-3 c =
@@ -117,9 +116,10 @@ judge-strike-spec =
     (tie.spec
     is-place-requires
     returns
-    class-at-requires
-    is-open-at-requires
+    open-at-requires
+    same-length
     returns-2
     look-up-strike-requires
     judge-found-requires
+    same-length-2
     returns-3)

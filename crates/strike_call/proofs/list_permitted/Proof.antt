@@ -1,18 +1,18 @@
 -- `list_permitted` is the call `A`: each test is the condition of the facts in its turn, and the strikes are listed
 -- beside the words of the expiration's strikes. Assumes nothing.
 use Prim.Native.Nat.{_≤_}
-use mathlib.Core.Path.{_≡_, refl, sym, ap, ap₂, _∙_}
+use mathlib.Core.Path.{_≡_, refl, sym, ap₂, _∙_}
 use mathlib.Core.Bool.{Bool, false, not, _&&_}
 use native.Mathlib.Omega.{arith}
 use lib.ListN.{length}
 use borrow.Author.Needs.{needs}
 use Rattle.word.specs.Limits.{isMonth, isClassNumber}
-use Rattle.book.specs.Facts.{isOpen}
 use Rattle.book.specs.Layout.{factsOf}
 use Rattle.book.specs.Calls.{on, callA, effectOn}
 use Rattle.book.specs.Places.{ClassBegins}
 use Rattle.logic.proofs.Tests.{ands}
 use Rattle.book.proofs.Answered.{made-beyond, made-not-open}
+use Rattle.book.proofs.OpenPlaces.{place-none, place-begins}
 use Rattle.place.specs.Lookups.{expirationOf}
 use Rattle.place.proofs.Found.{begins-room}
 use Rattle.place.proofs.Heads.{book-long, book-month, book-room}
@@ -23,14 +23,17 @@ use Rattle.strike_call.proofs.list_permitted.Tie as tie
 
 -- ---- the places of the proof
 
-abbrev start : tie.After-is-month → tie.Start
-start c = c .before .before .before .before
+abbrev entry : tie.After-is-class-number → tie.Start
+entry c = c .before .before .before .before
 
-abbrev class : tie.Else2 → tie.After-class-at
-class c = c .before .before
+abbrev start : tie.After-is-month → tie.Start
+start c = entry (c .before)
+
+abbrev class : tie.Else2 → tie.After-open-at
+class c = c .before .before .before
 
 abbrev within : tie.Else2 → tie.Else1
-within c = class c .before
+within c = class c .before .before
 
 abbrev called : tie.Else2 → tie.Start
 called c = start (within c .before)
@@ -53,15 +56,10 @@ joined c = ap₂ (λ (x y : Bool). not (x && y)) (sym (c .before .is-class-numbe
 limits : (c : tie.Else1) → let a = start (c .before) .args in not (isClassNumber (a .c) && isMonth (a .m)) ≡ false
 limits c = joined (c .before) ∙ c .if1 .left
 
-abbrev begins : (c : tie.Else2) → ClassBegins (factsOf (called c .args .run .now)) (class c .class-at .result)
+abbrev begins : (c : tie.Else2) → ClassBegins (factsOf (called c .args .run .now)) (class c .open-at .result)
 begins c =
     let a = called c .args in
-    record {
-      number = a .c;
-      is-open = passed (isOpen (a .c) (factsOf (a .run .now) .classes))
-          (ap not (sym (c .before .is-open-at .ensures)) ∙ c .if2 .left);
-      place = class c .class-at .ensures;
-    }
+    place-begins (a .c) (factsOf (a .run .now)) _ (class c .open-at .ensures) (c .if2 .left)
 
 found :
     (c : tie.After-look-up-expiration)
@@ -94,26 +92,26 @@ returns c =
     let a = s .args in
     made-beyond (on (a .c) (callA (a .m))) (a .run .now) (a .second .now) (s .pre) (joined (c .before) ∙ c .if1 .taken)
 
-class-at-requires : tie.Need-class-at-requires
-class-at-requires c κs =
-    let s = start (c .before) in
+open-at-requires : tie.Need-open-at-requires
+open-at-requires c κs =
+    let l = c .before in
+    let s = start (l .before) in
     let a = s .args in
-    let numbers = passed (isClassNumber (a .c) && isMonth (a .m)) (limits c) in
+    let numbers = passed (isClassNumber (a .c) && isMonth (a .m)) (limits l) in
     (s .pre, search ands)
 
-is-open-at-requires : tie.Need-is-open-at-requires
-is-open-at-requires c κs =
-    let l = c .before in
-    (start (l .before) .pre, c .class-at .ensures)
+same-length : tie.Need-same-length
+same-length c = search needs
 
 returns-2 : tie.Need-returns-2
 unfolding effectOn
 returns-2 c =
-    let l = c .before .before .before in
+    let asked = c .before .before .before in
+    let l = asked .before .before in
     let s = start (l .before) in
     let a = s .args in
     made-not-open (a .c) (callA (a .m)) (a .run .now) (a .second .now) (s .pre) _ refl (limits l)
-    (ap not (sym (c .before .is-open-at .ensures)) ∙ c .if2 .taken)
+    (place-none (a .c) (factsOf (a .run .now)) _ (asked .open-at .ensures) (c .if2 .taken))
 
 figures-at-requires : tie.Need-figures-at-requires
 figures-at-requires c κs =
@@ -129,6 +127,9 @@ is-outside-requires c κs =
     let s = called (c .before .before) in
     omega (arith, book-month (s .args .run .now) (s .pre), c .current .ensures)
 
+same-length-2 : tie.Need-same-length-2
+same-length-2 c = search needs
+
 returns-3 : tie.Need-returns-3
 returns-3 c =
     let g = c .before .before .before in
@@ -138,6 +139,9 @@ returns-3 c =
     permitting-outside (a .run .now) (a .second .now) (s .pre) (a .c) (a .m) (limits (within o)) (begins o .is-open) _
     (begins o .place) _ (g .figures-at .ensures) _ (c .before .before .current .ensures)
     (sym (c .before .is-outside .ensures) ∙ c .if3 .taken)
+
+same-length-3 : tie.Need-same-length-3
+same-length-3 c = search needs
 
 returns-4 : tie.Need-returns-4
 returns-4 c =
@@ -183,8 +187,11 @@ list-permitted-requires c κs =
     (begins o .place) _ (g .figures-at .ensures) _ (t .before .before .current .ensures)
     (sym (t .before .is-outside .ensures) ∙ t .if3 .left) _ (found x)
 
-same-length : tie.Need-same-length
-same-length c = search needs
+same-length-4 : tie.Need-same-length-4
+same-length-4 c = search needs
+
+same-length-5 : tie.Need-same-length-5
+same-length-5 c = search needs
 
 returns-5 : tie.Need-returns-5
 returns-5 c =
@@ -207,13 +214,15 @@ list-permitted-spec =
     is-class-number-requires
     is-month-requires
     returns
-    class-at-requires
-    is-open-at-requires
+    open-at-requires
+    same-length
     returns-2
     figures-at-requires
     current-requires
     is-outside-requires
+    same-length-2
     returns-3
+    same-length-3
     returns-4
     look-up-expiration-requires
     mul-list-permitted
@@ -221,5 +230,6 @@ list-permitted-spec =
     part-list-permitted-start
     part-list-permitted-end
     list-permitted-requires
-    same-length
+    same-length-4
+    same-length-5
     returns-5)

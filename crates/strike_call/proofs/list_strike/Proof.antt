@@ -7,13 +7,13 @@ use mathlib.Core.List.{[]}
 use mathlib.Core.Logic.{⊎-elim}
 use native.Mathlib.Omega.{arith}
 use borrow.Author.Needs.{needs}
-use Rattle.book.specs.Facts.{isOpen}
 use Rattle.book.specs.Layout.{factsOf}
 use Rattle.book.specs.Views.{viewOf}
 use Rattle.book.specs.Calls.{on, callL, isPlace, effectOn}
 use Rattle.book.specs.Places.{ClassBegins, hasExpiration}
 use Rattle.logic.proofs.Tests.{ands}
 use Rattle.book.proofs.Answered.{made-beyond, made-not-open}
+use Rattle.book.proofs.OpenPlaces.{place-none, place-begins}
 use Rattle.place.specs.declared.lookup.StrikeSearch.{StrikeSearch}
 use Rattle.place.proofs.Heads.{book-room, book-long}
 use Rattle.edit.specs.Asked.{Insertable}
@@ -26,13 +26,13 @@ use Rattle.strike_call.proofs.list_strike.Tie as tie
 -- ---- the places of the proof
 
 abbrev start : tie.Else1 → tie.Start
-start c = c .before .before .before
+start c = c .before .before .before .before
 
-abbrev class : tie.Else2 → tie.After-class-at
+abbrev class : tie.Else2 → tie.After-open-at
 class c = c .before .before .before
 
 abbrev within : tie.Else2 → tie.Else1
-within c = class c .before .before
+within c = class c .before .before .before
 
 abbrev opened : tie.After-look-up-strike → tie.Else2
 opened c = c .before .before
@@ -57,20 +57,15 @@ called c = start (within (opened (found c)))
 limits : (c : tie.Else1) → let a = start c .args in not (isPlace (a .c) (a .m) (a .h)) ≡ false
 limits c = ap not (sym (c .before .is-place .ensures)) ∙ c .if1 .left
 
-abbrev begins : (c : tie.Else2) → ClassBegins (factsOf (start (within c) .args .run .now)) (class c .class-at .result)
+abbrev begins : (c : tie.Else2) → ClassBegins (factsOf (start (within c) .args .run .now)) (class c .open-at .result)
 begins c =
     let a = start (within c) .args in
-    record {
-      number = a .c;
-      is-open = passed (isOpen (a .c) (factsOf (a .run .now) .classes))
-          (ap not (sym (c .before .is-open-at .ensures)) ∙ c .if2 .left);
-      place = class c .class-at .ensures;
-    }
+    place-begins (a .c) (factsOf (a .run .now)) _ (class c .open-at .ensures) (c .if2 .left)
 
 abbrev sought :
     (c : tie.After-look-up-strike)
     → let a = start (within (opened c)) .args in
-    Sought (a .run .now) (class (opened c) .class-at .result) (c .look-up-strike .result) (a .m) (a .h)
+    Sought (a .run .now) (class (opened c) .open-at .result) (c .look-up-strike .result) (a .m) (a .h)
 sought c =
     let s = start (within (opened c)) in
     let a = s .args in
@@ -98,36 +93,34 @@ returns : tie.Need-returns
 unfolding effectOn
 returns c =
     let k = c .before in
-    let s = k .before .before in
+    let s = k .before .before .before in
     let a = s .args in
     made-beyond (on (a .c) (callL (a .m) (a .h))) (a .run .now) [] (s .pre)
     (ap not (sym (k .is-place .ensures)) ∙ c .if1 .taken)
 
-class-at-requires : tie.Need-class-at-requires
-class-at-requires c κs =
-    let s = start (c .before) in
+open-at-requires : tie.Need-open-at-requires
+open-at-requires c κs =
+    let l = c .before .before in
+    let s = start l in
     let a = s .args in
-    let numbers = passed (isPlace (a .c) (a .m) (a .h)) (limits (c .before)) in
+    let numbers = passed (isPlace (a .c) (a .m) (a .h)) (limits l) in
     (s .pre, search ands)
-
-is-open-at-requires : tie.Need-is-open-at-requires
-is-open-at-requires c κs =
-    let asked = c .before in
-    (start (asked .before .before) .pre, asked .class-at .ensures)
 
 same-length : tie.Need-same-length
 same-length c = search needs
 
+same-length-2 : tie.Need-same-length-2
+same-length-2 c = search needs
+
 returns-2 : tie.Need-returns-2
 unfolding effectOn
 returns-2 c =
-    let k = c .before in
-    let asked = k .before .before in
-    let l = asked .before .before in
+    let asked = c .before .before .before in
+    let l = asked .before .before .before in
     let s = start l in
     let a = s .args in
     made-not-open (a .c) (callL (a .m) (a .h)) (a .run .now) [] (s .pre) _ refl (limits l)
-    (ap not (sym (k .is-open-at .ensures)) ∙ c .if2 .taken)
+    (place-none (a .c) (factsOf (a .run .now)) _ (asked .open-at .ensures) (c .if2 .taken))
 
 look-up-strike-requires : tie.Need-look-up-strike-requires
 look-up-strike-requires c κs =
@@ -143,8 +136,11 @@ judge-found-requires c κs = sought (c .before)
 enum-known-answer : tie.Need-enum-known-answer
 enum-known-answer c = search needs
 
-same-length-2 : tie.Need-same-length-2
-same-length-2 c = search needs
+same-length-3 : tie.Need-same-length-3
+same-length-3 c = search needs
+
+same-length-4 : tie.Need-same-length-4
+same-length-4 c = search needs
 
 returns-3 : tie.Need-returns-3
 returns-3 c =
@@ -221,8 +217,11 @@ add-if4 c =
     let w = s .args .run .now in
     omega (arith, book-room w (s .pre), book-long w (s .pre), c .before .used .ensures)
 
-same-length-3 : tie.Need-same-length-3
-same-length-3 c = search needs
+same-length-5 : tie.Need-same-length-5
+same-length-5 c = search needs
+
+same-length-6 : tie.Need-same-length-6
+same-length-6 c = search needs
 
 returns-4 : tie.Need-returns-4
 returns-4 c =
@@ -237,8 +236,11 @@ returns-4 c =
 insert-strike-requires : tie.Need-insert-strike-requires
 insert-strike-requires c κs = insertable (c .before)
 
-same-length-4 : tie.Need-same-length-4
-same-length-4 c = search needs
+same-length-7 : tie.Need-same-length-7
+same-length-7 c = search needs
+
+same-length-8 : tie.Need-same-length-8
+same-length-8 c = search needs
 
 returns-5 : tie.Need-returns-5
 returns-5 c =
@@ -259,19 +261,22 @@ list-strike-spec =
     (tie.spec
     is-place-requires
     returns
-    class-at-requires
-    is-open-at-requires
+    open-at-requires
     same-length
+    same-length-2
     returns-2
     look-up-strike-requires
     judge-found-requires
     enum-known-answer
-    same-length-2
+    same-length-3
+    same-length-4
     returns-3
     used-requires
     add-if4
-    same-length-3
+    same-length-5
+    same-length-6
     returns-4
     insert-strike-requires
-    same-length-4
+    same-length-7
+    same-length-8
     returns-5)

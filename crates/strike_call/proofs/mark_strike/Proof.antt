@@ -1,16 +1,16 @@
 -- `mark_strike` is the call `I`: the limits, the class and the lookup refuse as the model does, and the marks are
 -- stored where the strike stands. Assumes nothing.
 use mathlib.Core.Path.{_≡_, refl, sym, ap, ap₂, _∙_}
-use mathlib.Core.Bool.{false, not, _&&_}
+use mathlib.Core.Bool.{Bool, false, not, _&&_}
 use mathlib.Core.List.{[]}
 use borrow.Author.Needs.{needs}
 use Rattle.word.specs.Limits.{isMark}
-use Rattle.book.specs.Facts.{isOpen}
 use Rattle.book.specs.Layout.{factsOf}
 use Rattle.book.specs.Calls.{on, callI, isPlace, effectOn}
 use Rattle.book.specs.Places.{ClassBegins, StrikeStands}
 use Rattle.logic.proofs.Tests.{ands}
 use Rattle.book.proofs.Answered.{made-beyond, made-not-open}
+use Rattle.book.proofs.OpenPlaces.{place-none, place-begins}
 use Rattle.place.specs.Lookups.{strikeSearchOf}
 use Rattle.strike_call.proofs.Standing.{passed, found-place, strike-standing, mark-not-standing, mark-done}
 use Rattle.strike_call.proofs.mark_strike.Statement.{statement}
@@ -18,14 +18,17 @@ use Rattle.strike_call.proofs.mark_strike.Tie as tie
 
 -- ---- the places of the proof
 
-abbrev start : tie.After-is-mark2 → tie.Start
-start c = c .before .before .before .before
+abbrev entry : tie.After-is-place → tie.Start
+entry c = c .before .before .before
 
-abbrev class : tie.Else2 → tie.After-class-at
+abbrev start : tie.After-is-mark2 → tie.Start
+start c = entry (c .before .before)
+
+abbrev class : tie.Else2 → tie.After-open-at
 class c = c .before .before .before
 
 abbrev within : tie.Else2 → tie.Else1
-within c = class c .before .before
+within c = class c .before .before .before
 
 abbrev opened : tie.After-look-up-strike → tie.Else2
 opened c = c .before .before
@@ -38,32 +41,27 @@ found c = c .before .before
 
 -- ---- what is known there
 
+abbrev given : tie.Start → Bool
+given s =
+    let a = s .args in
+    isPlace (a .c) (a .m) (a .h) && (isMark (a .marks .put) && isMark (a .marks .call))
+
 -- the limits, as the code joins them
 joined :
     (c : tie.After-is-mark2)
-    → let a = start c .args in
-    let marks = c .before .is-mark .result && c .is-mark2 .result in
-    not (isPlace (a .c) (a .m) (a .h) && (isMark (a .a) && isMark (a .b)))
-    ≡ not (c .before .before .is-place .result && marks)
+    → let marks = c .before .is-mark .result && c .is-mark2 .result in
+    not (given (start c)) ≡ not (c .before .before .is-place .result && marks)
 joined c =
     let marks = ap₂ _&&_ (c .before .is-mark .ensures) (c .is-mark2 .ensures) in
     sym (ap not (ap₂ _&&_ (c .before .before .is-place .ensures) marks))
 
-limits :
-    (c : tie.Else1)
-    → let a = start (c .before) .args in
-    not (isPlace (a .c) (a .m) (a .h) && (isMark (a .a) && isMark (a .b))) ≡ false
+limits : (c : tie.Else1) → not (given (start (c .before))) ≡ false
 limits c = joined (c .before) ∙ c .if1 .left
 
-abbrev begins : (c : tie.Else2) → ClassBegins (factsOf (called c .args .run .now)) (class c .class-at .result)
+abbrev begins : (c : tie.Else2) → ClassBegins (factsOf (called c .args .run .now)) (class c .open-at .result)
 begins c =
     let a = called c .args in
-    record {
-      number = a .c;
-      is-open = passed (isOpen (a .c) (factsOf (a .run .now) .classes))
-          (ap not (sym (c .before .is-open-at .ensures)) ∙ c .if2 .left);
-      place = class c .class-at .ensures;
-    }
+    place-begins (a .c) (factsOf (a .run .now)) _ (class c .open-at .ensures) (c .if2 .left)
 
 searched :
     (c : tie.After-look-up-strike)
@@ -106,46 +104,44 @@ unfolding effectOn
 returns c =
     let s = start (c .before) in
     let a = s .args in
-    made-beyond (on (a .c) (callI (a .m) (a .h) (a .a) (a .b))) (a .run .now) [] (s .pre)
+    made-beyond (on (a .c) (callI (a .m) (a .h) (a .marks .put) (a .marks .call))) (a .run .now) [] (s .pre)
     (joined (c .before) ∙ c .if1 .taken)
 
-class-at-requires : tie.Need-class-at-requires
-class-at-requires c κs =
-    let l = c .before in
+open-at-requires : tie.Need-open-at-requires
+open-at-requires c κs =
+    let l = c .before .before in
     let s = start (l .before) in
-    let a = s .args in
-    let numbers = passed (isPlace (a .c) (a .m) (a .h) && (isMark (a .a) && isMark (a .b))) (limits l) in
+    let numbers = passed (given s) (limits l) in
     (s .pre, search ands)
-
-is-open-at-requires : tie.Need-is-open-at-requires
-is-open-at-requires c κs =
-    let asked = c .before in
-    let l = asked .before .before in
-    (start (l .before) .pre, asked .class-at .ensures)
 
 same-length : tie.Need-same-length
 same-length c = search needs
+
+same-length-2 : tie.Need-same-length-2
+same-length-2 c = search needs
 
 returns-2 : tie.Need-returns-2
 unfolding effectOn
 returns-2 c =
     let asked = c .before .before .before in
-    let l = asked .before .before in
+    let l = asked .before .before .before in
     let s = start (l .before) in
     let a = s .args in
-    made-not-open (a .c) (callI (a .m) (a .h) (a .a) (a .b)) (a .run .now) [] (s .pre) _ refl (limits l)
-    (ap not (sym (c .before .is-open-at .ensures)) ∙ c .if2 .taken)
+    made-not-open (a .c) (callI (a .m) (a .h) (a .marks .put) (a .marks .call)) (a .run .now) [] (s .pre) _ refl
+    (limits l) (place-none (a .c) (factsOf (a .run .now)) _ (asked .open-at .ensures) (c .if2 .taken))
 
 look-up-strike-requires : tie.Need-look-up-strike-requires
 look-up-strike-requires c κs =
     let o = c .before in
     let s = called o in
-    let a = s .args in
-    let numbers = passed (isPlace (a .c) (a .m) (a .h) && (isMark (a .a) && isMark (a .b))) (limits (within o)) in
+    let numbers = passed (given s) (limits (within o)) in
     (record { book = s .pre; month = search ands; begins = begins o }, search ands)
 
-same-length-2 : tie.Need-same-length-2
-same-length-2 c = search needs
+same-length-3 : tie.Need-same-length-3
+same-length-3 c = search needs
+
+same-length-4 : tie.Need-same-length-4
+same-length-4 c = search needs
 
 returns-3 : tie.Need-returns-3
 returns-3 c =
@@ -153,18 +149,21 @@ returns-3 c =
     let s = called (opened l) in
     let a = s .args in
     mark-not-standing (a .run .now) (s .pre) (a .c) (a .m) (a .h) (begins (opened l) .is-open) _ (searched l)
-    (a .a) (a .b) (limits (within (opened l))) (c .if3 .taken)
+    (a .marks .put) (a .marks .call) (limits (within (opened l))) (c .if3 .taken)
 
 store-marks-requires : tie.Need-store-marks-requires
 store-marks-requires c κs =
     let t = c .before in
     let o = opened (found t) in
-    let a = called o .args in
-    let numbers = passed (isPlace (a .c) (a .m) (a .h) && (isMark (a .a) && isMark (a .b))) (limits (within o)) in
-    record { book = called o .pre; put = search ands; call = search ands; strike = stands t }
+    let s = called o in
+    let numbers = passed (given s) (limits (within o)) in
+    record { book = s .pre; put = search ands; call = search ands; strike = stands t }
 
-same-length-3 : tie.Need-same-length-3
-same-length-3 c = search needs
+same-length-5 : tie.Need-same-length-5
+same-length-5 c = search needs
+
+same-length-6 : tie.Need-same-length-6
+same-length-6 c = search needs
 
 returns-4 : tie.Need-returns-4
 returns-4 c =
@@ -174,7 +173,7 @@ returns-4 c =
     let s = called (opened l) in
     let a = s .args in
     mark-done (a .run .now) (s .pre) (a .c) (a .m) (a .h) (begins (opened l) .is-open) _ (searched l)
-    (a .a) (a .b) (limits (within (opened l))) (t .if3 .left) _ (i .store-marks .ensures (stands t))
+    (a .marks .put) (a .marks .call) (limits (within (opened l))) (t .if3 .left) _ (i .store-marks .ensures (stands t))
 
 pub mark-strike-spec : {M : Type 1} → statement M
 mark-strike-spec =
@@ -184,13 +183,15 @@ mark-strike-spec =
     is-mark-requires
     is-mark-requires-2
     returns
-    class-at-requires
-    is-open-at-requires
+    open-at-requires
     same-length
+    same-length-2
     returns-2
     look-up-strike-requires
-    same-length-2
+    same-length-3
+    same-length-4
     returns-3
     store-marks-requires
-    same-length-3
+    same-length-5
+    same-length-6
     returns-4)
