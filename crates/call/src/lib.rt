@@ -1,11 +1,12 @@
 // The calls over any lent words. Each tests the run once and then makes the call as `class_call` or `strike_call` does
-// on a book; where its class stands is not known.
+// on a book; a single call remembers no places.
 ghost use mathlib.Core.List.{[]};
 ghost use Rattle.book.specs.Calls.{callM, on, callO, callC, callV, callD, callL, callJ, callX, callI, callR, callA};
 ghost use Rattle.book.specs.Made.{Made};
 use scan::is_book;
 use word::answer::Answer;
 use word::answer::Refusal;
+use word::strike::Marks;
 
 // `M`: sets the current month, and removes the strikes of earlier months.
 pub fn set_month(run: &mut [u32], m: u32) -> Answer
@@ -24,7 +25,7 @@ pub fn open_class(run: &mut [u32], c: u32) -> Answer
     if !is_book(run) {
         return Answer::Refused(Refusal::NotABook);
     }
-    class_call::open_class(run, 0, c)
+    class_call::open_class(run, &mut [], c)
 }
 
 // `C`: sets the close of a class.
@@ -34,7 +35,7 @@ pub fn set_close(run: &mut [u32], c: u32, p: u32) -> Answer
     if !is_book(run) {
         return Answer::Refused(Refusal::NotABook);
     }
-    class_call::set_close(run, 0, c, p)
+    class_call::set_close(run, &mut [], c, p)
 }
 
 // `V`: sets the volume of a class.
@@ -44,7 +45,7 @@ pub fn set_volume(run: &mut [u32], c: u32, n: u32) -> Answer
     if !is_book(run) {
         return Answer::Refused(Refusal::NotABook);
     }
-    class_call::set_volume(run, 0, c, n)
+    class_call::set_volume(run, &mut [], c, n)
 }
 
 // `D`: gives the program p the designation d.
@@ -54,7 +55,7 @@ pub fn designate(run: &mut [u32], c: u32, p: u32, d: u32) -> Answer
     if !is_book(run) {
         return Answer::Refused(Refusal::NotABook);
     }
-    class_call::designate(run, 0, c, p, d)
+    class_call::designate(run, &mut [], c, p, d)
 }
 
 // `L`: adds the strike h of the month m.
@@ -64,7 +65,7 @@ pub fn list_strike(run: &mut [u32], c: u32, m: u32, h: u32) -> Answer
     if !is_book(run) {
         return Answer::Refused(Refusal::NotABook);
     }
-    strike_call::list_strike(run, 0, c, m, h)
+    strike_call::list_strike(run, &mut [], c, m, h)
 }
 
 // `J`: judges the strike h of the month m, adding nothing.
@@ -74,7 +75,7 @@ pub fn judge_strike(run: &[u32], c: u32, m: u32, h: u32) -> Answer
     if !is_book(run) {
         return Answer::Refused(Refusal::NotABook);
     }
-    strike_call::judge_strike(run, 0, c, m, h)
+    strike_call::judge_strike(run, &mut [], c, m, h)
 }
 
 // `X`: delists the strike h of the month m.
@@ -84,7 +85,7 @@ pub fn delist_strike(run: &mut [u32], c: u32, m: u32, h: u32) -> Answer
     if !is_book(run) {
         return Answer::Refused(Refusal::NotABook);
     }
-    strike_call::delist_strike(run, 0, c, m, h)
+    strike_call::delist_strike(run, &mut [], c, m, h)
 }
 
 // `I`: sets the put mark a and the call mark b of the strike h of the month m.
@@ -94,7 +95,7 @@ pub fn mark_strike(run: &mut [u32], c: u32, m: u32, h: u32, a: u32, b: u32) -> A
     if !is_book(run) {
         return Answer::Refused(Refusal::NotABook);
     }
-    strike_call::mark_strike(run, 0, c, m, h, a, b)
+    strike_call::mark_strike(run, &mut [], c, m, h, Marks { put: a, call: b })
 }
 
 // `R`: reviews a class, and answers how many strikes it removed.
@@ -104,7 +105,7 @@ pub fn review_class(run: &mut [u32], c: u32) -> Answer
     if !is_book(run) {
         return Answer::Refused(Refusal::NotABook);
     }
-    class_call::review_class(run, 0, c)
+    class_call::review_class(run, &mut [], c)
 }
 
 // `A`: writes the strikes of the month m that `J` would accept to the second run, and answers how many there are.
@@ -115,5 +116,5 @@ pub fn list_permitted(run: &[u32], second: &mut [u32], c: u32, m: u32) -> Answer
     if !is_book(run) {
         return Answer::Refused(Refusal::NotABook);
     }
-    strike_call::list_permitted(run, second, 0, c, m)
+    strike_call::list_permitted(run, second, &mut [], c, m)
 }

@@ -19,8 +19,13 @@ returns c =
     made-no-book (on (s .args .c) (callX (s .args .m) (s .args .h))) (s .args .run .now) []
     (no-book (c .before .is-book .ensures) (c .if1 .taken))
 
+slice-aggregate-delist-strike : tie.Need-slice-aggregate-delist-strike
+slice-aggregate-delist-strike c = search needs
+
 delist-strike-requires : tie.Need-delist-strike-requires
-delist-strike-requires c κs = is-a-book (c .before .before .is-book .ensures) (c .before .if1 .left)
+delist-strike-requires c κs =
+    let book = c .before .before in
+    is-a-book (book .before .is-book .ensures) (book .if1 .left)
 
 same-length-2 : tie.Need-same-length-2
 same-length-2 c = search needs
@@ -29,4 +34,13 @@ returns-2 : tie.Need-returns-2
 returns-2 c = search needs
 
 pub delist-strike-spec : {M : Type 1} → statement M
-delist-strike-spec = tie.close (tie.spec is-book-requires same-length returns delist-strike-requires same-length-2 returns-2)
+delist-strike-spec =
+    tie.close
+    (tie.spec
+    is-book-requires
+    same-length
+    returns
+    slice-aggregate-delist-strike
+    delist-strike-requires
+    same-length-2
+    returns-2)

@@ -19,8 +19,13 @@ returns c =
     made-no-book (on (s .args .c) (callD (s .args .p) (s .args .d))) (s .args .run .now) []
     (no-book (c .before .is-book .ensures) (c .if1 .taken))
 
+slice-aggregate-designate : tie.Need-slice-aggregate-designate
+slice-aggregate-designate c = search needs
+
 designate-requires : tie.Need-designate-requires
-designate-requires c κs = is-a-book (c .before .before .is-book .ensures) (c .before .if1 .left)
+designate-requires c κs =
+    let book = c .before .before in
+    is-a-book (book .before .is-book .ensures) (book .if1 .left)
 
 same-length-2 : tie.Need-same-length-2
 same-length-2 c = search needs
@@ -29,4 +34,13 @@ returns-2 : tie.Need-returns-2
 returns-2 c = search needs
 
 pub designate-spec : {M : Type 1} → statement M
-designate-spec = tie.close (tie.spec is-book-requires same-length returns designate-requires same-length-2 returns-2)
+designate-spec =
+    tie.close
+    (tie.spec
+    is-book-requires
+    same-length
+    returns
+    slice-aggregate-designate
+    designate-requires
+    same-length-2
+    returns-2)

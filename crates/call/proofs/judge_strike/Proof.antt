@@ -16,11 +16,23 @@ returns c =
     made-no-book (on (s .args .c) (callJ (s .args .m) (s .args .h))) (s .args .run .now) []
     (no-book (c .before .is-book .ensures) (c .if1 .taken))
 
+slice-aggregate-judge-strike : tie.Need-slice-aggregate-judge-strike
+slice-aggregate-judge-strike c = search needs
+
 judge-strike-requires : tie.Need-judge-strike-requires
-judge-strike-requires c κs = is-a-book (c .before .is-book .ensures) (c .if1 .left)
+judge-strike-requires c κs =
+    let book = c .before in
+    is-a-book (book .before .is-book .ensures) (book .if1 .left)
 
 returns-2 : tie.Need-returns-2
 returns-2 c = search needs
 
 pub judge-strike-spec : {M : Type 1} → statement M
-judge-strike-spec = tie.close (tie.spec is-book-requires returns judge-strike-requires returns-2)
+judge-strike-spec =
+    tie.close
+    (tie.spec
+    is-book-requires
+    returns
+    slice-aggregate-judge-strike
+    judge-strike-requires
+    returns-2)

@@ -15,8 +15,13 @@ returns c =
     made-no-book (on (a .c) (callA (a .m))) (a .run .now) (a .second .now)
     (no-book (c .before .is-book .ensures) (c .if1 .taken))
 
+slice-aggregate-list-permitted : tie.Need-slice-aggregate-list-permitted
+slice-aggregate-list-permitted c = search needs
+
 list-permitted-requires : tie.Need-list-permitted-requires
-list-permitted-requires c κs = is-a-book (c .before .before .is-book .ensures) (c .before .if1 .left)
+list-permitted-requires c κs =
+    let book = c .before .before in
+    is-a-book (book .before .is-book .ensures) (book .if1 .left)
 
 same-length : tie.Need-same-length
 same-length c = search needs
@@ -25,4 +30,12 @@ returns-2 : tie.Need-returns-2
 returns-2 c = search needs
 
 pub list-permitted-spec : {M : Type 1} → statement M
-list-permitted-spec = tie.close (tie.spec is-book-requires returns list-permitted-requires same-length returns-2)
+list-permitted-spec =
+    tie.close
+    (tie.spec
+    is-book-requires
+    returns
+    slice-aggregate-list-permitted
+    list-permitted-requires
+    same-length
+    returns-2)

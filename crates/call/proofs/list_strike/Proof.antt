@@ -19,8 +19,13 @@ returns c =
     made-no-book (on (s .args .c) (callL (s .args .m) (s .args .h))) (s .args .run .now) []
     (no-book (c .before .is-book .ensures) (c .if1 .taken))
 
+slice-aggregate-list-strike : tie.Need-slice-aggregate-list-strike
+slice-aggregate-list-strike c = search needs
+
 list-strike-requires : tie.Need-list-strike-requires
-list-strike-requires c κs = is-a-book (c .before .before .is-book .ensures) (c .before .if1 .left)
+list-strike-requires c κs =
+    let book = c .before .before in
+    is-a-book (book .before .is-book .ensures) (book .if1 .left)
 
 same-length-2 : tie.Need-same-length-2
 same-length-2 c = search needs
@@ -29,4 +34,13 @@ returns-2 : tie.Need-returns-2
 returns-2 c = search needs
 
 pub list-strike-spec : {M : Type 1} → statement M
-list-strike-spec = tie.close (tie.spec is-book-requires same-length returns list-strike-requires same-length-2 returns-2)
+list-strike-spec =
+    tie.close
+    (tie.spec
+    is-book-requires
+    same-length
+    returns
+    slice-aggregate-list-strike
+    list-strike-requires
+    same-length-2
+    returns-2)

@@ -19,8 +19,13 @@ returns c =
     made-no-book (on (s .args .c) (callI (s .args .m) (s .args .h) (s .args .a) (s .args .b))) (s .args .run .now) []
     (no-book (c .before .is-book .ensures) (c .if1 .taken))
 
+slice-aggregate-mark-strike : tie.Need-slice-aggregate-mark-strike
+slice-aggregate-mark-strike c = search needs
+
 mark-strike-requires : tie.Need-mark-strike-requires
-mark-strike-requires c κs = is-a-book (c .before .before .is-book .ensures) (c .before .if1 .left)
+mark-strike-requires c κs =
+    let book = c .before .before in
+    is-a-book (book .before .is-book .ensures) (book .if1 .left)
 
 same-length-2 : tie.Need-same-length-2
 same-length-2 c = search needs
@@ -29,4 +34,13 @@ returns-2 : tie.Need-returns-2
 returns-2 c = search needs
 
 pub mark-strike-spec : {M : Type 1} → statement M
-mark-strike-spec = tie.close (tie.spec is-book-requires same-length returns mark-strike-requires same-length-2 returns-2)
+mark-strike-spec =
+    tie.close
+    (tie.spec
+    is-book-requires
+    same-length
+    returns
+    slice-aggregate-mark-strike
+    mark-strike-requires
+    same-length-2
+    returns-2)

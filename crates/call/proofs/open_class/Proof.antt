@@ -19,8 +19,13 @@ returns c =
     made-no-book (on (s .args .c) callO) (s .args .run .now) []
     (no-book (c .before .is-book .ensures) (c .if1 .taken))
 
+slice-aggregate-open-class : tie.Need-slice-aggregate-open-class
+slice-aggregate-open-class c = search needs
+
 open-class-requires : tie.Need-open-class-requires
-open-class-requires c κs = is-a-book (c .before .before .is-book .ensures) (c .before .if1 .left)
+open-class-requires c κs =
+    let book = c .before .before in
+    is-a-book (book .before .is-book .ensures) (book .if1 .left)
 
 same-length-2 : tie.Need-same-length-2
 same-length-2 c = search needs
@@ -29,4 +34,13 @@ returns-2 : tie.Need-returns-2
 returns-2 c = search needs
 
 pub open-class-spec : {M : Type 1} → statement M
-open-class-spec = tie.close (tie.spec is-book-requires same-length returns open-class-requires same-length-2 returns-2)
+open-class-spec =
+    tie.close
+    (tie.spec
+    is-book-requires
+    same-length
+    returns
+    slice-aggregate-open-class
+    open-class-requires
+    same-length-2
+    returns-2)

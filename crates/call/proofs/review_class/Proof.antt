@@ -19,8 +19,13 @@ returns c =
     made-no-book (on (s .args .c) callR) (s .args .run .now) []
     (no-book (c .before .is-book .ensures) (c .if1 .taken))
 
+slice-aggregate-review-class : tie.Need-slice-aggregate-review-class
+slice-aggregate-review-class c = search needs
+
 review-class-requires : tie.Need-review-class-requires
-review-class-requires c κs = is-a-book (c .before .before .is-book .ensures) (c .before .if1 .left)
+review-class-requires c κs =
+    let book = c .before .before in
+    is-a-book (book .before .is-book .ensures) (book .if1 .left)
 
 same-length-2 : tie.Need-same-length-2
 same-length-2 c = search needs
@@ -29,4 +34,13 @@ returns-2 : tie.Need-returns-2
 returns-2 c = search needs
 
 pub review-class-spec : {M : Type 1} → statement M
-review-class-spec = tie.close (tie.spec is-book-requires same-length returns review-class-requires same-length-2 returns-2)
+review-class-spec =
+    tie.close
+    (tie.spec
+    is-book-requires
+    same-length
+    returns
+    slice-aggregate-review-class
+    review-class-requires
+    same-length-2
+    returns-2)

@@ -19,8 +19,13 @@ returns c =
     made-no-book (on (s .args .c) (callC (s .args .p))) (s .args .run .now) []
     (no-book (c .before .is-book .ensures) (c .if1 .taken))
 
+slice-aggregate-set-close : tie.Need-slice-aggregate-set-close
+slice-aggregate-set-close c = search needs
+
 set-close-requires : tie.Need-set-close-requires
-set-close-requires c κs = is-a-book (c .before .before .is-book .ensures) (c .before .if1 .left)
+set-close-requires c κs =
+    let book = c .before .before in
+    is-a-book (book .before .is-book .ensures) (book .if1 .left)
 
 same-length-2 : tie.Need-same-length-2
 same-length-2 c = search needs
@@ -29,4 +34,13 @@ returns-2 : tie.Need-returns-2
 returns-2 c = search needs
 
 pub set-close-spec : {M : Type 1} → statement M
-set-close-spec = tie.close (tie.spec is-book-requires same-length returns set-close-requires same-length-2 returns-2)
+set-close-spec =
+    tie.close
+    (tie.spec
+    is-book-requires
+    same-length
+    returns
+    slice-aggregate-set-close
+    set-close-requires
+    same-length-2
+    returns-2)

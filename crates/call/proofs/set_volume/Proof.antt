@@ -19,8 +19,13 @@ returns c =
     made-no-book (on (s .args .c) (callV (s .args .n))) (s .args .run .now) []
     (no-book (c .before .is-book .ensures) (c .if1 .taken))
 
+slice-aggregate-set-volume : tie.Need-slice-aggregate-set-volume
+slice-aggregate-set-volume c = search needs
+
 set-volume-requires : tie.Need-set-volume-requires
-set-volume-requires c κs = is-a-book (c .before .before .is-book .ensures) (c .before .if1 .left)
+set-volume-requires c κs =
+    let book = c .before .before in
+    is-a-book (book .before .is-book .ensures) (book .if1 .left)
 
 same-length-2 : tie.Need-same-length-2
 same-length-2 c = search needs
@@ -29,4 +34,13 @@ returns-2 : tie.Need-returns-2
 returns-2 c = search needs
 
 pub set-volume-spec : {M : Type 1} → statement M
-set-volume-spec = tie.close (tie.spec is-book-requires same-length returns set-volume-requires same-length-2 returns-2)
+set-volume-spec =
+    tie.close
+    (tie.spec
+    is-book-requires
+    same-length
+    returns
+    slice-aggregate-set-volume
+    set-volume-requires
+    same-length-2
+    returns-2)
