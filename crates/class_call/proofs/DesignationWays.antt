@@ -18,7 +18,8 @@ use Rattle.word.specs.Class.{withDesignation}
 use Rattle.word.specs.Answers.{isAccepted}
 use Rattle.book.specs.Facts.{Facts}
 use Rattle.book.specs.Layout.{factsOf}
-use Rattle.book.specs.Books.{areFigures, isBook}
+use Rattle.word.specs.Figures.{areFigures}
+use Rattle.book.specs.Books.{isBook}
 use Rattle.book.specs.Views.{isNew}
 use Rattle.book.specs.Calls.{on, callD, Condition, firstOr, claiming, effectOn, isCapReached, capping, answerTo}
 use Rattle.book.specs.Made.{Made}

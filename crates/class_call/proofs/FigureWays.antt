@@ -12,7 +12,8 @@ use Rattle.word.specs.Limits.{isClassNumber, isPrice, isVolume}
 use Rattle.word.specs.Class.{withClose, withVolume}
 use Rattle.book.specs.Facts.{withFigures}
 use Rattle.book.specs.Layout.{layout, factsOf}
-use Rattle.book.specs.Books.{areFigures, isBook}
+use Rattle.word.specs.Figures.{areFigures}
+use Rattle.book.specs.Books.{isBook}
 use Rattle.book.specs.Views.{class}
 use Rattle.book.specs.Changes.{update, listOf}
 use Rattle.book.specs.Calls.{Call, on, callC, callV, effectOn, effect, answerTo, acceptedFacts}

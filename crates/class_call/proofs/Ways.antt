@@ -14,7 +14,8 @@ use Rattle.word.specs.declared.answer.Refusal.the-variants.{AlreadyOpen, MonthO
 use Rattle.word.specs.Limits.{isMonth, isClassNumber}
 use Rattle.book.specs.Facts.{newClass, isOpen, wordsOf, wordsTaken}
 use Rattle.book.specs.Layout.{used, layout, factsOf}
-use Rattle.book.specs.Books.{areFigures, isBook}
+use Rattle.word.specs.Figures.{areFigures, figuresAt}
+use Rattle.book.specs.Books.{isBook}
 use Rattle.book.specs.Views.{class, viewOf, isNotOpen, isReviewed}
 use Rattle.book.specs.Changes.{monthSet, classOpened, update, classReviewed, reviewedCount}
 use Rattle.book.specs.Calls.{callM, on, callO, callR, effectOn, answerTo}
@@ -29,7 +30,7 @@ use Rattle.book.proofs.Splices.{words-opened}
 use Rattle.book.proofs.ClassWords.{class-good}
 use Rattle.book.proofs.OpenPlaces.{place-open, place-begins}
 use Rattle.book.proofs.Answered.{made-refused, made-accepted}
-use Rattle.place.specs.Search.{firstAt, isFrom, figuresAt}
+use Rattle.place.specs.Search.{firstAt, isFrom}
 use Rattle.place.proofs.Heads.{book-good, book-form, book-is, book-room, book-long}
 use Rattle.place.proofs.Found.{begins-room, figures-found, class-ended}
 use Rattle.edit.specs.Asked.{Openable}
@@ -150,7 +151,7 @@ module _
   -- with what `next_class` ensures
   module _
       (to : ℕ)
-      (e : to ≡ at + 3 + firstAt (isFrom 2 14 0) (take (used (factsOf w) - (at + 3)) (drop (at + 3) w))) where
+      (e : to ≡ at + 3 + firstAt (isFrom classKind 0) (take (used (factsOf w) - (at + 3)) (drop (at + 3) w))) where
     abbrev pub class-reviewable : Reviewable w (at + 3) to (r .close)
     class-reviewable =
         let o = found-open w c at r found in

@@ -27,7 +27,7 @@ use rule::terms::is_long;
 use word::answer::Answer;
 use word::answer::Refusal;
 use word::kind::STRIKE;
-use word::kind::key;
+use word::kind::key_of;
 use word::strike::Strike;
 
 // How far a list is: the standing strikes before `from` are far below the strikes to come, and `count` strikes are
@@ -50,7 +50,7 @@ fn strike_from(standing: &[u32], at: usize, low: u32) -> usize
 {
     let mut i = at;
     while i < standing.len() {
-        if low <= key(standing[i], STRIKE) {
+        if low <= key_of(standing[i], STRIKE) {
             return i;
         }
         i += 1;
@@ -63,7 +63,7 @@ fn strike_at(standing: &[u32], at: usize) -> u32
     ensures { λ r. ⌜ r ≡ standingStrike (now (standing .entry)) at ⌝ }
 {
     if at < standing.len() {
-        return key(standing[at], STRIKE);
+        return key_of(standing[at], STRIKE);
     }
     65535
 }
@@ -74,7 +74,7 @@ fn is_absent(near: &[u32], h: u32) -> bool
 {
     let mut i: usize = 0;
     while i < near.len() {
-        if key(near[i], STRIKE) == h {
+        if key_of(near[i], STRIKE) == h {
             return false;
         }
         i += 1;

@@ -7,6 +7,8 @@ use native.Mathlib.Omega.{arith}
 use lib.ListN.{length, take, drop, getD}
 use lib.Dec.{T, eqb, ltb}
 use borrow.Author.Tests.{not-true, not-false, ltb-true, lt-ltb, le-ltb}
+use Rattle.word.specs.Limits.{lastMonth}
+use Rattle.word.specs.Kinds.{expirationKind, strikeKind}
 use Rattle.word.specs.Codec.{Expiration as ExpirationWord, packed}
 use Rattle.logic.proofs.Tests.{and-both}
 use Rattle.logic.specs.Lists.{some, only}
@@ -36,8 +38,8 @@ module _ (at end : ℕ) (test : Bool) where
 -- ---- the answers
 
 module _
-    (ws : List ℕ) (b : T (isBook ws)) (from m : ℕ) (month : m ≤ 1023) (place w : ℕ) (there : Bool)
-    (sought : place ≡ from + 3 + firstAt (isUpTo 5 10 m) (take (used (factsOf ws) - (from + 3)) (drop (from + 3) ws)))
+    (ws : List ℕ) (b : T (isBook ws)) (from m : ℕ) (month : m ≤ lastMonth) (place w : ℕ) (there : Bool)
+    (sought : place ≡ from + 3 + firstAt (isUpTo expirationKind m) (take (used (factsOf ws) - (from + 3)) (drop (from + 3) ws)))
     (word : w ≡ packed (ExpirationWord m))
     (found : there ≡ (ltb place (used (factsOf ws)) && eqb (getD ws place 0) w))
     (c : ℕ) (o : T (isOpen c (factsOf ws .classes))) (begin : from ≡ classPlace c (factsOf ws)) where
@@ -96,28 +98,28 @@ module _
     searched test k q = q ∙ ap (λ (e : ℕ). firstAt test (take (e - (place + 1)) (drop (place + 1) ws))) d
 
     pub its-strikes :
-        (k : ℕ) → k ≡ firstAt (isUpTo 5 10 0) (take (end - (place + 1)) (drop (place + 1) ws))
+        (k : ℕ) → k ≡ firstAt (isUpTo expirationKind 0) (take (end - (place + 1)) (drop (place + 1) ws))
         → record { from = place + 1; to = place + 1 + k } ≡ expirationOf c m facts
     its-strikes k q =
         let to : place + 1 + k ≡ strikesEnd c m facts =
         omega (
           arith,
           place-stands,
-          searched (isUpTo 5 10 0) k q ∙ strikes-ended ws b c o m month stands (place + 1) after,
+          searched (isUpTo expirationKind 0) k q ∙ strikes-ended ws b c o m month stands (place + 1) after,
         ) in
         λ i. record { from = place-stands i; to = to i }
 
     pub its-strike :
         (h k : ℕ) (standing : Bool) → h < 2 ^ 28
-        → k ≡ firstAt (isUpTo 6 15 h) (take (end - (place + 1)) (drop (place + 1) ws))
-        → standing ≡ (ltb (place + 1 + k) (used facts) && isHolding 6 15 h (getD ws (place + 1 + k) 0))
+        → k ≡ firstAt (isUpTo strikeKind h) (take (end - (place + 1)) (drop (place + 1) ws))
+        → standing ≡ (ltb (place + 1 + k) (used facts) && isHolding strikeKind h (getD ws (place + 1 + k) 0))
         → record { at = place + 1 + k; expiration = true; standing = standing } ≡ strikeSearchOf c m h facts
     its-strike h k standing small q s =
         let at : place + 1 + k ≡ strikePlace c m h facts =
         omega (
           arith,
           place-stands,
-          searched (isUpTo 6 15 h) k q ∙ strike-sought ws b c o m month stands h small (place + 1) after,
+          searched (isUpTo strikeKind h) k q ∙ strike-sought ws b c o m month stands h small (place + 1) after,
         ) in
         let is : standing ≡ isStanding (viewOf c facts) m h =
         s ∙ strike-found ws b c o m month stands h small (place + 1 + k) at in

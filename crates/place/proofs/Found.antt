@@ -5,47 +5,37 @@ use mathlib.Core.Bool.{Bool, true, false, cond, not, _&&_}
 use mathlib.Core.List.{List, [], _∷_, _++_, map, append-nil, append-assoc}
 use native.Mathlib.Omega.{arith}
 use lib.ListN.{length, take, drop, getD, replicate, length-append, length-drop, length-map}
-use lib.Seq.{drop-drop, length-take-le, take-add}
+use lib.Seq.{drop-at, drop-drop, length-take-le, take-add}
 use lib.Dec.{T, eqb, leb, ltb, eqb·zero-suc, leb·zero, leb→le, ltb→lt}
 use borrow.Author.Tests.{eq-eqb, ne-eqb, le-leb, lt-ltb, le-ltb}
+use Rattle.word.proofs.FigureWords.{figures-read}
+use Rattle.word.specs.Limits.{lastMonth, longestRun}
+use Rattle.word.specs.Head.{firstPlace}
+use Rattle.word.specs.Kinds.{keyOf, classKind, expirationKind, strikeKind, kindField}
 use Rattle.word.specs.declared.class.ClassRecord.{ClassRecord}
-use Rattle.word.specs.Codec.{Word, Head, Class, Close, Volume, Expiration, isLegal, packed}
-use Rattle.word.specs.Field.{field}
+use Rattle.word.specs.Codec.{Word, Head, Class, Expiration, isLegal, packed}
 use Rattle.word.proofs.Words.{legal-fits, kindIn, kind-packed, class-fields}
 use Rattle.logic.specs.Lists.{every, only}
 use Rattle.book.specs.Facts.{Series, OpenClass, Facts, number, isOpen, inMonth}
-use Rattle.book.specs.Layout.{classWord, strikeWord, expirationUnless, seriesWords, figuresWords, classesWords, used, factsOf}
-use Rattle.book.specs.Books.{areFigures, isBook}
+use Rattle.word.specs.Figures.{figuresWords, figuresAt, figuresLength}
+use Rattle.book.specs.Layout.{strikeWord, expirationUnless, seriesWords, classesWords, used, factsOf}
+use Rattle.book.specs.Books.{isBook}
 use Rattle.book.specs.Views.{viewOf, class, isStanding}
 use Rattle.book.specs.Places.{ClassBegins, classPlace, hasExpiration, expirationPlace, strikePlace}
 use Rattle.logic.proofs.Tests.{ands, T-true, true-T}
-use Rattle.book.proofs.LegalWords.{fits, figures-legal}
+use Rattle.word.proofs.RawWords.{fits}
 use Rattle.logic.proofs.Lists.{every-imply, every-map, every-true}
 use Rattle.book.proofs.Layouts.{seriesWords-append, words-legal}
 use Rattle.logic.proofs.Parts.{only-absent, every-kept, some-both, isUnder, isEqual, isOver, distinct-parts}
 use Rattle.book.proofs.Expirations.{monthOf, strikeOf, series-words, low, placed, high, strike-parts}
 use Rattle.logic.proofs.Splits.{every-split}
 use Rattle.book.proofs.ClassWords.{class-good, series-good, class-words, numbers-rise}
-use Rattle.book.proofs.Runs.{bookWords, run-part, run-word}
-use Rattle.place.specs.Search.{firstAt, isNoLower, isUpTo, isFrom, isHolding, Rises, figuresAt}
+use Rattle.book.proofs.Runs.{bookWords, run-parts, run-part, run-word}
+use Rattle.place.specs.Search.{firstAt, isNoLower, isUpTo, isFrom, isHolding, Rises}
 use Rattle.place.proofs.Heads.{book-good, book-form, book-is, book-room, book-long}
 use Rattle.place.proofs.Words.{keyIn, first-from, isKeyed, key-said, from-packed, isEnding, up-to-packed}
 use Rattle.place.proofs.Laid.{begins, first-after, kinds-packed, stops-anywhere, ends-there, from-there, two-parts, sought, found, every-series, not-from, strikes-laid, class-kinds, no-class, classes-laid}
 use Rattle.place.proofs.Rising.{ordered-rises, ordered-packed, classes-ordered}
-
--- the three words of legal figures say them
-figures-said :
-    (r : ClassRecord) → T (areFigures r) → (at : ℕ) (ws : List ℕ)
-    → getD ws at 0 ≡ packed (classWord r) → getD ws (at + 1) 0 ≡ packed (Close (r .close))
-    → getD ws (at + 2) 0 ≡ packed (Volume (r .volume)) → figuresAt at ws ≡ r
-figures-said r t at ws x y z =
-    let e : r .close ≤ 999999 = leb→le (r .close) 999999 (search ands) in
-    let g : r .volume ≤ 9999999 = leb→le (r .volume) 9999999 (search ands) in
-    let class =
-    class-fields (getD ws at 0) (r .number) (r .designations) (fits (classWord r) (figures-legal r t .0)) (sym x) in
-    let close : field (getD ws (at + 1) 0) 0 20 ≡ r .close = omega arith in
-    let volume : field (getD ws (at + 2) 0) 0 24 ≡ r .volume = omega arith in
-    λ i. record { number = class .0 i; close = close i; volume = volume i; designations = class .1 i }
 
 -- ---- the words after those of a month
 
@@ -61,11 +51,11 @@ module _
       let after : m < s .month = ltb→lt m (s .month) (search ands) in
       rw (eqb·zero-suc (s .month)) (of-month (s .month) _ after)
 
-strike-said : (h : ℕ) (w : Word) → isLegal w ≡ true → kindIn w ≡ 6 → isHolding 6 15 h (packed w) ≡ eqb (keyIn w) h
+strike-said : (h : ℕ) (w : Word) → isLegal w ≡ true → kindIn w ≡ strikeKind .number → isHolding strikeKind h (packed w) ≡ eqb (keyIn w) h
 strike-said h w legal e =
-    rw (kind-packed w (packed w) (legal-fits w legal) refl, e, key-said 6 w legal e)
+    rw (kind-packed w (packed w) (legal-fits w legal) refl, e, key-said (strikeKind .number) w legal e)
 
-no-strike : (h : ℕ) (w : Word) → isLegal w ≡ true → eqb (kindIn w) 6 ≡ false → isHolding 6 15 h (packed w) ≡ false
+no-strike : (h : ℕ) (w : Word) → isLegal w ≡ true → eqb (kindIn w) (strikeKind .number) ≡ false → isHolding strikeKind h (packed w) ≡ false
 no-strike h w legal e = rw (kind-packed w (packed w) (legal-fits w legal) refl, e)
 
 -- ---- classes
@@ -81,17 +71,18 @@ module _ (ws : List ℕ) (b : T (isBook ws)) where
   rest-part from end before rest e l d =
       subst (λ (l : List ℕ). take (end - from) (drop from l) ≡ map packed rest) (book-is ws b)
       (run-part (length ws) facts from end before rest [] (e ∙ ap (λ (r : List Word). before ++ r) (sym (append-nil rest))) l
-      (d ∙ ap length e ∙ length-append before rest))
+      (omega (arith, d, ap length e, length-append before rest)))
 
   -- a test of the word at an index, where it is one of those used
   word-there :
       (test : ℕ → Bool) (at : ℕ) (before rest : List Word) → bookWords (length ws) facts ≡ before ++ rest → at ≡ length before
       → (ltb at (used facts) && test (getD ws at 0)) ≡ begins test rest
   word-there test at before [] e l =
-      let long : used facts ≡ length before + 0 = ap length e ∙ length-append before [] in
+      let long : used facts ≡ length before + 0 = omega (arith, ap length e, length-append before []) in
       rw (le-ltb at (used facts) (omega arith))
   word-there test at before (w ∷ rest) e l =
-      let long : used facts ≡ length before + suc (length rest) = ap length e ∙ length-append before (w ∷ rest) in
+      let long : used facts ≡ length before + suc (length rest) =
+      omega (arith, ap length e, length-append before (w ∷ rest)) in
       let word : getD ws at 0 ≡ packed w =
       subst (λ (l : List ℕ). getD l at 0 ≡ packed w) (book-is ws b)
       (run-word (length ws) facts at 0 before (w ∷ rest) e (omega arith)) in
@@ -102,46 +93,47 @@ module _ (ws : List ℕ) (b : T (isBook ws)) where
       true-T (every isLegal (classesWords (facts .classes) []))
       (words-legal (facts .now) (facts .classes) (book-form ws b .limits))
 
-  pub body : (end : ℕ) → end ≡ used facts → take (end - 1) (drop 1 ws) ≡ map packed (classesWords (facts .classes) [])
-  body end e = rest-part 1 end (Head (facts .now) (used facts) ∷ []) (classesWords (facts .classes) []) refl refl e
+  pub body : (end : ℕ) → end ≡ used facts → take (end - firstPlace) (drop firstPlace ws) ≡ map packed (classesWords (facts .classes) [])
+  body end e =
+      rest-part firstPlace end (Head (facts .now) (used facts) ∷ []) (classesWords (facts .classes) []) refl refl e
 
-  pub body-short : (end : ℕ) → end ≡ used facts → length (take (end - 1) (drop 1 ws)) ≤ 65535
+  pub body-short : (end : ℕ) → end ≡ used facts → length (take (end - firstPlace) (drop firstPlace ws)) ≤ longestRun
   body-short end e =
       omega (
         arith,
-        length-take-le (end - 1) (drop 1 ws) (simp length-drop (omega (arith, book-room ws b))),
+        length-take-le (end - firstPlace) (drop firstPlace ws) (simp length-drop (omega (arith, book-room ws b))),
         book-room ws b,
         book-long ws b,
       )
 
-  pub body-kinds : (end : ℕ) → end ≡ used facts → T (every (isNoLower 2) (take (end - 1) (drop 1 ws)))
+  pub body-kinds : (end : ℕ) → end ≡ used facts → T (every (isNoLower classKind) (take (end - firstPlace) (drop firstPlace ws)))
   body-kinds end e =
-      subst (λ (l : List ℕ). T (every (isNoLower 2) l)) (sym (body end e))
-      (kinds-packed (leb 2) (classesWords (facts .classes) []) legal (class-kinds (facts .classes)))
+      subst (λ (l : List ℕ). T (every (isNoLower classKind) l)) (sym (body end e))
+      (kinds-packed (leb (classKind .number)) (classesWords (facts .classes) []) legal (class-kinds (facts .classes)))
 
   -- the next class word
   pub next-class-word :
       (from end : ℕ) → 0 < from → from ≤ end → end ≡ used facts
-      → firstAt (isUpTo 2 14 0) (take (end - from) (drop from ws))
-      ≡ firstAt (isFrom 2 14 0) (take (end - from) (drop from ws))
+      → firstAt (isUpTo classKind 0) (take (end - from) (drop from ws))
+      ≡ firstAt (isFrom classKind 0) (take (end - from) (drop from ws))
   next-class-word from end l h e =
-      first-from 2 14 0 (omega arith) (take (end - from) (drop from ws))
-      (every-split (isNoLower 2) (take (from - 1) (drop 1 ws)) (take (end - from) (drop from ws)) (rw later at (body-kinds end e)) .1)
+      first-from classKind 0 (omega arith) (take (end - from) (drop from ws))
+      (every-split (isNoLower classKind) (take (from - firstPlace) (drop firstPlace ws)) (take (end - from) (drop from ws)) (rw later at (body-kinds end e)) .1)
     where
-      later : take (end - 1) (drop 1 ws) ≡ take (from - 1) (drop 1 ws) ++ take (end - from) (drop from ws)
+      later : take (end - firstPlace) (drop firstPlace ws) ≡ take (from - firstPlace) (drop firstPlace ws) ++ take (end - from) (drop from ws)
       later =
-          let n : end - 1 ≡ (from - 1) + (end - from) = omega arith in
-          let k : 1 + (from - 1) ≡ from = omega arith in
-          ap (λ (j : ℕ). take j (drop 1 ws)) n
-          ∙ take-add (from - 1) (end - from) (drop 1 ws)
-          ∙ ap (λ (l : List ℕ). take (from - 1) (drop 1 ws) ++ take (end - from) l)
-          (drop-drop (from - 1) 1 ws ∙ ap (λ (j : ℕ). drop j ws) k)
+          let n : end - firstPlace ≡ (from - firstPlace) + (end - from) = omega arith in
+          let k : firstPlace + (from - firstPlace) ≡ from = omega arith in
+          ap (λ (j : ℕ). take j (drop firstPlace ws)) n
+          ∙ take-add (from - firstPlace) (end - from) (drop firstPlace ws)
+          ∙ ap (λ (l : List ℕ). take (from - firstPlace) (drop firstPlace ws) ++ take (end - from) l)
+          (drop-drop (from - firstPlace) firstPlace ws ∙ ap (λ (j : ℕ). drop j ws) k)
 
-  pub class-rises : (c end : ℕ) → end ≡ used facts → Rises 2 14 c (take (end - 1) (drop 1 ws))
+  pub class-rises : (c end : ℕ) → end ≡ used facts → Rises classKind c (take (end - firstPlace) (drop firstPlace ws))
   class-rises c end d =
-      subst (Rises 2 14 c) (sym (body end d))
-      (ordered-rises 2 14 c (map packed (classesWords (facts .classes) []))
-      (ordered-packed 2 (classesWords (facts .classes) []) legal
+      subst (Rises classKind c) (sym (body end d))
+      (ordered-rises classKind c (map packed (classesWords (facts .classes) []))
+      (ordered-packed (classKind .number) (classesWords (facts .classes) []) legal
       (classes-ordered (facts .classes) (numbers-rise (length ws) facts (book-good ws b)))))
 
   numbers :
@@ -151,10 +143,10 @@ module _ (ws : List ℕ) (b : T (isBook ws)) where
   numbers c = distinct-parts number c (facts .classes) (numbers-rise (length ws) facts (book-good ws b))
 
   pub class-sought :
-      (c end i : ℕ) → end ≡ used facts → i ≡ firstAt (isFrom 2 14 c) (take (end - 1) (drop 1 ws)) → 1 + i ≡ classPlace c facts
+      (c end i : ℕ) → end ≡ used facts → i ≡ firstAt (isFrom classKind c) (take (end - firstPlace) (drop firstPlace ws)) → firstPlace + i ≡ classPlace c facts
   class-sought c end i d e =
-      let q = sought number 2 (λ xs. classesWords xs []) classes-laid c (facts .classes) (numbers c) legal in
-      omega (arith, ap (firstAt (isFrom 2 14 c)) (body end d))
+      let q = sought number (classKind .number) (λ xs. classesWords xs []) classes-laid c (facts .classes) (numbers c) legal in
+      omega (arith, ap (firstAt (isFrom classKind c)) (body end d))
 
   -- the book's words, parted where a class stands or would stand
   class-parted :
@@ -164,21 +156,21 @@ module _ (ws : List ℕ) (b : T (isBook ws)) where
       ++ classesWords (only (isEqual number c) (facts .classes) ++ only (isOver number c) (facts .classes)) []
   class-parted c =
       ap (λ (l : List Word). Head (facts .now) (used facts) ∷ l)
-      (two-parts number 2 (λ xs. classesWords xs []) classes-laid c (facts .classes) (numbers c) legal)
+      (two-parts number (classKind .number) (λ xs. classesWords xs []) classes-laid c (facts .classes) (numbers c) legal)
 
   pub class-within : (c : ℕ) → classPlace c facts ≤ used facts
   class-within c = omega (arith, simp length-append at (ap length (class-parted c)))
 
   pub class-found :
       (c at : ℕ) → at ≡ classPlace c facts
-      → (ltb at (used facts) && eqb (field (getD ws at 0) 0 14) c) ≡ isOpen c (facts .classes)
+      → (ltb at (used facts) && eqb (keyOf classKind (getD ws at 0)) c) ≡ isOpen c (facts .classes)
   class-found c at e =
-      let test : ℕ → Bool = λ w. eqb (field w 0 14) c in
+      let test : ℕ → Bool = λ w. eqb (keyOf classKind w) c in
       let from = classesWords (only (isEqual number c) (facts .classes) ++ only (isOver number c) (facts .classes)) [] in
-      word-there test at (Head (facts .now) (used facts) ∷ classesWords (only (isUnder number c) (facts .classes)) []) from (class-parted c) e
+      word-there test at (Head (facts .now) (used facts) ∷ classesWords (only (isUnder number c) (facts .classes)) []) from (class-parted c) (omega (arith, e))
       ∙ ap (begins test) (sym (append-nil from))
-      ∙ found number 2 (λ xs. classesWords xs []) classes-laid c (facts .classes) (numbers c) legal test
-      (λ w legal k. ap (λ (n : ℕ). eqb n c) (key-said 2 w legal k)) [] refl
+      ∙ found number (classKind .number) (λ xs. classesWords xs []) classes-laid c (facts .classes) (numbers c) legal test
+      (λ w legal k. ap (λ (n : ℕ). eqb n c) (key-said (classKind .number) w legal k)) [] refl
 
   -- ---- an open class
 
@@ -198,55 +190,51 @@ module _ (ws : List ℕ) (b : T (isBook ws)) where
     words-are : bookWords (length ws) facts ≡ lower ++ (figures ++ (series ++ upper))
     words-are = class-words (length ws) facts c (book-good ws b) o
 
-    pub class-room : classPlace c facts + 3 + length series ≤ used facts
+    pub class-room : classPlace c facts + figuresLength + length series ≤ used facts
     class-room = omega (arith, simp length-append at (ap length words-are))
 
     pub figures-found : (at : ℕ) → at ≡ classPlace c facts → figuresAt at ws ≡ class facts c .figures
     figures-found at e =
         let g = class-good (length ws) facts c (book-good ws b) o in
-        figures-said (class facts c .figures) (search ands) at ws
-        (word at 0 (omega arith)) (word (at + 1) 1 (omega arith)) (word (at + 2) 2 (omega arith))
-      where
-        after : List ℕ
-        after = map packed (figures ++ (series ++ upper)) ++ replicate (length ws - used facts) 0
-
-        word : (i k : ℕ) → i ≡ classPlace c facts + k → getD ws i 0 ≡ getD after k 0
-        word i k d =
-            subst (λ (l : List ℕ). getD l i 0 ≡ getD after k 0) (book-is ws b)
-            (run-word (length ws) facts i k lower (figures ++ (series ++ upper)) words-are d)
+        let rest = map packed (series ++ upper) ++ replicate (length ws - used facts) 0 in
+        let there =
+        ap (drop at) (sym (book-is ws b) ∙ run-parts (length ws) facts lower figures (series ++ upper) words-are)
+        ∙ drop-at (map packed lower) (map packed figures ++ rest) at (omega (arith, length-map lower packed, e)) in
+        figures-read at ws (omega (arith, e, class-room, book-room ws b)) (class facts c .figures) rest (search ands)
+        (sym there)
 
     tail-legal : T (every isLegal (series ++ upper))
     tail-legal =
-        let e : classesWords (facts .classes) [] ≡ drop 1 lower ++ (figures ++ (series ++ upper)) = ap (drop 1) words-are in
-        let t = every-split isLegal (drop 1 lower) (figures ++ (series ++ upper)) (rw e at legal) .1 in
+        let e : classesWords (facts .classes) [] ≡ drop firstPlace lower ++ (figures ++ (series ++ upper)) = ap (drop firstPlace) words-are in
+        let t = every-split isLegal (drop firstPlace lower) (figures ++ (series ++ upper)) (rw e at legal) .1 in
         search ands
 
     around : bookWords (length ws) facts ≡ (lower ++ figures) ++ (series ++ upper)
     around = words-are ∙ simp append-assoc
 
-    before-length : length (lower ++ figures) ≡ classPlace c facts + 3
+    before-length : length (lower ++ figures) ≡ classPlace c facts + figuresLength
     before-length = simp length-append (omega arith)
 
     -- the words from its series on
     tail-part :
-        (from end : ℕ) → from ≡ classPlace c facts + 3 → end ≡ used facts
+        (from end : ℕ) → from ≡ classPlace c facts + figuresLength → end ≡ used facts
         → take (end - from) (drop from ws) ≡ map packed (series ++ upper)
     tail-part from end e d = rest-part from end (lower ++ figures) (series ++ upper) around (omega (arith, before-length)) d
 
     -- its series end at the next class word
     pub class-ended :
-        (from end : ℕ) → from ≡ classPlace c facts + 3
-        → end ≡ from + firstAt (isFrom 2 14 0) (take (used facts - from) (drop from ws)) → end ≡ from + length series
+        (from end : ℕ) → from ≡ classPlace c facts + figuresLength
+        → end ≡ from + firstAt (isFrom classKind 0) (take (used facts - from) (drop from ws)) → end ≡ from + length series
     class-ended from end e d =
         let q =
-        first-after (isFrom 2 14 0) (isKeyed 2 0) (from-packed 2 0) series upper tail-legal
-        (no-class (λ w. not (isKeyed 2 0 w)) (λ w e. rw e tt) 0 (class facts c .series) [] tt)
-        (stops-anywhere number 2 (λ xs. classesWords xs []) classes-laid (only (isOver number c) (facts .classes))) in
-        omega (arith, ap (firstAt (isFrom 2 14 0)) (tail-part from (used facts) e refl))
+        first-after (isFrom classKind 0) (isKeyed (classKind .number) 0) (from-packed (classKind .number) 0) series upper tail-legal
+        (no-class (λ w. not (isKeyed (classKind .number) 0 w)) (λ w e. rw e tt) 0 (class facts c .series) [] tt)
+        (stops-anywhere number (classKind .number) (λ xs. classesWords xs []) classes-laid (only (isOver number c) (facts .classes))) in
+        omega (arith, ap (firstAt (isFrom classKind 0)) (tail-part from (used facts) e refl))
 
     -- ---- an expiration of it
 
-    module _ (m : ℕ) (month : m ≤ 1023) where
+    module _ (m : ℕ) (month : m ≤ lastMonth) where
       abbrev listed : List Series
       listed = class facts c .series
 
@@ -288,24 +276,24 @@ module _ (ws : List ℕ) (b : T (isBook ws)) where
 
       -- the search for its word passes the earlier expirations
       pub expiration-sought :
-          (from : ℕ) → from ≡ classPlace c facts + 3
-          → from + firstAt (isUpTo 5 10 m) (take (used facts - from) (drop from ws)) ≡ expirationPlace c m facts
+          (from : ℕ) → from ≡ classPlace c facts + figuresLength
+          → from + firstAt (isUpTo expirationKind m) (take (used facts - from) (drop from ws)) ≡ expirationPlace c m facts
       expiration-sought from e =
-          omega (arith, ap (firstAt (isUpTo 5 10 m)) (tail-part from (used facts) e refl ∙ ap (map packed) tail-words), passed)
+          omega (arith, ap (firstAt (isUpTo expirationKind m)) (tail-part from (used facts) e refl ∙ ap (map packed) tail-words), passed)
         where
-          stop : (stands : Bool) → has ≡ stands → firstAt (isEnding 5 m) (from-month stands) ≡ 0
+          stop : (stands : Bool) → has ≡ stands → firstAt (isEnding (expirationKind .number) m) (from-month stands) ≡ 0
           stop true q = rw (le-leb m m (omega arith))
           stop false q =
               rw (none-in q)
-              (later (λ l. firstAt (isEnding 5 m) l ≡ 0) refl (λ n d l. refl) (λ n l k. rw (le-leb m n (omega arith))))
+              (later (λ l. firstAt (isEnding (expirationKind .number) m) l ≡ 0) refl (λ n d l. refl) (λ n l k. rw (le-leb m n (omega arith))))
 
-          passed : firstAt (isUpTo 5 10 m) (map packed (early ++ from-month has)) ≡ length early
+          passed : firstAt (isUpTo expirationKind m) (map packed (early ++ from-month has)) ≡ length early
           passed =
-              first-after (isUpTo 5 10 m) (isEnding 5 m) (up-to-packed 5 m (omega arith) (omega arith)) early (from-month has)
+              first-after (isUpTo expirationKind m) (isEnding (expirationKind .number) m) (up-to-packed (expirationKind .number) m (omega arith) (omega arith)) early (from-month has)
               (rw tail-words at tail-legal)
-              (every-series (λ w. not (isEnding 5 m w)) 0 (only (isUnder monthOf m) listed) []
+              (every-series (λ w. not (isEnding (expirationKind .number) m w)) 0 (only (isUnder monthOf m) listed) []
               (every-imply (isUnder monthOf m)
-              (λ s. not (isEnding 5 m (strikeWord s)) && not (isEnding 5 m (Expiration (s .month))))
+              (λ s. not (isEnding (expirationKind .number) m (strikeWord s)) && not (isEnding (expirationKind .number) m (Expiration (s .month))))
               (λ s u. not-from (s .month) m u) (only (isUnder monthOf m) listed)
               (every-kept (isUnder monthOf m) listed)) tt)
               (stop has refl)
@@ -358,18 +346,18 @@ module _ (ws : List ℕ) (b : T (isBook ws)) where
         -- they end at the next word that is no strike
         pub strikes-ended :
             (from : ℕ) → from ≡ expirationPlace c m facts + 1
-            → firstAt (isUpTo 5 10 0) (take (used facts - from) (drop from ws)) ≡ length here
+            → firstAt (isUpTo expirationKind 0) (take (used facts - from) (drop from ws)) ≡ length here
         strikes-ended from e =
-            ap (firstAt (isUpTo 5 10 0)) (strikes-rest from e)
-            ∙ first-after (isUpTo 5 10 0) (isEnding 5 0) (up-to-packed 5 0 (omega arith) (omega arith)) strikes late strikes-legal
-            (every-map (λ s. true) (λ w. not (isEnding 5 0 w)) strikeWord (λ s t. tt) here
+            ap (firstAt (isUpTo expirationKind 0)) (strikes-rest from e)
+            ∙ first-after (isUpTo expirationKind 0) (isEnding (expirationKind .number) 0) (up-to-packed (expirationKind .number) 0 (omega arith) (omega arith)) strikes late strikes-legal
+            (every-map (λ s. true) (λ w. not (isEnding (expirationKind .number) 0 w)) strikeWord (λ s t. tt) here
             (every-true here))
-            (later (λ l. firstAt (isEnding 5 0) l ≡ 0) refl (λ n d l. refl) (λ n l k. rw (leb·zero n)))
+            (later (λ l. firstAt (isEnding (expirationKind .number) 0) l ≡ 0) refl (λ n d l. refl) (λ n l k. rw (leb·zero n)))
             ∙ length-map here strikeWord
 
         -- ---- a strike of them
 
-        module _ (h : ℕ) (small : h < 2 ^ 28) where
+        module _ (h : ℕ) (small : h < 2 ^ kindField .low) where
           parts : here ≡ low listed m h ++ (placed listed m h ++ high listed m h)
           parts = strike-parts listed m h (facts .now) (series-good (length ws) facts c (book-good ws b) o)
 
@@ -384,37 +372,37 @@ module _ (ws : List ℕ) (b : T (isBook ws)) where
 
           two : strikes ++ late ≡ lows ++ (highs ++ late)
           two =
-              ap (λ (l : List Word). l ++ late) (two-parts strikeOf 6 (map strikeWord) strikes-laid h here parts here-legal)
+              ap (λ (l : List Word). l ++ late) (two-parts strikeOf (strikeKind .number) (map strikeWord) strikes-laid h here parts here-legal)
               ∙ append-assoc lows highs late
 
           -- the search for it passes the lower strikes of the expiration
           pub strike-sought :
               (from : ℕ) → from ≡ expirationPlace c m facts + 1
-              → firstAt (isUpTo 6 15 h) (take (used facts - from) (drop from ws)) ≡ length (low listed m h)
+              → firstAt (isUpTo strikeKind h) (take (used facts - from) (drop from ws)) ≡ length (low listed m h)
           strike-sought from e =
-              ap (firstAt (isUpTo 6 15 h)) (strikes-rest from e ∙ ap (map packed) two)
-              ∙ first-after (isUpTo 6 15 h) (isEnding 6 h) (up-to-packed 6 h small (omega arith)) lows (highs ++ late)
+              ap (firstAt (isUpTo strikeKind h)) (strikes-rest from e ∙ ap (map packed) two)
+              ∙ first-after (isUpTo strikeKind h) (isEnding (strikeKind .number) h) (up-to-packed (strikeKind .number) h small (omega arith)) lows (highs ++ late)
               (rw two at strikes-legal)
-              (every-map (isUnder strikeOf h) (λ w. not (isEnding 6 h w)) strikeWord (λ s u. not-from (s .strike) h u)
+              (every-map (isUnder strikeOf h) (λ w. not (isEnding (strikeKind .number) h w)) strikeWord (λ s u. not-from (s .strike) h u)
               (low listed m h) (every-kept (isUnder strikeOf h) here))
-              (ends-there strikeOf 6 (map strikeWord) strikes-laid h
+              (ends-there strikeOf (strikeKind .number) (map strikeWord) strikes-laid h
               (placed listed m h ++ high listed m h) late
-              (from-there strikeOf 6 (map strikeWord) strikes-laid h here parts here-legal)
-              (later (λ l. firstAt (isEnding 6 h) l ≡ 0) refl (λ n d l. refl) (λ n l k. refl)))
+              (from-there strikeOf (strikeKind .number) (map strikeWord) strikes-laid h here parts here-legal)
+              (later (λ l. firstAt (isEnding (strikeKind .number) h) l ≡ 0) refl (λ n d l. refl) (λ n l k. refl)))
               ∙ length-map (low listed m h) strikeWord
 
           -- .. and its word stands there where it stands
           pub strike-found :
               (at : ℕ) → at ≡ strikePlace c m h facts
-              → (ltb at (used facts) && isHolding 6 15 h (getD ws at 0)) ≡ isStanding (viewOf c facts) m h
+              → (ltb at (used facts) && isHolding strikeKind h (getD ws at 0)) ≡ isStanding (viewOf c facts) m h
           strike-found at e =
               let before = (lower ++ figures) ++ (early ++ (Expiration m ∷ [])) in
               let one : cond {A = ℕ} has 1 0 ≡ 1 = rw stands in
-              word-there (isHolding 6 15 h) at (before ++ lows) (highs ++ late)
+              word-there (isHolding strikeKind h) at (before ++ lows) (highs ++ late)
               (strikes-around ∙ ap (λ (l : List Word). before ++ l) two ∙ sym (append-assoc before lows (highs ++ late)))
               (e ∙ sym (simp (length-append, length-map) (omega (arith, before-length))))
-              ∙ found strikeOf 6 (map strikeWord) strikes-laid h here parts here-legal (isHolding 6 15 h) (strike-said h) late
-              (later (λ l. T (every isLegal l) → begins (isHolding 6 15 h) l ≡ false) (λ t. refl)
+              ∙ found strikeOf (strikeKind .number) (map strikeWord) strikes-laid h here parts here-legal (isHolding strikeKind h) (strike-said h) late
+              (later (λ l. T (every isLegal l) → begins (isHolding strikeKind h) l ≡ false) (λ t. refl)
               (λ n ds l t. no-strike h (Class n ds) (T-true (isLegal (Class n ds)) (search ands)) refl)
               (λ n l k t. no-strike h (Expiration n) (T-true (isLegal (Expiration n)) (search ands)) refl)
               (every-split isLegal strikes late strikes-legal .1))

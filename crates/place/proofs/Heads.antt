@@ -1,12 +1,14 @@
--- A book is the layout of its facts, and its first word says the current month and the words used: by the fields of a head word. Assumes nothing.
+-- A book is the layout of its facts, and its head says the current month and the words used: by the fields of a head
+-- word. Assumes nothing.
 use Prim.Native.Nat.{ℕ, _≤_}
 use mathlib.Core.Path.{_≡_, refl, sym}
 use mathlib.Core.List.{List, [], _∷_}
 use native.Mathlib.Omega.{arith}
 use lib.ListN.{length, getD}
 use lib.Dec.{T, leb→le}
+use Rattle.word.specs.Limits.{lastMonth, longestRun}
+use Rattle.word.specs.Head.{firstPlace, monthIn, usedIn}
 use Rattle.word.specs.Codec.{Head, packed}
-use Rattle.word.specs.Field.{field}
 use Rattle.word.proofs.Words.{head-fields}
 use Rattle.book.specs.Layout.{used, layout, factsOf, classesWords}
 use Rattle.book.specs.Books.{isWellFormed, isBook}
@@ -28,10 +30,10 @@ module _ (ws : List ℕ) (b : T (isBook ws)) where
   pub book-room : used (factsOf ws) ≤ length ws
   book-room = used-within (length ws) (factsOf ws) book-good
 
-  pub book-long : (1 ≤ length ws) × (length ws ≤ 65535)
+  pub book-long : (firstPlace ≤ length ws) × (length ws ≤ longestRun)
   book-long =
       let w = book-form .run in
-      (leb→le 1 (length ws) (search ands), leb→le (length ws) 65535 (search ands))
+      (leb→le firstPlace (length ws) (search ands), leb→le (length ws) longestRun (search ands))
 
   head-is : getD ws 0 0 ≡ packed (Head (factsOf ws .now) (used (factsOf ws)))
   head-is =
@@ -39,9 +41,10 @@ module _ (ws : List ℕ) (b : T (isBook ws)) where
       let e = run-word (length ws) f 0 0 [] (Head (f .now) (used f) ∷ classesWords (f .classes) []) refl refl in
       rw book-is at e
 
-  pub book-month : factsOf ws .now ≤ 1023
-  book-month = leb→le (factsOf ws .now) 1023 (book-form .month)
+  pub book-month : factsOf ws .now ≤ lastMonth
+  book-month = leb→le (factsOf ws .now) lastMonth (book-form .month)
 
-  pub head-says : (field (getD ws 0 0) 0 10 ≡ factsOf ws .now) × (field (getD ws 0 0) 10 16 ≡ used (factsOf ws))
+  pub head-says : (monthIn ws ≡ factsOf ws .now) × (usedIn ws ≡ used (factsOf ws))
   head-says =
-      head-fields (getD ws 0 0) (factsOf ws .now) (used (factsOf ws)) (omega (arith, book-month, book-room, book-long)) (sym head-is)
+      head-fields (getD ws 0 0) (factsOf ws .now) (used (factsOf ws))
+      (omega (arith, book-month, book-room, book-long)) (sym head-is)

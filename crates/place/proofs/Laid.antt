@@ -7,7 +7,8 @@ use native.Mathlib.Omega.{arith}
 use lib.ListN.{length}
 use lib.Dec.{T, eqb, leb, ltb, leb·zero, ltb→lt}
 use borrow.Author.Tests.{not-true, eq-eqb, le-ltb, lt-leb}
-use Rattle.word.specs.Codec.{Word, Class, Close, Volume, Expiration, isLegal, packed, kindOf}
+use Rattle.word.specs.Kinds.{kindOf, classKind, strikeKind}
+use Rattle.word.specs.Codec.{Word, Class, Close, Volume, Expiration, isLegal, packed}
 use Rattle.word.proofs.Words.{legal-fits, kindIn, kind-packed}
 use Rattle.logic.specs.Lists.{every, some, only}
 use Rattle.book.specs.Facts.{Series, OpenClass, number}
@@ -20,7 +21,7 @@ use Rattle.book.proofs.Expirations.{strikeOf}
 use Rattle.book.proofs.ClassWords.{classes-apart}
 use Rattle.place.specs.Search.{firstAt, isFrom}
 use Rattle.place.proofs.Firsts.{first-beyond}
-use Rattle.place.proofs.Words.{keyIn, widthOf, isKeyed, from-packed, isEnding}
+use Rattle.place.proofs.Words.{keyIn, kindNumbered, isKeyed, from-packed, isEnding}
 
 -- ---- packed words
 
@@ -132,10 +133,10 @@ module _ {A : Type 0} (key : A → ℕ) (kind : ℕ) (lay : List A → List Word
         ap lay parts ∙ laid .apart k (only (isUnder key k) xs) others (every-kept (isUnder key k) xs) from-there
 
     -- the search stops where the words of the keys below end
-    pub sought : firstAt (isFrom kind (widthOf kind) k) (map packed (lay xs)) ≡ length under
+    pub sought : firstAt (isFrom (kindNumbered kind) k) (map packed (lay xs)) ≡ length under
     sought =
-        ap (λ (l : List Word). firstAt (isFrom kind (widthOf kind) k) (map packed l)) two-parts
-        ∙ first-after (isFrom kind (widthOf kind) k) (isKeyed kind k) (from-packed kind k) under (lay others) (rw two-parts at legal)
+        ap (λ (l : List Word). firstAt (isFrom (kindNumbered kind) k) (map packed l)) two-parts
+        ∙ first-after (isFrom (kindNumbered kind) k) (isKeyed kind k) (from-packed kind k) under (lay others) (rw two-parts at legal)
         (laid .passed k (only (isUnder key k) xs) (every-kept (isUnder key k) xs)) (stops-there k others from-there)
 
     -- .. and the word there has the key exactly where one of the list has it
@@ -168,7 +169,7 @@ every-series q p (s ∷ ss) rest t u =
 pub not-from : (n k : ℕ) → T (ltb n k) → T (not (leb k n))
 not-from n k t = rw (lt-leb k n (ltb→lt n k t)) tt
 
-pub strikes-laid : Laid strikeOf 6 (map strikeWord)
+pub strikes-laid : Laid strikeOf (strikeKind .number) (map strikeWord)
 strikes-laid = record {
   first = strikeWord;
   rest = λ s ss. map strikeWord ss;
@@ -178,19 +179,19 @@ strikes-laid = record {
   keys = λ s. refl;
   apart = λ k xs ys a b. map-append strikeWord xs ys;
   passed = λ k xs t.
-      every-map (λ s. ltb (s .strike) k) (λ w. not (isKeyed 6 k w)) strikeWord (λ s u. not-from (s .strike) k u) xs t;
+      every-map (λ s. ltb (s .strike) k) (λ w. not (isKeyed (strikeKind .number) k w)) strikeWord (λ s u. not-from (s .strike) k u) xs t;
 }
 
 -- ---- classes
 
 -- no word is of a lower kind than a class word
-pub class-kinds : (xs : List OpenClass) → T (every (λ w. leb 2 (kindIn w)) (classesWords xs []))
+pub class-kinds : (xs : List OpenClass) → T (every (λ w. leb (classKind .number) (kindIn w)) (classesWords xs []))
 class-kinds [] = tt
 class-kinds (x ∷ xs) =
-    every-series (λ w. leb 2 (kindIn w)) 0 (x .series) (classesWords xs []) (every-true (x .series)) (class-kinds xs)
+    every-series (λ w. leb (classKind .number) (kindIn w)) 0 (x .series) (classesWords xs []) (every-true (x .series)) (class-kinds xs)
 
 -- a test that each word passes which is no class word
-module _ (q : Word → Bool) (other : (w : Word) → eqb (kindIn w) 2 ≡ false → T (q w)) where
+module _ (q : Word → Bool) (other : (w : Word) → eqb (kindIn w) (classKind .number) ≡ false → T (q w)) where
   pub no-class : (p : ℕ) (ss : List Series) (rest : List Word) → T (every q rest) → T (every q (seriesWords p ss rest))
   no-class p ss rest t = every-series q p ss rest (anything ss) t
     where
@@ -213,7 +214,7 @@ module _ (q : Word → Bool) (other : (w : Word) → eqb (kindIn w) 2 ≡ false 
       let d = no-class 0 (x .series) (classesWords xs []) (every-class xs (search ands)) in
       search and-intro
 
-pub classes-laid : Laid number 2 (λ xs. classesWords xs [])
+pub classes-laid : Laid number (classKind .number) (λ xs. classesWords xs [])
 classes-laid = record {
   first = λ x. Class (x .figures .number) (x .figures .designations);
   rest = λ x xs. Close (x .figures .close) ∷ Volume (x .figures .volume) ∷ seriesWords 0 (x .series) (classesWords xs []);
@@ -223,6 +224,6 @@ classes-laid = record {
   keys = λ x. refl;
   apart = λ k xs ys a b. classes-apart xs ys [];
   passed = λ k xs t.
-      every-class (λ w. not (isKeyed 2 k w)) (λ w e. rw e tt) xs
+      every-class (λ w. not (isKeyed (classKind .number) k w)) (λ w e. rw e tt) xs
       (every-imply (λ x. ltb (number x) k) (λ x. not (leb k (number x))) (λ x u. not-from (number x) k u) xs t);
 }

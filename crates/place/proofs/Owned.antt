@@ -1,4 +1,5 @@
--- The own classes of a program, counted word by word: the count and what the words from the index on add are together those of the facts. Assumes nothing.
+-- The own classes of a program, counted word by word: the count and what the words from the index on add are together
+-- those of the facts. Assumes nothing.
 use Prim.Native.Nat.{ℕ, suc, _+_, _-_, _≤_, _<_}
 use mathlib.Core.Path.{_≡_, refl, sym, ap, ap₂, _∙_}
 use mathlib.Core.Bool.{Bool, true, false, cond}
@@ -9,25 +10,26 @@ use lib.ListN.{length, take, drop, getD}
 use lib.Seq.{drop-cons}
 use lib.Dec.{T, eqb, leb→le}
 use Rattle.logic.specs.Lists.{sum, every}
+use Rattle.word.specs.Limits.{longestRun}
+use Rattle.word.specs.Head.{firstPlace}
 use Rattle.word.specs.Codec.{Word, Head, Class, Close, Volume, Expiration, Strike, Invalid, isLegal, packed, Fits}
-use Rattle.word.specs.Programs.{programCount, isProgram, program}
-use Rattle.word.specs.Field.{field}
+use Rattle.word.specs.Programs.{programCount, isProgram, program, designationIn}
 use Rattle.word.specs.Caps.{own}
 use Rattle.word.proofs.Words.{kindIn, kind-packed, class-designation}
 use Rattle.book.specs.Facts.{Series, OpenClass, Facts, owned}
 use Rattle.book.specs.Layout.{strikeWord, expirationUnless, seriesWords, classesWords, used, factsOf}
 use Rattle.book.specs.Books.{isBook}
-use Rattle.book.proofs.LegalWords.{fits}
+use Rattle.word.proofs.RawWords.{fits}
 use Rattle.logic.proofs.Tests.{ands}
 use Rattle.book.proofs.Programs.{cap-small}
 use Rattle.book.proofs.Forms.{well}
-use Rattle.place.specs.Search.{isOfKind}
+use Rattle.word.specs.Kinds.{isOfKind, classKind}
 use Rattle.place.proofs.Heads.{book-good, book-room}
 use Rattle.place.proofs.Found.{legal, body}
 
 -- what a word adds to the count of own classes
 abbrev pub added : ℕ → ℕ → ℕ
-added p w = own (cond {A = ℕ} (isOfKind 2 w) (field w (program p .low) 2) 0)
+added p w = own (cond {A = ℕ} (isOfKind classKind w) (designationIn (program p) w) 0)
 
 -- ---- the words of a book add what its classes do
 
@@ -44,7 +46,7 @@ added-packed : (p : ℕ) → T (isProgram p) → (x : Word) → Fits x → added
 added-packed p k x small = rw (kind-packed x (packed x) small refl) (go x small)
   where
     go : (y : Word) → Fits y
-        → own (cond {A = ℕ} (eqb (kindIn y) 2) (field (packed y) (program p .low) 2) 0) ≡ addedBy p y
+        → own (cond {A = ℕ} (eqb (kindIn y) (classKind .number)) (designationIn (program p) (packed y)) 0) ≡ addedBy p y
     go (Head now used) f = refl
     go (Class n ds) f =
         ap own
@@ -62,7 +64,8 @@ sum-packed :
 sum-packed p k [] l = refl
 sum-packed p k (w ∷ ws) l = λ i. added-packed p k w (fits w (search ands)) i + sum-packed p k ws (search ands) i
 
-sum-series : (p q : ℕ) (ss : List Series) (rest : List Word) → sum (addedBy p) (seriesWords q ss rest) ≡ sum (addedBy p) rest
+sum-series :
+    (p q : ℕ) (ss : List Series) (rest : List Word) → sum (addedBy p) (seriesWords q ss rest) ≡ sum (addedBy p) rest
 sum-series p q [] rest = refl
 sum-series p q (s ∷ ss) rest = go (eqb q (suc (s .month))) (sum-series p (suc (s .month)) ss rest)
   where
@@ -88,7 +91,7 @@ module _ (ws : List ℕ) (b : T (isBook ws)) (p : ℕ) (k : T (isProgram p)) whe
   abbrev facts : Facts
   facts = factsOf ws
 
-  pub count-start : Counting ws p 1 0
+  pub count-start : Counting ws p firstPlace 0
   count-start = record {
     within = omega arith;
     total = omega (
@@ -100,7 +103,7 @@ module _ (ws : List ℕ) (b : T (isBook ws)) (p : ℕ) (k : T (isProgram p)) whe
   }
 
   module _ (at count : ℕ) (s : Counting ws p at count) where
-    pub count-small : count < 65535
+    pub count-small : count < longestRun
     count-small =
         omega (
           arith,
@@ -111,18 +114,21 @@ module _ (ws : List ℕ) (b : T (isBook ws)) (p : ℕ) (k : T (isProgram p)) whe
 
     pub count-more :
         (designation more : ℕ) → at < used facts
-        → designation ≡ cond {A = ℕ} (isOfKind 2 (getD ws at 0)) (field (getD ws at 0) (program p .low) 2) 0
+        → designation ≡ cond {A = ℕ} (isOfKind classKind (getD ws at 0)) (designationIn (program p) (getD ws at 0)) 0
         → more ≡ count + own designation → Counting ws p (at + 1) more
     count-more designation more l e d = record {
       within = omega arith;
       total = omega (arith, s .total, ap own e, here);
     }
       where
-        here : sum (added p) (take (used facts - at) (drop at ws)) ≡ added p (getD ws at 0) + sum (added p) (take (used facts - (at + 1)) (drop (at + 1) ws))
+        here :
+            sum (added p) (take (used facts - at) (drop at ws))
+            ≡ added p (getD ws at 0) + sum (added p) (take (used facts - (at + 1)) (drop (at + 1) ws))
         here =
             let left : used facts - at ≡ suc (used facts - (at + 1)) = omega arith in
             ap₂ (λ (n : ℕ) (l : List ℕ). sum (added p) (take n l)) left (drop-cons ws at 0 (omega (arith, book-room ws b)))
-            ∙ ap (λ (n : ℕ). added p (getD ws at 0) + sum (added p) (take (used facts - (at + 1)) (drop n ws))) (sym (add-one at))
+            ∙ ap (λ (n : ℕ). added p (getD ws at 0) + sum (added p) (take (used facts - (at + 1)) (drop n ws)))
+            (sym (add-one at))
 
     pub count-done : used facts ≤ at → count ≡ owned p (facts .classes)
     count-done l =

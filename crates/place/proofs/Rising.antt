@@ -7,63 +7,64 @@ use native.Mathlib.Omega.{arith}
 use lib.ListN.{length, getD}
 use lib.Dec.{T, eqb, leb, ltb}
 use borrow.Author.Tests.{eqb-true, leb-true, ltb-true, le-leb, lt-leb}
+use Rattle.word.specs.declared.kind.Kind.{Kind}
 use Rattle.word.specs.Codec.{Word, Class, isLegal, packed}
-use Rattle.word.specs.Field.{field}
 use Rattle.logic.proofs.Tests.{and-both, and-intro, ands, T-true}
 use Rattle.word.proofs.Words.{legal-fits, kindIn, kind-packed}
 use Rattle.logic.specs.Lists.{every}
 use Rattle.book.specs.Facts.{Series, OpenClass, isBelow}
 use Rattle.book.specs.Layout.{strikeWord, expirationUnless, seriesWords, classesWords}
 use Rattle.logic.proofs.Lists.{every-true, ordered}
-use Rattle.place.specs.Search.{firstAt, isOfKind, isFrom, Rises}
+use Rattle.word.specs.Kinds.{isOfKind, keyOf, classKind}
+use Rattle.place.specs.Search.{firstAt, isFrom, Rises}
 use Rattle.place.proofs.Firsts.{every-at}
-use Rattle.place.proofs.Words.{keyIn, widthOf, key-said}
+use Rattle.place.proofs.Words.{keyIn, kindNumbered, key-said}
 use Rattle.place.proofs.Laid.{no-class, every-class}
 
 -- ---- words in their order
 
--- of two words of the kind the first holds less in its lowest field, of `width` bits
-abbrev isLess : ℕ → ℕ → ℕ → ℕ → Bool
-isLess kind width v w =
-    not (isOfKind kind v) || (not (isOfKind kind w) || ltb (field v 0 width) (field w 0 width))
+-- of two words of the kind the first has the lower key
+abbrev isLess : Kind → ℕ → ℕ → Bool
+isLess kind v w =
+    not (isOfKind kind v) || (not (isOfKind kind w) || ltb (keyOf kind v) (keyOf kind w))
 
-module _ (kind width key : ℕ) where
+module _ (kind : Kind) (key : ℕ) where
   -- a word of the kind that comes later than one from the key on holds more than the key
   later-more :
-      (v w : ℕ) → isFrom kind width key v ≡ true → isOfKind kind w ≡ true → T (isLess kind width v w) → key < field w 0 width
+      (v w : ℕ) → isFrom kind key v ≡ true → isOfKind kind w ≡ true → T (isLess kind v w) → key < keyOf kind w
   later-more v w f k t =
-      let e = and-both (isOfKind kind v) (leb key (field v 0 width)) f in
-      omega (arith, leb-true key (field v 0 width) (e .1), ltb-true (field v 0 width) (field w 0 width) (T-true _ (rw (e .0, k) at t)))
+      let e = and-both (isOfKind kind v) (leb key (keyOf kind v)) f in
+      omega (arith, leb-true key (keyOf kind v) (e .1), ltb-true (keyOf kind v) (keyOf kind w) (T-true _ (rw (e .0, k) at t)))
 
   below :
-      (ws : List ℕ) → T (ordered (isLess kind width) ws) → (i : ℕ) → i < length ws → isOfKind kind (getD ws i 0) ≡ true
-      → field (getD ws i 0) 0 width < key → i < firstAt (isFrom kind width key) ws
+      (ws : List ℕ) → T (ordered (isLess kind) ws) → (i : ℕ) → i < length ws → isOfKind kind (getD ws i 0) ≡ true
+      → keyOf kind (getD ws i 0) < key → i < firstAt (isFrom kind key) ws
   below [] t i l k h = absurd (omega arith)
-  below (w ∷ ws) t zero l k h = rw (k, lt-leb key (field w 0 width) h) (omega arith)
-  below (w ∷ ws) t (suc i) l k h = go (isFrom kind width key w) refl (below ws (search ands) i (omega arith) k h)
+  below (w ∷ ws) t zero l k h = rw (k, lt-leb key (keyOf kind w) h) (omega arith)
+  below (w ∷ ws) t (suc i) l k h = go (isFrom kind key w) refl (below ws (search ands) i (omega arith) k h)
     where
       go :
-          (b : Bool) → isFrom kind width key w ≡ b → i < firstAt (isFrom kind width key) ws
-          → suc i < cond {A = ℕ} b 0 (suc (firstAt (isFrom kind width key) ws))
+          (b : Bool) → isFrom kind key w ≡ b → i < firstAt (isFrom kind key) ws
+          → suc i < cond {A = ℕ} b 0 (suc (firstAt (isFrom kind key) ws))
       go true f r =
-          absurd (omega (arith, later-more w (getD ws i 0) f k (every-at (isLess kind width w) 0 ws i (omega arith) (search ands))))
+          absurd (omega (arith, later-more w (getD ws i 0) f k (every-at (isLess kind w) 0 ws i (omega arith) (search ands))))
       go false f r = omega arith
 
   equal :
-      (ws : List ℕ) → T (ordered (isLess kind width) ws) → (i : ℕ) → i < length ws → isOfKind kind (getD ws i 0) ≡ true
-      → field (getD ws i 0) 0 width ≡ key → i ≡ firstAt (isFrom kind width key) ws
+      (ws : List ℕ) → T (ordered (isLess kind) ws) → (i : ℕ) → i < length ws → isOfKind kind (getD ws i 0) ≡ true
+      → keyOf kind (getD ws i 0) ≡ key → i ≡ firstAt (isFrom kind key) ws
   equal [] t i l k h = absurd (omega arith)
-  equal (w ∷ ws) t zero l k h = rw (k, le-leb key (field w 0 width) (omega arith))
-  equal (w ∷ ws) t (suc i) l k h = go (isFrom kind width key w) refl (equal ws (search ands) i (omega arith) k h)
+  equal (w ∷ ws) t zero l k h = rw (k, le-leb key (keyOf kind w) (omega arith))
+  equal (w ∷ ws) t (suc i) l k h = go (isFrom kind key w) refl (equal ws (search ands) i (omega arith) k h)
     where
       go :
-          (b : Bool) → isFrom kind width key w ≡ b → i ≡ firstAt (isFrom kind width key) ws
-          → suc i ≡ cond {A = ℕ} b 0 (suc (firstAt (isFrom kind width key) ws))
+          (b : Bool) → isFrom kind key w ≡ b → i ≡ firstAt (isFrom kind key) ws
+          → suc i ≡ cond {A = ℕ} b 0 (suc (firstAt (isFrom kind key) ws))
       go true f r =
-          absurd (omega (arith, later-more w (getD ws i 0) f k (every-at (isLess kind width w) 0 ws i (omega arith) (search ands))))
+          absurd (omega (arith, later-more w (getD ws i 0) f k (every-at (isLess kind w) 0 ws i (omega arith) (search ands))))
       go false f r = ap suc r
 
-  pub ordered-rises : (ws : List ℕ) → T (ordered (isLess kind width) ws) → Rises kind width key ws
+  pub ordered-rises : (ws : List ℕ) → T (ordered (isLess kind) ws) → Rises kind key ws
   ordered-rises ws t = record { below = below ws t; equal = equal ws t }
 
 -- ---- packed words
@@ -74,14 +75,14 @@ isLower kind v w = not (eqb (kindIn v) kind) || (not (eqb (kindIn w) kind) || lt
 
 module _ (kind : ℕ) where
   less-packed :
-      (v w : Word) → isLegal v ≡ true → isLegal w ≡ true → isLess kind (widthOf kind) (packed v) (packed w) ≡ isLower kind v w
+      (v w : Word) → isLegal v ≡ true → isLegal w ≡ true → isLess (kindNumbered kind) (packed v) (packed w) ≡ isLower kind v w
   less-packed v w a b =
       rw (kind-packed v (packed v) (legal-fits v a) refl, kind-packed w (packed w) (legal-fits w b) refl)
       (go (eqb (kindIn v) kind) (eqb (kindIn w) kind) refl refl)
     where
       go :
           (x y : Bool) → eqb (kindIn v) kind ≡ x → eqb (kindIn w) kind ≡ y
-          → (not x || (not y || ltb (field (packed v) 0 (widthOf kind)) (field (packed w) 0 (widthOf kind))))
+          → (not x || (not y || ltb (keyOf (kindNumbered kind) (packed v)) (keyOf (kindNumbered kind) (packed w))))
           ≡ (not x || (not y || ltb (keyIn v) (keyIn w)))
       go false y d e = refl
       go true false d e = refl
@@ -89,17 +90,17 @@ module _ (kind : ℕ) where
 
   every-packed :
       (v : Word) → isLegal v ≡ true → (ws : List Word) → T (every isLegal ws) → T (every (isLower kind v) ws)
-      → T (every (isLess kind (widthOf kind) (packed v)) (map packed ws))
+      → T (every (isLess (kindNumbered kind) (packed v)) (map packed ws))
   every-packed v a [] legal t = tt
   every-packed v a (w ∷ ws) legal t =
       let lower : T (isLower kind v w) = search ands in
-      let here : T (isLess kind (widthOf kind) (packed v) (packed w)) =
+      let here : T (isLess (kindNumbered kind) (packed v) (packed w)) =
       rw (less-packed v w a (T-true (isLegal w) (search ands))) lower in
       let later = every-packed v a ws (search ands) (search ands) in
       search and-intro
 
   pub ordered-packed :
-      (ws : List Word) → T (every isLegal ws) → T (ordered (isLower kind) ws) → T (ordered (isLess kind (widthOf kind)) (map packed ws))
+      (ws : List Word) → T (every isLegal ws) → T (ordered (isLower kind) ws) → T (ordered (isLess (kindNumbered kind)) (map packed ws))
   ordered-packed [] legal t = tt
   ordered-packed (w ∷ ws) legal t =
       let here = every-packed w (T-true (isLegal w) (search ands)) ws (search ands) (search ands) in
@@ -109,22 +110,22 @@ module _ (kind : ℕ) where
 -- ---- classes
 
 series-ordered :
-    (p : ℕ) (ss : List Series) (rest : List Word) → T (ordered (isLower 2) rest) → T (ordered (isLower 2) (seriesWords p ss rest))
+    (p : ℕ) (ss : List Series) (rest : List Word) → T (ordered (isLower (classKind .number)) rest) → T (ordered (isLower (classKind .number)) (seriesWords p ss rest))
 series-ordered p [] rest t = t
 series-ordered p (s ∷ ss) rest t = go (eqb p (suc (s .month))) (series-ordered (suc (s .month)) ss rest t)
   where
     after : List Word
     after = seriesWords (suc (s .month)) ss rest
 
-    go : (b : Bool) → T (ordered (isLower 2) after) → T (ordered (isLower 2) (expirationUnless b (s .month) (strikeWord s ∷ after)))
+    go : (b : Bool) → T (ordered (isLower (classKind .number)) after) → T (ordered (isLower (classKind .number)) (expirationUnless b (s .month) (strikeWord s ∷ after)))
     go true r = let a = every-true after in search and-intro
     go false r = let a = every-true after in search and-intro
 
-pub classes-ordered : (xs : List OpenClass) → T (ordered isBelow xs) → T (ordered (isLower 2) (classesWords xs []))
+pub classes-ordered : (xs : List OpenClass) → T (ordered isBelow xs) → T (ordered (isLower (classKind .number)) (classesWords xs []))
 classes-ordered [] t = tt
 classes-ordered (x ∷ xs) t =
     let after = seriesWords 0 (x .series) (classesWords xs []) in
-    let test = isLower 2 (Class (x .figures .number) (x .figures .designations)) in
+    let test = isLower (classKind .number) (Class (x .figures .number) (x .figures .designations)) in
     let above : T (every test after) =
     no-class test (λ w e. rw e tt) 0 (x .series) (classesWords xs []) (every-class test (λ w e. rw e tt) xs (search ands)) in
     let rest = series-ordered 0 (x .series) (classesWords xs []) (classes-ordered xs (search ands)) in

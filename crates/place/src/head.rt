@@ -3,14 +3,13 @@ ghost use mathlib.Core.Path.{_≡_};
 ghost use lib.Dec.{T};
 ghost use Rattle.book.specs.Layout.{factsOf, used};
 ghost use Rattle.book.specs.Books.{isBook};
-use word::field::field_of;
 
 // The current month, document 01's `now`.
 pub fn current(run: &[u32]) -> u32
     requires { ⌜ T (isBook (now run)) ⌝ }
     ensures { λ r. ⌜ r ≡ factsOf (now (run .entry)) .now ⌝ }
 {
-    field_of(run[0], 0, 10)
+    word::head::month(run)
 }
 
 // How many words the book has, its head with them.
@@ -18,5 +17,5 @@ pub fn used(run: &[u32]) -> usize
     requires { ⌜ T (isBook (now run)) ⌝ }
     ensures { λ r. ⌜ r ≡ used (factsOf (now (run .entry))) ⌝ }
 {
-    field_of(run[0], 10, 16) as usize
+    word::head::used(run)
 }

@@ -3,24 +3,28 @@ ghost use mathlib.Core.Path.{_≡_};
 ghost use mathlib.Core.Bool.{_&&_};
 ghost use Prim.Native.Nat.{_+_, _-_, _<_, _≤_};
 ghost use lib.Dec.{T, eqb, ltb};
-ghost use lib.ListN.{drop, getD, length, take};
+ghost use lib.ListN.{drop, getD, take};
 ghost use Rattle.word.specs.Limits.{isClassNumber, isStrike};
+ghost use Rattle.word.specs.Kinds.{classKind, expirationKind, strikeKind};
+ghost use Rattle.word.specs.Figures.{figuresLength};
 ghost use Rattle.book.specs.Facts.{isOpen};
 ghost use Rattle.book.specs.Layout.{factsOf, used};
 ghost use Rattle.book.specs.Books.{isBook};
 ghost use Rattle.book.specs.Places.{ClassBegins, classPlace, openPlace};
-ghost use Rattle.place.specs.Search.{firstAt, isFrom, isHolding, isUpTo, figuresAt};
+ghost use Rattle.place.specs.Search.{firstAt, isFrom, isHolding, isUpTo};
 ghost use Rattle.place.specs.Lookups.{AfterHead, Searchable, expirationOf, strikeSearchOf};
 use crate::head;
 use crate::search::first;
 use crate::search::first_rising;
 use crate::search::found_near;
 use crate::search::holds;
-use word::class::ClassRecord;
 use word::codec::expiration_word;
-use word::field::field_of;
-use word::programs::DOLLAR_LOW;
-use word::programs::HALF_LOW;
+use word::figures;
+use word::head::FIRST;
+use word::kind::CLASS;
+use word::kind::EXPIRATION;
+use word::kind::STRIKE;
+use word::kind::key_of;
 
 // A book of up to this many words is searched without what is remembered: that costs less.
 const FEW_WORDS: usize = 256;
@@ -39,31 +43,14 @@ pub struct StrikeSearch {
     pub standing: bool,
 }
 
-// What the three words of a class say, which begin at `at`.
-pub fn figures_at(run: &[u32], at: usize) -> ClassRecord
-    requires { ⌜ at + 2 < length (now run) ⌝ }
-    ensures { λ r. ⌜ r ≡ figuresAt at (now (run .entry)) ⌝ }
-{
-    let designations = [
-        field_of(run[at], DOLLAR_LOW, 2),
-        field_of(run[at], HALF_LOW, 2),
-    ];
-    ClassRecord {
-        number: field_of(run[at], 0, 14),
-        close: field_of(run[at + 1], 0, 20),
-        volume: field_of(run[at + 2], 0, 24),
-        designations,
-    }
-}
-
 // The index of the first class word from `from` on, or the words used.
 pub fn next_class(run: &[u32], from: usize) -> usize
     requires { ⌜ AfterHead (now run) from ⌝ }
     ensures { λ r. ⌜ (let end = used (factsOf (now (run .entry))) in
-        (r ≡ from + firstAt (isFrom 2 14 0) (take (end - from) (drop from (now (run .entry))))) × (r ≤ end)) ⌝ }
+        (r ≡ from + firstAt (isFrom classKind 0) (take (end - from) (drop from (now (run .entry))))) × (r ≤ end)) ⌝ }
 {
     let used = head::used(run);
-    from + first(&run[from..used], 2, 14, 0)
+    from + first(&run[from..used], CLASS, 0)
 }
 
 // Where the class c stands, or where its words would be put. It is looked for first about `near`, which may be any
@@ -73,14 +60,14 @@ fn class_near(run: &[u32], near: usize, c: u32) -> usize
     ensures { λ r. ⌜ r ≡ classPlace c (factsOf (now (run .entry))) ⌝ }
 {
     let used = head::used(run);
-    let words = &run[1..used];
-    if 0 < near {
-        let found = found_near(words, near - 1, 2, 14, c);
+    let words = &run[FIRST..used];
+    if FIRST <= near {
+        let found = found_near(words, near - FIRST, CLASS, c);
         if found < words.len() {
-            return 1 + found;
+            return FIRST + found;
         }
     }
-    1 + first_rising(words, 2, 14, c)
+    FIRST + first_rising(words, CLASS, c)
 }
 
 // Where the class c stands, or where its words would be put. `places` holds where classes were found, each in the slot
@@ -108,7 +95,7 @@ pub fn is_open_at(run: &[u32], at: usize, c: u32) -> bool
     if head::used(run) <= at {
         return false;
     }
-    field_of(run[at], 0, 14) == c
+    key_of(run[at], CLASS) == c
 }
 
 // Where the words of the class c begin; 0 where it is not open. `places` as for `class_at`.
@@ -125,12 +112,13 @@ pub fn open_at(run: &[u32], places: &mut [u32], c: u32) -> usize
 fn expiration_at(run: &[u32], class: usize, m: u32) -> usize
     requires { ⌜ Searchable (now run) class m ⌝ }
     ensures { λ r. ⌜ (let end = used (factsOf (now (run .entry))) in
-        (r ≡ class + 3 + firstAt (isUpTo 5 10 m) (take (end - (class + 3)) (drop (class + 3) (now (run .entry)))))
+        (let begin = class + figuresLength in
+        r ≡ begin + firstAt (isUpTo expirationKind m) (take (end - begin) (drop begin (now (run .entry)))))
         × (r ≤ end)) ⌝ }
 {
-    let begin = class + 3;
+    let begin = class + figures::LENGTH;
     let used = head::used(run);
-    begin + first(&run[begin..used], 5, 10, m)
+    begin + first(&run[begin..used], EXPIRATION, m)
 }
 
 // Whether the words used have this one there.
@@ -148,12 +136,12 @@ fn is_word_at(run: &[u32], at: usize, w: u32) -> bool
 fn holds_strike(run: &[u32], at: usize, h: u32) -> bool
     requires { ⌜ T (isBook (now run)) ⌝ }
     ensures { λ r. ⌜ r
-        ≡ (ltb at (used (factsOf (now (run .entry)))) && isHolding 6 15 h (getD (now (run .entry)) at 0)) ⌝ }
+        ≡ (ltb at (used (factsOf (now (run .entry)))) && isHolding strikeKind h (getD (now (run .entry)) at 0)) ⌝ }
 {
     if head::used(run) <= at {
         return false;
     }
-    holds(run[at], 6, 15, h)
+    holds(run[at], STRIKE, h)
 }
 
 // The expiration m of the open class at `class`.
@@ -171,10 +159,8 @@ pub fn look_up_expiration(run: &[u32], class: usize, m: u32) -> Expiration
     }
     let from = place + 1;
     let used = head::used(run);
-    Expiration {
-        from,
-        to: from + first(&run[from..used], 5, 10, 0),
-    }
+    let to = from + first(&run[from..used], EXPIRATION, 0);
+    Expiration { from, to }
 }
 
 // The strike h of the expiration m of the open class at `class`.
@@ -193,7 +179,7 @@ pub fn look_up_strike(run: &[u32], class: usize, m: u32, h: u32) -> StrikeSearch
     }
     let from = place + 1;
     let used = head::used(run);
-    let at = from + first(&run[from..used], 6, 15, h);
+    let at = from + first(&run[from..used], STRIKE, h);
     StrikeSearch {
         at,
         expiration: true,

@@ -6,9 +6,13 @@ ghost use mathlib.Core.List.{map};
 ghost use lib.Dec.{leb};
 ghost use lib.ListN.{length};
 ghost use Rattle.word.specs.Digits.{binary};
-ghost use Rattle.place.specs.Search.{firstAt, foundNear, Gradable, Guessable, isFrom, isHolding, gradeOf, isUpTo};
-use word::codec::kind;
-use word::field::field_of;
+ghost use Rattle.word.specs.Kinds.{gradeOf, kindField};
+ghost use Rattle.place.specs.Search.{firstAt, foundNear, Gradable, Guessable, isFrom, isHolding, isUpTo};
+use word::kind::Kind;
+use word::kind::grade;
+use word::kind::grade_at;
+use word::kind::is_of_kind;
+use word::kind::key_of;
 
 // How many words are tested at a time.
 const BLOCK: usize = 16;
@@ -27,24 +31,16 @@ const TURNS: u32 = 8;
 // So many words are searched without a further guess.
 const FEW_LEFT: usize = 64;
 
-// A word by its kind, and in its kind by how little its lowest field, of `width` bits, holds.
-fn grade(w: u32, width: u32) -> u32
-    requires { ⌜ width ≤ 28 ⌝ }
-    ensures { λ r. ⌜ r ≡ gradeOf width w ⌝ }
-{
-    kind(w) * 268435456 + (268435455 - field_of(w, 0, width))
-}
-
 // Which of 16 words are of a grade up to `most`: a bit for each, from bit 1 on. The constant lets it compile to tests
 // of many words at a time, and no word has bit 0, which would be tested alone.
-fn graded_of_16(block: &[u32], width: u32, most: u32) -> u32
-    requires { ⌜ (length (now block) ≡ 16) × (width ≤ 28) ⌝ }
-    ensures { λ r. ⌜ r ≡ 2 * binary (map (λ w. leb (gradeOf width w) most) (now (block .entry))) ⌝ }
+fn graded_of_16(block: &[u32], kind: Kind, most: u32) -> u32
+    requires { ⌜ (length (now block) ≡ 16) × (kind .width ≤ kindField .low) ⌝ }
+    ensures { λ r. ⌜ r ≡ 2 * binary (map (λ w. leb (gradeOf kind w) most) (now (block .entry))) ⌝ }
 {
     let mut bits = 0;
     let mut i = 0;
     while i < BLOCK {
-        let bit = if grade(block[i], width) <= most {
+        let bit = if grade(block[i], kind) <= most {
             2 << i
         } else {
             0
@@ -56,14 +52,14 @@ fn graded_of_16(block: &[u32], width: u32, most: u32) -> u32
 }
 
 // The index of the first word of a grade up to `most`, or the length: word by word.
-fn first_plainly(words: &[u32], width: u32, most: u32) -> usize
-    requires { ⌜ width ≤ 28 ⌝ }
-    ensures { λ r. ⌜ (r ≡ firstAt (λ w. leb (gradeOf width w) most) (now (words .entry)))
+fn first_plainly(words: &[u32], kind: Kind, most: u32) -> usize
+    requires { ⌜ kind .width ≤ kindField .low ⌝ }
+    ensures { λ r. ⌜ (r ≡ firstAt (λ w. leb (gradeOf kind w) most) (now (words .entry)))
         × (r ≤ length (now (words .entry))) ⌝ }
 {
     let mut i = 0;
     while i < words.len() {
-        if grade(words[i], width) <= most {
+        if grade(words[i], kind) <= most {
             return i;
         }
         i += 1;
@@ -71,37 +67,37 @@ fn first_plainly(words: &[u32], width: u32, most: u32) -> usize
     i
 }
 
-// The index of the first word of a lower kind, or of the kind and with at least `key` in its lowest field, of `width`
-// bits; or the length. 16 words at a time.
-pub fn first(words: &[u32], kind: u32, width: u32, key: u32) -> usize
-    requires { ⌜ Gradable kind width key ⌝ }
-    ensures { λ r. ⌜ (r ≡ firstAt (isUpTo kind width key) (now (words .entry))) × (r ≤ length (now (words .entry))) ⌝ }
+// The index of the first word of a lower kind, or of the kind and with at least this key; or the length. A block of
+// words at a time.
+pub fn first(words: &[u32], kind: Kind, key: u32) -> usize
+    requires { ⌜ Gradable kind key ⌝ }
+    ensures { λ r. ⌜ (r ≡ firstAt (isUpTo kind key) (now (words .entry))) × (r ≤ length (now (words .entry))) ⌝ }
 {
-    let most = kind * 268435456 + (268435455 - key);
+    let most = grade_at(kind, key);
     let mut i = 0;
     while BLOCK <= words.len() - i {
-        let bits = graded_of_16(&words[i..i + BLOCK], width, most);
+        let bits = graded_of_16(&words[i..i + BLOCK], kind, most);
         if bits != 0 {
             return i + u32::trailing_zeros(bits) as usize - 1;
         }
         i += BLOCK;
     }
-    i + first_plainly(&words[i..words.len()], width, most)
+    i + first_plainly(&words[i..words.len()], kind, most)
 }
 
 // Whether a word is of the kind and holds the key.
-pub fn holds(w: u32, of: u32, width: u32, key: u32) -> bool
-    requires { ⌜ width ≤ 28 ⌝ }
-    ensures { λ r. ⌜ r ≡ isHolding of width key w ⌝ }
+pub fn holds(w: u32, kind: Kind, key: u32) -> bool
+    requires { ⌜ kind .width ≤ kindField .low ⌝ }
+    ensures { λ r. ⌜ r ≡ isHolding kind key w ⌝ }
 {
-    (kind(w) == of) & (field_of(w, 0, width) == key)
+    is_of_kind(w, kind) & (key_of(w, kind) == key)
 }
 
 // The index of a word of the kind that holds the key, where it stands at `near` or a few words from it; else the
 // length.
-pub fn found_near(words: &[u32], near: usize, of: u32, width: u32, key: u32) -> usize
-    requires { ⌜ Gradable of width key ⌝ }
-    ensures { λ r. ⌜ r ≡ foundNear near of width key (now (words .entry)) ⌝ }
+pub fn found_near(words: &[u32], near: usize, kind: Kind, key: u32) -> usize
+    requires { ⌜ Gradable kind key ⌝ }
+    ensures { λ r. ⌜ r ≡ foundNear near kind key (now (words .entry)) ⌝ }
 {
     let n = words.len();
     if (near < BEFORE) | (n < ABOUT) {
@@ -110,12 +106,12 @@ pub fn found_near(words: &[u32], near: usize, of: u32, width: u32, key: u32) -> 
     if n - (ABOUT - BEFORE) <= near {
         return n;
     }
-    if holds(words[near], of, width, key) {
+    if holds(words[near], kind, key) {
         return near;
     }
     let from = near - BEFORE;
-    let at = from + first(&words[from..from + ABOUT], of, width, key);
-    if holds(words[at], of, width, key) {
+    let at = from + first(&words[from..from + ABOUT], kind, key);
+    if holds(words[at], kind, key) {
         return at;
     }
     n
@@ -143,18 +139,18 @@ fn expected(span: usize, key: u32, below: u32, above: u32) -> usize
 // from a guess on decides on which side of the guess the search goes on. What the last of them holds is a guess too
 // until a word is seen that holds more than the key: at first twice the key, as if it were in the middle, and then what
 // the words passed let expect.
-pub fn first_rising(words: &[u32], of: u32, width: u32, key: u32) -> usize
-    requires { ⌜ Guessable of width key (now words) ⌝ }
-    ensures { λ r. ⌜ (r ≡ firstAt (isFrom of width key) (now (words .entry))) × (r ≤ length (now (words .entry))) ⌝ }
+pub fn first_rising(words: &[u32], kind: Kind, key: u32) -> usize
+    requires { ⌜ Guessable kind key (now words) ⌝ }
+    ensures { λ r. ⌜ (r ≡ firstAt (isFrom kind key) (now (words .entry))) × (r ≤ length (now (words .entry))) ⌝ }
 {
     let n = words.len();
     if n == 0 {
         return 0;
     }
-    if (kind(words[0]) == of) & (key <= field_of(words[0], 0, width)) {
+    if is_of_kind(words[0], kind) & (key <= key_of(words[0], kind)) {
         return 0;
     }
-    let most: u32 = 1 << width;
+    let most: u32 = 1 << kind.width;
     let mut low = 0;
     let mut high = n;
     let mut below = 0;
@@ -170,11 +166,11 @@ pub fn first_rising(words: &[u32], of: u32, width: u32, key: u32) -> usize
         };
         let middle = low + guess;
         turn = (turn + 1) % TURNS;
-        let next = middle + first(&words[middle..high], of, width, 0);
+        let next = middle + first(&words[middle..high], kind, 0);
         if next == high {
             high = middle;
         } else {
-            let held = field_of(words[next], 0, width);
+            let held = key_of(words[next], kind);
             if held == key {
                 return next;
             }
@@ -191,5 +187,5 @@ pub fn first_rising(words: &[u32], of: u32, width: u32, key: u32) -> usize
             }
         }
     }
-    low + first(&words[low..n], of, width, key)
+    low + first(&words[low..n], kind, key)
 }

@@ -30,10 +30,10 @@ next-class :
     (ss : List Series) (xs : List OpenClass) → T (every isLegal (seriesWords 0 ss [] ++ classesWords xs []))
     → firstAt (isUpTo classKind 0) (map packed (seriesWords 0 ss [] ++ classesWords xs [])) ≡ length (seriesWords 0 ss [])
 next-class ss xs legal =
-    first-after (isUpTo classKind 0) (isEnding 2 0) (up-to-packed 2 0 (omega arith) (omega arith)) (seriesWords 0 ss [])
-    (classesWords xs []) legal (every-series (λ w. not (isEnding 2 0 w)) 0 ss [] (every-true ss) tt) (stops xs)
+    first-after (isUpTo classKind 0) (isEnding (classKind .number) 0) (up-to-packed (classKind .number) 0 (omega arith) (omega arith)) (seriesWords 0 ss [])
+    (classesWords xs []) legal (every-series (λ w. not (isEnding (classKind .number) 0 w)) 0 ss [] (every-true ss) tt) (stops xs)
   where
-    stops : (ys : List OpenClass) → firstAt (isEnding 2 0) (classesWords ys []) ≡ 0
+    stops : (ys : List OpenClass) → firstAt (isEnding (classKind .number) 0) (classesWords ys []) ≡ 0
     stops [] = refl
     stops (y ∷ ys) = rw (leb·zero (number y))
 
@@ -70,14 +70,14 @@ module _ (m : ℕ) where
   -- ---- the search for what stays
 
   passes-earlier :
-      (ss : List Series) → T (every (isUnder monthOf m) ss) → T (every (λ w. not (isEnding 5 m w)) (seriesWords 0 ss []))
+      (ss : List Series) → T (every (isUnder monthOf m) ss) → T (every (λ w. not (isEnding (expirationKind .number) m w)) (seriesWords 0 ss []))
   passes-earlier ss t =
-      every-series (λ w. not (isEnding 5 m w)) 0 ss []
+      every-series (λ w. not (isEnding (expirationKind .number) m w)) 0 ss []
       (every-imply (isUnder monthOf m) (λ s. not (leb m (s .month))) (λ s u. not-from (s .month) m u) ss t) tt
 
   stops-later :
       (ss : List Series) (xs : List OpenClass) → T (every isLater ss)
-      → firstAt (isEnding 5 m) (seriesWords 0 ss (classesWords xs [])) ≡ 0
+      → firstAt (isEnding (expirationKind .number) m) (seriesWords 0 ss (classesWords xs [])) ≡ 0
   stops-later [] [] t = refl
   stops-later [] (x ∷ xs) t = refl
   stops-later (s ∷ ss) xs t = rw (eqb·zero-suc (s .month), T-true (isLater s) (search ands))
@@ -127,7 +127,7 @@ module _ (m : ℕ) where
         left =
             ap (λ (l : List Word). figures ++ l) (seriesWords-append 0 (later ss) [] (classesWords (map keptFrom xs) []));
         stays =
-            first-after (isUpTo expirationKind m) (isEnding 5 m) (up-to-packed 5 m small (omega arith)) going (staying ++ rest)
-            legal (passes-earlier earlier before) (ap (firstAt (isEnding 5 m)) (sym apart) ∙ stops-later (later ss) xs kept);
+            first-after (isUpTo expirationKind m) (isEnding (expirationKind .number) m) (up-to-packed (expirationKind .number) m small (omega arith)) going (staying ++ rest)
+            legal (passes-earlier earlier before) (ap (firstAt (isEnding (expirationKind .number) m)) (sym apart) ∙ stops-later (later ss) xs kept);
         next = next-class (later ss) xs (every-split isLegal going (staying ++ rest) legal .1);
       }

@@ -7,7 +7,7 @@ use crate::terms::Setting;
 use crate::terms::is_long;
 use word::field::field_of;
 use word::kind::STRIKE;
-use word::kind::key;
+use word::kind::key_of;
 use word::strike::GROUND;
 use word::strike::Strike;
 
@@ -35,7 +35,7 @@ pub fn is_clear(s: Setting, g: u32, strike: Strike, w: u32) -> bool
     requires { ⌜ Judged s (strike .0) ⌝ }
     ensures { λ r. ⌜ r ≡ clears s g (strike .0) (standingOf w) ⌝ }
 {
-    let other = Strike(key(w, STRIKE));
+    let other = Strike(key_of(w, STRIKE));
     let ground = field_of(w, GROUND);
     !((g == 1) & (ground == 0) & is_crowded(strike, other))
         & !((g == 0) & (ground == 1) & is_crowded(other, strike))

@@ -27,7 +27,7 @@ use word::kind::CLASS;
 use word::kind::EXPIRATION;
 use word::kind::STRIKE;
 use word::kind::is_of_kind;
-use word::kind::key;
+use word::kind::key_of;
 use word::limits::is_length;
 use word::limits::latest_month;
 use word::programs::DOLLAR_BITS;
@@ -48,7 +48,7 @@ pub enum Stretch {
 fn are_strikes(first: u32, last: u32) -> bool
     ensures { λ r. ⌜ r ≡ areStrikes first last ⌝ }
 {
-    (0 < key(first, STRIKE)) & (key(last, STRIKE) <= Strike::HIGHEST.0)
+    (0 < key_of(first, STRIKE)) & (key_of(last, STRIKE) <= Strike::HIGHEST.0)
 }
 
 // Where the expirations that start at `from.at` end, each with its strikes. An expiration word is compared as a whole
@@ -102,7 +102,7 @@ fn are_classes(current: u32, s: &[u32]) -> bool
             return false;
         }
         let w = s[i];
-        last = key(w, CLASS);
+        last = key_of(w, CLASS);
         dollars = dollars.counted(field_of(w, DOLLAR_BITS));
         halves = halves.counted(field_of(w, HALF_BITS));
         if dollars.is_exceeded() | halves.is_exceeded() {

@@ -9,12 +9,14 @@ use lib.Dec.{T, eqb, leb, ltb, eqb·zero-suc, le→leb}
 use lib.ListN.{length, getD, take, drop, replicate, length-append, length-drop, length-map}
 use lib.Seq.{getD-take, getD-drop, length-take-le}
 use borrow.Author.Tests.{ltb-true, ltb-false, lt-ltb, le-ltb, eq-eqb, ne-eqb}
-use Rattle.word.specs.Codec.{Word, Head, Close, Volume, Expiration, isLegal, packed, kindOf}
+use Rattle.word.specs.Kinds.{kindOf, isOfKind}
+use Rattle.word.specs.Codec.{Word, Head, Close, Volume, Expiration, isLegal, packed}
 use Rattle.word.proofs.Words.{legal-fits, kindIn, kind-packed}
 use Rattle.logic.specs.Lists.{every, only}
 use Rattle.rule.proofs.Tests.{and-left}
 use Rattle.book.specs.Facts.{Series, OpenClass, number, isOpen, inMonth}
-use Rattle.book.specs.Layout.{strikeWord, expirationUnless, seriesWords, classWord, figuresWords, classesWords, used, factsOf}
+use Rattle.word.specs.Figures.{classWord, figuresWords}
+use Rattle.book.specs.Layout.{strikeWord, expirationUnless, seriesWords, classesWords, used, factsOf}
 use Rattle.book.specs.Books.{isSeries, isBook}
 use Rattle.book.specs.Views.{class}
 use Rattle.book.specs.Places.{hasExpiration, strikesPlace, strikesEnd}
@@ -25,7 +27,6 @@ use Rattle.logic.proofs.Splits.{every-split}
 use Rattle.book.proofs.ClassWords.{book-words}
 use Rattle.book.proofs.Expirations.{monthOf}
 use Rattle.book.proofs.Runs.{bookWords, run-word, strikes-within, strikes-part, strikes-good, expiration-strikes, expiration-length}
-use Rattle.place.specs.Search.{isOfKind}
 use Rattle.place.proofs.Firsts.{every-at}
 use Rattle.place.proofs.Heads.{book-good, book-form, book-is, book-room, book-long}
 use Rattle.place.proofs.Laid.{kinds-packed}
@@ -33,7 +34,7 @@ use Rattle.place.proofs.Found.{legal}
 
 -- whether the words used have a strike there
 abbrev pub isStrikeAt : List ℕ → ℕ → Bool
-isStrikeAt w i = ltb i (used (factsOf w)) && isOfKind 6 (getD w i 0)
+isStrikeAt w i = ltb i (used (factsOf w)) && isOfKind strikeKind (getD w i 0)
 
 -- the words from `start` to `stop`, with the one at `at` where it is a strike and perhaps with the one before it, are
 -- words used
@@ -54,7 +55,7 @@ beside-within w at start stop below first last within =
         (b : Bool) → isStrikeAt w at ≡ b → stop ≡ cond {A = ℕ} b (at + 1) at
         → (at ≤ stop) × (stop ≤ used (factsOf w))
     stops true e d =
-        let l = ltb-true at (used (factsOf w)) (and-left (ltb at (used (factsOf w))) (isOfKind 6 (getD w at 0)) e) in
+        let l = ltb-true at (used (factsOf w)) (and-left (ltb at (used (factsOf w))) (isOfKind strikeKind (getD w at 0)) e) in
         (omega arith, omega arith)
     stops false e d = (omega arith, omega arith)
 
@@ -90,12 +91,12 @@ module _ (w : List ℕ) (book : T (isBook w)) where
   kind-after :
       (i : ℕ) (before : List Word) (ss : List Series) (xs : List OpenClass)
       → bookWords (length w) (factsOf w) ≡ before ++ (seriesWords 0 ss [] ++ classesWords xs []) → i ≡ length before
-      → isOfKind 6 (getD w i 0) ≡ false
+      → isOfKind strikeKind (getD w i 0) ≡ false
   kind-after i before [] [] e d =
       let word : getD w i 0 ≡ 0 =
       subst (λ (l : List ℕ). getD l i 0 ≡ 0) (book-is w book)
       (run-word (length w) (factsOf w) i 0 before [] e (omega arith) ∙ zeros-first (length w - used (factsOf w))) in
-      ap (isOfKind 6) word
+      ap (isOfKind strikeKind) word
   kind-after i before [] (x ∷ xs) e d =
       ap (λ (k : ℕ). eqb k 6)
       (kind-at i before
@@ -141,16 +142,16 @@ module _ (w : List ℕ) (book : T (isBook w)) (c m : ℕ) (o : T (isOpen c (fact
   before-length : length before + cond {A = ℕ} (hasExpiration c m (factsOf w)) 1 0 ≡ from
   before-length = simp length-append (omega arith)
 
-  strikes-kind : T (every (isOfKind 6) (take (to - from) (drop from w)))
+  strikes-kind : T (every (isOfKind strikeKind) (take (to - from) (drop from w)))
   strikes-kind =
       let good = strikes-good (length w) (factsOf w) c m (book-good w book) o in
-      subst (λ (l : List ℕ). T (every (isOfKind 6) (take (to - from) (drop from l)))) (book-is w book)
+      subst (λ (l : List ℕ). T (every (isOfKind strikeKind) (take (to - from) (drop from l)))) (book-is w book)
       (rw (strikes-part (length w) (factsOf w) c m (book-good w book) o)
       (kinds-packed (λ k. eqb k 6) (map strikeWord here)
       (every-map (isSeries (factsOf w .now)) isLegal strikeWord (λ s t. search (ands, and-intro)) here good)
-      (every-map (λ s. true) (λ x. eqb (kindIn x) 6) strikeWord (λ s t. tt) here (every-true here))))
+      (every-map (λ s. true) (λ x. eqb (kindIn x) (strikeKind .number)) strikeWord (λ s t. tt) here (every-true here))))
 
-  kind-inside : (i : ℕ) → from ≤ i → i < to → isOfKind 6 (getD w i 0) ≡ true
+  kind-inside : (i : ℕ) → from ≤ i → i < to → isOfKind strikeKind (getD w i 0) ≡ true
   kind-inside i l k =
       let j : ℕ = i - from in
       let a : from + j ≡ i = omega arith in
@@ -161,10 +162,10 @@ module _ (w : List ℕ) (book : T (isBook w)) (c m : ℕ) (o : T (isOpen c (fact
       (omega (arith, strikes-within (length w) (factsOf w) c m (book-good w book) o, book-room w book))) in
       let e : getD (take (to - from) (drop from w)) j 0 ≡ getD w i 0 =
       getD-take (to - from) (drop from w) j 0 b ∙ getD-drop from w j 0 ∙ ap (λ (n : ℕ). getD w n 0) a in
-      sym (ap (isOfKind 6) e)
-      ∙ T-true _ (every-at (isOfKind 6) 0 (take (to - from) (drop from w)) j (omega arith) strikes-kind)
+      sym (ap (isOfKind strikeKind) e)
+      ∙ T-true _ (every-at (isOfKind strikeKind) 0 (take (to - from) (drop from w)) j (omega arith) strikes-kind)
 
-  kind-end : isOfKind 6 (getD w to 0) ≡ false
+  kind-end : isOfKind strikeKind (getD w to 0) ≡ false
   kind-end =
       let word : List Word = expirationUnless (not (hasExpiration c m (factsOf w))) m [] in
       kind-after w book to (before ++ (word ++ map strikeWord here))
@@ -191,14 +192,14 @@ module _ (w : List ℕ) (book : T (isBook w)) (c m : ℕ) (o : T (isOpen c (fact
       go false e =
           let end : to ≡ i = omega (arith, ltb-false i to e) in
           ap (λ (b : Bool). ltb i (used (factsOf w)) && b)
-          (ap (λ (n : ℕ). isOfKind 6 (getD w n 0)) (sym end) ∙ kind-end)
+          (ap (λ (n : ℕ). isOfKind strikeKind (getD w n 0)) (sym end) ∙ kind-end)
           ∙ and-false (ltb i (used (factsOf w)))
 
   -- where the expiration has strikes, the word before such a place is one exactly where the place is not the first
   strike-before : hasExpiration c m (factsOf w) ≡ true → (i : ℕ) → from ≤ i → i ≤ to → isStrikeAt w (i - 1) ≡ ltb from i
   strike-before has i l k = go (ltb from i) refl
     where
-      first : isOfKind 6 (getD w (from - 1) 0) ≡ false
+      first : isOfKind strikeKind (getD w (from - 1) 0) ≡ false
       first =
           ap (λ (n : ℕ). eqb n 6)
           (kind-at w book (from - 1) before (map strikeWord here ++ after) (Expiration m)
@@ -213,7 +214,7 @@ module _ (w : List ℕ) (book : T (isBook w)) (c m : ℕ) (o : T (isOpen c (fact
       go false e =
           let begin : from ≡ i = omega (arith, ltb-false from i e) in
           ap (λ (b : Bool). ltb (i - 1) (used (factsOf w)) && b)
-          (ap (λ (n : ℕ). isOfKind 6 (getD w (n - 1) 0)) (sym begin) ∙ first)
+          (ap (λ (n : ℕ). isOfKind strikeKind (getD w (n - 1) 0)) (sym begin) ∙ first)
           ∙ and-false (ltb (i - 1) (used (factsOf w)))
 
   -- a place has a strike of its expiration before it exactly where it is not the first

@@ -22,7 +22,7 @@ use Rattle.logic.proofs.Tests.{ands}
 use Rattle.book.proofs.Permits.{judged-answer}
 use Rattle.book.proofs.Runs.{strike-within}
 use Rattle.place.specs.declared.lookup.StrikeSearch.{StrikeSearch}
-use Rattle.place.specs.Search.{figuresAt}
+use Rattle.word.specs.Figures.{figuresAt}
 use Rattle.place.proofs.Heads.{book-good, book-room}
 use Rattle.place.proofs.Found.{begins-room}
 use Rattle.strike_call.specs.Judging.{Sought, judged}

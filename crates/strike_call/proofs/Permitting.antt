@@ -30,7 +30,7 @@ use Rattle.book.proofs.Permits.{permitted-beside}
 use Rattle.book.proofs.Runs.{strikes-within, used-within}
 use Rattle.place.specs.declared.lookup.Expiration.{Expiration}
 use Rattle.place.specs.Lookups.{expirationOf}
-use Rattle.place.specs.Search.{figuresAt}
+use Rattle.word.specs.Figures.{figuresAt}
 use Rattle.place.proofs.Heads.{book-month}
 use Rattle.strike_call.proofs.StrikeWords.{standing-words, strikes-rising}
 use Rattle.strike_call.proofs.Settings.{class-open, close-most, close-none, close-known, setting-is}

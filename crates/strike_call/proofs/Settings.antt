@@ -16,7 +16,7 @@ use Rattle.book.specs.Views.{View, viewOf, class, isNotOpen, hasNoClose, settin
 use Rattle.book.specs.Places.{classPlace}
 use Rattle.logic.proofs.Tests.{ands, T-true}
 use Rattle.book.proofs.ClassWords.{class-good}
-use Rattle.place.specs.Search.{figuresAt}
+use Rattle.word.specs.Figures.{figuresAt}
 use Rattle.place.proofs.Heads.{book-good}
 use Rattle.place.proofs.Found.{figures-found}
 

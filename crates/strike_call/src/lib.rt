@@ -7,7 +7,7 @@ ghost use mathlib.Core.List.{[]};
 ghost use mathlib.Core.Path.{_≡_};
 ghost use lib.Dec.{T, ltb};
 ghost use lib.ListN.{getD};
-ghost use Rattle.place.specs.Search.{isOfKind};
+ghost use Rattle.word.specs.Kinds.{isOfKind};
 ghost use Rattle.book.specs.Books.{isBook};
 ghost use Rattle.book.specs.Calls.{on, callA, callI, callJ, callL, callX, isPlace};
 ghost use Rattle.book.specs.Layout.{factsOf, used};

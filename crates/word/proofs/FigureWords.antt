@@ -2,7 +2,7 @@
 -- which are what they say; by each word's test. Assumes nothing.
 use Prim.Native.Nat.{ℕ, _+_, _≤_, _<_}
 use mathlib.Core.Path.{_≡_, refl, sym, _∙_}
-use mathlib.Core.List.{List, _∷_, map}
+use mathlib.Core.List.{List, [], _∷_, _++_, map}
 use native.Mathlib.Numerals.{add-one}
 use native.Mathlib.Omega.{arith}
 use lib.Dec.{T, ltb, leb→le, le→leb}
@@ -93,7 +93,7 @@ module _ (at : ℕ) (ws : List ℕ) (room : at + figuresLength ≤ length ws) wh
 
   -- words that are those of figures say them
   pub figures-read :
-      (r : ClassRecord) (rest : List Word) → T (areFigures r) → map packed (figuresWords r rest) ≡ drop at ws
+      (r : ClassRecord) (rest : List ℕ) → T (areFigures r) → map packed (figuresWords r []) ++ rest ≡ drop at ws
       → figuresAt at ws ≡ r
   figures-read r rest limits e =
       let all = e ∙ words-at in

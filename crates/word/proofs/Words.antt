@@ -14,7 +14,7 @@ use Rattle.word.specs.declared.kind.Kind.{Kind}
 use Rattle.word.specs.Programs.{Program, programs, programCount, program, areDesignations, designationWidth, designationIn, designationsIn, dollarProgram, halfProgram}
 use Rattle.word.specs.Field.{field, end}
 use Rattle.word.specs.Kinds.{kindField, kindOf, keyOf, headKind, usedField, classKind, closeKind, volumeKind, expirationKind, strikeKind, groundField, putField, callField}
-use Rattle.word.specs.Codec.{isLegal, packed, shifted, kindPlaced, FitEach, Fits, fieldsAs, strikeSaid, reading, Word, Head, Class, Close, Volume, Expiration, Strike, Invalid}
+use Rattle.word.specs.Codec.{isLegal, packed, shifted, kindPlaced, FitEach, Fits, fieldsAs, reading, Word, Head, Class, Close, Volume, Expiration, Strike, Invalid}
 use Rattle.logic.proofs.Tests.{and-both}
 use Rattle.word.proofs.RangeTests.{between-high}
 use Rattle.word.proofs.Fields.{field-packed}

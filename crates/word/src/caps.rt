@@ -3,6 +3,7 @@ ghost use mathlib.Core.Path.{_≡_};
 ghost use Prim.Native.Nat.{_+_, _<_};
 ghost use lib.Dec.{leb, ltb};
 ghost use Rattle.word.specs.Caps.{own};
+ghost use Rattle.word.specs.Limits.{longestRun};
 ghost use Rattle.word.specs.Programs.{dollarProgram, halfProgram};
 
 // How many classes have $1 designation 1.
@@ -23,7 +24,7 @@ impl DollarCount {
 
     // The count with one class more.
     pub fn counted(self, designation: u32) -> DollarCount
-        requires { ⌜ self .0 < 65535 ⌝ }
+        requires { ⌜ self .0 < longestRun ⌝ }
         ensures { λ r. ⌜ r .0 ≡ self .0 + own designation ⌝ }
     {
         DollarCount(self.0 + own_class(designation))
@@ -49,7 +50,7 @@ impl HalfCount {
 
     // The count with one class more.
     pub fn counted(self, designation: u32) -> HalfCount
-        requires { ⌜ self .0 < 65535 ⌝ }
+        requires { ⌜ self .0 < longestRun ⌝ }
         ensures { λ r. ⌜ r .0 ≡ self .0 + own designation ⌝ }
     {
         HalfCount(self.0 + own_class(designation))

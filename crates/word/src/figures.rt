@@ -18,7 +18,7 @@ use crate::kind::VOLUME;
 use crate::kind::below_kind;
 use crate::kind::is_bare;
 use crate::kind::is_of_kind;
-use crate::kind::key;
+use crate::kind::key_of;
 use crate::limits::is_close;
 use crate::limits::is_designation;
 use crate::limits::is_volume;
@@ -35,9 +35,9 @@ pub fn read(run: &[u32], at: usize) -> ClassRecord
 {
     let designations = [field_of(run[at], DOLLAR_BITS), field_of(run[at], HALF_BITS)];
     ClassRecord {
-        number: key(run[at], CLASS),
-        close: key(run[at + 1], CLOSE),
-        volume: key(run[at + 2], VOLUME),
+        number: key_of(run[at], CLASS),
+        close: key_of(run[at + 1], CLOSE),
+        volume: key_of(run[at + 2], VOLUME),
         designations,
     }
 }
@@ -56,7 +56,7 @@ fn is_class_above(w: u32, above: u32) -> bool
     ensures { λ r. ⌜ r ≡ isClassAbove above w ⌝ }
 {
     is_bare(w, CLASS, HALF_BITS.low + HALF_BITS.width)
-        & ((above < key(w, CLASS))
+        & ((above < key_of(w, CLASS))
             & (is_designation(field_of(w, DOLLAR_BITS)) & is_designation(field_of(w, HALF_BITS))))
 }
 

@@ -9,7 +9,7 @@ use crate::field::Field;
 use crate::field::field_of;
 use crate::kind::HEAD;
 use crate::kind::is_bare;
-use crate::kind::key;
+use crate::kind::key_of;
 
 // Where the first class begins.
 pub const FIRST: usize = 1;
@@ -21,7 +21,7 @@ pub fn month(run: &[u32]) -> u32
     requires { ⌜ firstPlace ≤ length (now run) ⌝ }
     ensures { λ r. ⌜ r ≡ monthIn (now (run .entry)) ⌝ }
 {
-    key(run[0], HEAD)
+    key_of(run[0], HEAD)
 }
 
 // How many words are used, the head with them.

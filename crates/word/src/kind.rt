@@ -56,7 +56,7 @@ pub fn kind_of(w: u32) -> u32
 }
 
 // The key of a word of the kind.
-pub fn key(w: u32, k: Kind) -> u32
+pub fn key_of(w: u32, k: Kind) -> u32
     requires { ⌜ k .width < 32 ⌝ }
     ensures { λ r. ⌜ r ≡ keyOf k w ⌝ }
 {
@@ -109,7 +109,7 @@ pub fn grade(w: u32, k: Kind) -> u32
     requires { ⌜ k .width ≤ kindField .low ⌝ }
     ensures { λ r. ⌜ r ≡ gradeOf k w ⌝ }
 {
-    kind_of(w) * KINDRED + (KINDRED - 1 - key(w, k))
+    kind_of(w) * KINDRED + (KINDRED - 1 - key_of(w, k))
 }
 
 // The grade of a word of the kind with this key.

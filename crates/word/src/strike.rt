@@ -8,7 +8,7 @@ use crate::kind::KINDRED;
 use crate::kind::NUMBER;
 use crate::kind::STRIKE;
 use crate::kind::is_bare;
-use crate::kind::key;
+use crate::kind::key_of;
 use crate::limits::is_ground;
 
 // A strike, counted in half dollars.
@@ -59,7 +59,7 @@ fn order_of(w: u32) -> u32
         low: NUMBER.low,
         width: NUMBER.width - 1,
     };
-    field_of(w, kind) * KINDRED + key(w, STRIKE)
+    field_of(w, kind) * KINDRED + key_of(w, STRIKE)
 }
 
 // Whether w is a strike word that may follow the word before it. That a first strike is not 0 and a last one not above

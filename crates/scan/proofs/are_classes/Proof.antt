@@ -23,7 +23,7 @@ abbrev μ-loop : tie.MeasureT-loop
 μ-loop current s n ahead₀ i₀ last₀ dollars₀ halves₀ ahead i last dollars halves = length s - i
 
 -- where the words of figures passed their test, from where the class's number is read
-abbrev figured : tie.After-key Inv-loop μ-loop → tie.Else2 Inv-loop μ-loop
+abbrev figured : tie.After-key-of Inv-loop μ-loop → tie.Else2 Inv-loop μ-loop
 figured c = c .before .before
 
 -- the turn of the loop
@@ -34,7 +34,7 @@ abbrev start : tie.At-loop Inv-loop μ-loop → tie.Start Inv-loop μ-loop
 start c = c .before .before .before
 
 -- where the number is read, from where the class is counted
-abbrev numbered : tie.After-counted2 Inv-loop μ-loop → tie.After-key Inv-loop μ-loop
+abbrev numbered : tie.After-counted2 Inv-loop μ-loop → tie.After-key-of Inv-loop μ-loop
 numbered c = c .before .before .before .before
 
 -- where the class is counted, from the tests of the caps on
@@ -50,7 +50,7 @@ counted :
     (c : tie.After-counted2 Inv-loop μ-loop)
     → let at = turn (figured (numbered c)) in
     let args = start at .args in
-    Counted (args .current) (args .s .now) (at .loop .i) (numbered c .key .result)
+    Counted (args .current) (args .s .now) (at .loop .i) (numbered c .key-of .result)
     (c .before .before .counted .result .0) (c .counted2 .result .0)
 counted c =
     let passed = figured (numbered c) in
@@ -59,7 +59,7 @@ counted c =
     let walk =
     walked-counted (loop .inv .0) (passed .before .before .if1 .left)
     (rw (passed .before .are-figures .ensures) at (passed .if2 .left)) in
-    counted-same walk (numbered c .key .ensures)
+    counted-same walk (numbered c .key-of .ensures)
     (dollar .counted .ensures ∙ ap (λ (d : ℕ). loop .dollars .0 + own d) (dollar .before .field-of .ensures))
     (c .counted2 .ensures ∙ ap (λ (d : ℕ). loop .halves .0 + own d) (c .before .field-of2 .ensures))
 
@@ -117,8 +117,8 @@ mul-w c = search needs
 shared-slice-read-w : tie.Need-shared-slice-read-w Inv-loop μ-loop
 shared-slice-read-w c = search needs
 
-key-requires : tie.Need-key-requires Inv-loop μ-loop
-key-requires c κs = search needs
+key-of-requires : tie.Need-key-of-requires Inv-loop μ-loop
+key-of-requires c κs = search needs
 
 field-of-requires : tie.Need-field-of-requires Inv-loop μ-loop
 field-of-requires c κs = search needs
@@ -200,7 +200,7 @@ are-classes-spec =
     returns-2
     mul-w
     shared-slice-read-w
-    key-requires
+    key-of-requires
     field-of-requires
     counted-requires
     field-of-requires-2

@@ -1,21 +1,14 @@
 -- `used` reads the head: a book has a first word, and its field is the fact. Assumes nothing.
 use mathlib.Core.Path.{_∙_}
-use borrow.Author.Needs.{needs}
 use Rattle.place.proofs.Heads.{book-long, head-says}
 use Rattle.place.proofs.head.used.Statement.{statement}
 use Rattle.place.proofs.head.used.Tie as tie
 
-shared-slice-read-field-of : tie.Need-shared-slice-read-field-of
-shared-slice-read-field-of c = book-long _ (c .before .before .pre) .0
-
-field-of-requires : tie.Need-field-of-requires
-field-of-requires c κs = search needs
-
-cast-result : tie.Need-cast-result
-cast-result c = search needs
+used-requires : tie.Need-used-requires
+used-requires c κs = book-long _ (c .before .pre) .0
 
 returns : tie.Need-returns
-returns c = c .field-of .ensures ∙ head-says _ (c .before .before .before .pre) .1
+returns c = c .used .ensures ∙ head-says _ (c .before .before .pre) .1
 
 pub used-spec : {M : Type 1} → statement M
-used-spec = tie.close (tie.spec shared-slice-read-field-of field-of-requires cast-result returns)
+used-spec = tie.close (tie.spec used-requires returns)

@@ -8,6 +8,7 @@ use native.Mathlib.Omega.{arith}
 use lib.ListN.{take, drop, getD}
 use borrow.Author.Needs.{needs}
 use borrow.Author.Tests.{eqb-true}
+use Rattle.word.specs.Kinds.{classKind}
 use Rattle.word.specs.Limits.{isClassNumber}
 use Rattle.logic.proofs.Tests.{and-both, T-true}
 use Rattle.word.proofs.RangeTests.{between-high}
@@ -42,13 +43,13 @@ holds-number :
     (c : tie.Then2)
     → let found = c .before in
     let u = near found in
-    isHolding 2 14 (start u .args .c) (getD (words u) (found .found-near .result) 0) ≡ true
+    isHolding classKind (start u .args .c) (getD (words u) (found .found-near .result) 0) ≡ true
 holds-number c =
     let found = c .before in
     let u = near found in
     let a = start u .args in
     let there = found .found-near .ensures in
-    rw there (near-holds (a .near - 1) (words u) 2 14 (a .c) (rw there at (c .if2 .taken)))
+    rw there (near-holds (a .near - 1) (words u) classKind (a .c) (rw there at (c .if2 .taken)))
 
 -- ---- what is to be shown there
 
@@ -63,9 +64,6 @@ part-words-start c = search needs
 
 part-words-end : tie.Need-part-words-end
 part-words-end c = omega (arith, book-room _ (start c .pre .0))
-
-sub-found-near : tie.Need-sub-found-near
-sub-found-near c = search needs
 
 found-near-requires : tie.Need-found-near-requires
 found-near-requires c κs =
@@ -113,7 +111,6 @@ class-near-spec =
     sub-words
     part-words-start
     part-words-end
-    sub-found-near
     found-near-requires
     add-result
     returns

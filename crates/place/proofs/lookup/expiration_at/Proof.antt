@@ -4,6 +4,7 @@ use native.Mathlib.Omega.{arith}
 use lib.Dec.{leb→le}
 use lib.ListN.{length}
 use borrow.Author.Needs.{needs}
+use Rattle.word.specs.Limits.{lastMonth}
 use Rattle.book.specs.Layout.{used, factsOf}
 use Rattle.place.proofs.Heads.{book-room}
 use Rattle.place.proofs.Found.{begins-room}
@@ -44,7 +45,7 @@ first-requires c κs =
     record {
       is-kind = omega arith;
       narrow = omega arith;
-      small = omega (arith, leb→le (s .args .m) 1023 (s .pre .month));
+      small = omega (arith, leb→le (s .args .m) lastMonth (s .pre .month));
     }
 
 add-result : tie.Need-add-result

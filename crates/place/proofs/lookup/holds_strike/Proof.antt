@@ -3,6 +3,7 @@ use mathlib.Core.Path.{_∙_}
 use native.Mathlib.Omega.{arith}
 use lib.ListN.{getD}
 use borrow.Author.Needs.{needs}
+use Rattle.word.specs.Kinds.{strikeKind}
 use Rattle.book.specs.Layout.{used, factsOf}
 use Rattle.place.specs.Search.{isHolding}
 use Rattle.place.proofs.Heads.{book-room}
@@ -16,7 +17,7 @@ used-requires c κs = search needs
 returns : tie.Need-returns
 returns c =
     let a = c .before .before .before .args in
-    not-used (a .at) (used (factsOf (a .run .now))) (isHolding 6 15 (a .h) (getD (a .run .now) (a .at) 0)) (omega arith)
+    not-used (a .at) (used (factsOf (a .run .now))) (isHolding strikeKind (a .h) (getD (a .run .now) (a .at) 0)) (omega arith)
 
 mul-holds : tie.Need-mul-holds
 mul-holds c = omega (arith, book-room _ (c .before .before .before .pre))
@@ -31,7 +32,7 @@ returns-2 : tie.Need-returns-2
 returns-2 c =
     let a = c .before .before .before .before .before .args in
     c .holds .ensures
-    ∙ is-used (a .at) (used (factsOf (a .run .now))) (isHolding 6 15 (a .h) (getD (a .run .now) (a .at) 0)) (omega arith)
+    ∙ is-used (a .at) (used (factsOf (a .run .now))) (isHolding strikeKind (a .h) (getD (a .run .now) (a .at) 0)) (omega arith)
 
 pub holds-strike-spec : {M : Type 1} → statement M
 holds-strike-spec =

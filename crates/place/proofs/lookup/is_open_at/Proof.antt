@@ -1,4 +1,5 @@
--- `is_open_at` says whether a class is open: the word where it would stand holds its number exactly then. Assumes nothing.
+-- `is_open_at` says whether a class is open: the word where it would stand holds its number exactly then. Assumes
+-- nothing.
 use Prim.Native.Nat.{ℕ}
 use mathlib.Core.Path.{ap, _∙_}
 use native.Mathlib.Omega.{arith}
@@ -10,6 +11,10 @@ use Rattle.place.proofs.Answers.{not-used, is-used}
 use Rattle.place.proofs.lookup.is_open_at.Statement.{statement}
 use Rattle.place.proofs.lookup.is_open_at.Tie as tie
 
+-- where the function begins, from where the word is known to be used
+abbrev start : tie.After-shared-slice-known2 → tie.Start
+start c = c .before .before .before .before
+
 used-requires : tie.Need-used-requires
 used-requires c κs = search needs
 
@@ -18,19 +23,19 @@ returns c =
     let s = c .before .before .before in
     not-used (s .args .at) _ _ (omega arith) ∙ class-found _ (s .pre .0) (s .args .c) (s .args .at) (s .pre .1)
 
-mul-field-of : tie.Need-mul-field-of
-mul-field-of c = omega (arith, book-room _ (c .before .before .before .pre .0))
+mul-key-of : tie.Need-mul-key-of
+mul-key-of c = omega (arith, book-room _ (c .before .before .before .pre .0))
 
-shared-slice-read-field-of : tie.Need-shared-slice-read-field-of
-shared-slice-read-field-of c = omega (arith, book-room _ (c .before .before .before .before .pre .0))
+shared-slice-read-key-of : tie.Need-shared-slice-read-key-of
+shared-slice-read-key-of c = omega (arith, book-room _ (c .before .before .before .before .pre .0))
 
-field-of-requires : tie.Need-field-of-requires
-field-of-requires c κs = search needs
+key-of-requires : tie.Need-key-of-requires
+key-of-requires c κs = search needs
 
 returns-2 : tie.Need-returns-2
 returns-2 c =
-    let s = c .before .before .before .before .before in
-    ap (λ (k : ℕ). eqb k (s .args .c)) (c .field-of .ensures)
+    let s = start (c .before) in
+    ap (λ (k : ℕ). eqb k (s .args .c)) (c .key-of .ensures)
     ∙ is-used (s .args .at) _ _ (omega arith)
     ∙ class-found _ (s .pre .0) (s .args .c) (s .args .at) (s .pre .1)
 
@@ -40,7 +45,7 @@ is-open-at-spec =
     (tie.spec
     used-requires
     returns
-    mul-field-of
-    shared-slice-read-field-of
-    field-of-requires
+    mul-key-of
+    shared-slice-read-key-of
+    key-of-requires
     returns-2)

@@ -5,6 +5,7 @@ use native.Mathlib.Omega.{arith}
 use lib.Dec.{leb→le}
 use lib.ListN.{length}
 use borrow.Author.Needs.{needs}
+use Rattle.word.specs.Limits.{lastMonth}
 use Rattle.book.specs.Layout.{used, factsOf}
 use Rattle.place.proofs.Heads.{book-room}
 use Rattle.place.proofs.Answers.{used-there, no-expiration, its-strikes}
@@ -24,8 +25,8 @@ stands c = c .before .before
 
 -- ---- what is known there
 
-month-small : (s : tie.Start) → s .args .m ≤ 1023
-month-small s = leb→le (s .args .m) 1023 (s .pre .month)
+month-small : (s : tie.Start) → s .args .m ≤ lastMonth
+month-small s = leb→le (s .args .m) lastMonth (s .pre .month)
 
 -- the word of the expiration is one of those used, which are words of the run
 within :
@@ -80,8 +81,8 @@ part-first-end c = omega (arith, within (c .before))
 first-requires : tie.Need-first-requires
 first-requires c κs = search needs
 
-add-t16 : tie.Need-add-t16
-add-t16 c = omega (arith, within (c .before .before .before))
+add-to : tie.Need-add-to
+add-to c = omega (arith, within (c .before .before .before))
 
 returns-2 : tie.Need-returns-2
 returns-2 c =
@@ -109,5 +110,5 @@ look-up-expiration-spec =
     part-first-start
     part-first-end
     first-requires
-    add-t16
+    add-to
     returns-2)

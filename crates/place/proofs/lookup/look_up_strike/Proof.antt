@@ -5,7 +5,7 @@ use native.Mathlib.Omega.{arith}
 use lib.Dec.{leb→le}
 use lib.ListN.{length}
 use borrow.Author.Needs.{needs}
-use Rattle.word.specs.Limits.{isStrike}
+use Rattle.word.specs.Limits.{isStrike, lastMonth}
 use Rattle.word.proofs.RangeTests.{between-high}
 use Rattle.book.specs.Layout.{used, factsOf}
 use Rattle.logic.proofs.Tests.{T-true}
@@ -31,8 +31,8 @@ stands c = c .before .before
 strike-small : (s : tie.Start) → s .args .h < 2 ^ 28
 strike-small s = omega (arith, between-high 1 19999 (s .args .h) (T-true (isStrike (s .args .h)) (s .pre .1)))
 
-month-small : (s : tie.Start) → s .args .m ≤ 1023
-month-small s = leb→le (s .args .m) 1023 (s .pre .0 .month)
+month-small : (s : tie.Start) → s .args .m ≤ lastMonth
+month-small s = leb→le (s .args .m) lastMonth (s .pre .0 .month)
 
 -- the word of the expiration is one of those used, which are words of the run
 within :

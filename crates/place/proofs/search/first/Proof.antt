@@ -1,42 +1,57 @@
--- `first` finds the first word by blocks: what is left of the words has it, until the block at the index has it or fewer than 16 words are left. Assumes nothing.
-use Prim.Native.Nat.{_+_, _-_, _≤_}
-use mathlib.Core.Path.{_≡_}
+-- `first` finds the first word by blocks: what is left of the words has it, until the block at the index has it or fewer
+-- words than a block has are left. Assumes nothing.
+use Prim.Native.Nat.{ℕ, _+_, _-_, _≤_}
+use mathlib.Core.Path.{_≡_, ap, _∙_}
 use native.Mathlib.Omega.{arith}
 use lib.Count.{trailingZeros, trailing-le}
 use lib.Dec.{leb}
 use lib.ListN.{length}
 use borrow.Author.Needs.{needs}
-use Rattle.place.specs.Search.{firstAt, gradeOf, isUpTo}
+use Rattle.word.specs.Kinds.{gradeOf}
+use Rattle.place.specs.Search.{firstAt, isUpTo}
 use Rattle.place.proofs.Firsts.{Seeking, seek-start, seek-rest, seek-digit, seek-no-digit}
 use Rattle.place.proofs.search.first.Statement.{statement}
 use Rattle.place.proofs.search.first.Tie as tie
 
 abbrev Inv-loop : tie.InvT-loop
-Inv-loop words kind width key most i₀ i = Seeking (λ w. leb (gradeOf width w) most) words i
+Inv-loop words kind key most i₀ i = Seeking (λ w. leb (gradeOf kind w) most) words i
 
 abbrev μ-loop : tie.MeasureT-loop
-μ-loop words kind width key most i₀ i = length words - i
+μ-loop words kind key most i₀ i = length words - i
+
+-- where the function begins, from a turn of the loop
+abbrev start : tie.At-loop Inv-loop μ-loop → tie.Start Inv-loop μ-loop
+start c = c .before .before .before
+
+-- the grade that is sought is that of the key
+graded :
+    (c : tie.At-loop Inv-loop μ-loop) → let a = start c .args in
+    firstAt (λ w. leb (gradeOf (a .kind) w) (c .before .grade-at .result)) (a .words .now)
+    ≡ firstAt (isUpTo (a .kind) (a .key)) (a .words .now)
+graded c =
+    let a = start c .args in
+    ap (λ (most : ℕ). firstAt (λ w. leb (gradeOf (a .kind) w) most) (a .words .now)) (c .before .grade-at .ensures)
+
+-- the turn of the loop, from where a block is known to have a word
+abbrev turn : tie.Then1 Inv-loop μ-loop → tie.At-loop Inv-loop μ-loop
+turn c = c .before .before .before .before
 
 -- the first 1 of a block's bits
 digit :
     (c : tie.Then1 Inv-loop μ-loop)
-    → let l = c .before .before .before .before in
-    let a = l .before .before .args in
-    let i = l .loop .i in
+    → let a = start (turn c) .args in
+    let i = turn c .loop .i in
     let zeros = trailingZeros 32 (c .before .graded-of-16 .result) in
-    (i + zeros - 1 ≡ firstAt (isUpTo (a .kind) (a .width) (a .key)) (a .words .now)) × (1 ≤ zeros) × (zeros ≤ 16)
+    (i + zeros - 1 ≡ firstAt (isUpTo (a .kind) (a .key)) (a .words .now)) × (1 ≤ zeros) × (zeros ≤ 16)
 digit c =
-    let l = c .before .before .before .before .loop in
-    seek-digit _ _ (l .i) (l .inv) 16 _ (omega arith) (c .before .graded-of-16 .ensures) 32 (omega arith) (c .if1 .taken)
+    let l = turn c .loop in
+    let found =
+    seek-digit _ _ (l .i) (l .inv) 16 _ (omega arith) (c .before .graded-of-16 .ensures) 32 (omega arith)
+    (c .if1 .taken) in
+    (found .0 ∙ graded (turn c), found .1, found .2)
 
-mul-most : tie.Need-mul-most Inv-loop μ-loop
-mul-most c = search needs
-
-sub-most : tie.Need-sub-most Inv-loop μ-loop
-sub-most c = search needs
-
-add-most : tie.Need-add-most Inv-loop μ-loop
-add-most c = search needs
+grade-at-requires : tie.Need-grade-at-requires Inv-loop μ-loop
+grade-at-requires c κs = search needs
 
 loop-holds : tie.Need-loop-holds Inv-loop μ-loop
 loop-holds c = seek-start _ _
@@ -104,7 +119,10 @@ add-result-2 : tie.Need-add-result-2 Inv-loop μ-loop
 add-result-2 c = search needs
 
 returns-2 : tie.Need-returns-2 Inv-loop μ-loop
-returns-2 c = seek-rest _ _ _ (c .before .before .before .loop .inv) _ (c .first-plainly .ensures .0)
+returns-2 c =
+    let at = c .before .before .before in
+    let found = seek-rest _ _ _ (at .loop .inv) _ (c .first-plainly .ensures .0) in
+    (found .0 ∙ graded at, found .1)
 
 pub first-spec : {M : Type 1} → statement M
 first-spec =
@@ -112,9 +130,7 @@ first-spec =
     (tie.spec
     Inv-loop
     μ-loop
-    mul-most
-    sub-most
-    add-most
+    grade-at-requires
     loop-holds
     sub-loop
     add-graded-of-16

@@ -6,16 +6,16 @@ use lib.Dec.{leb}
 use lib.ListN.{length}
 use borrow.Author.Needs.{needs}
 use borrow.Author.Tests.{le-leb, lt-leb}
-use Rattle.place.specs.Search.{gradeOf}
+use Rattle.word.specs.Kinds.{gradeOf}
 use Rattle.place.proofs.Firsts.{Seeking, seek-start, seek-hit, seek-miss, seek-end}
 use Rattle.place.proofs.search.first_plainly.Statement.{statement}
 use Rattle.place.proofs.search.first_plainly.Tie as tie
 
 abbrev Inv-loop : tie.InvT-loop
-Inv-loop words width most i₀ i = Seeking (λ w. leb (gradeOf width w) most) words i
+Inv-loop words kind most i₀ i = Seeking (λ w. leb (gradeOf kind w) most) words i
 
 abbrev μ-loop : tie.MeasureT-loop
-μ-loop words width most i₀ i = length words - i
+μ-loop words kind most i₀ i = length words - i
 
 loop-holds : tie.Need-loop-holds Inv-loop μ-loop
 loop-holds c = seek-start _ _

@@ -2,32 +2,35 @@
 -- what is left from `low` on has it, and one that holds the key is it. Assumes nothing.
 use Prim.Native.Nat.{ℕ, _+_, _-_, _*_, _/_, _^_, _≤_, _<_}
 use mathlib.Core.Path.{_≡_, sym, ap₂, _∙_}
-use mathlib.Core.Bool.{true, _&&_}
+use mathlib.Core.Bool.{Bool, true, _&&_}
 use mathlib.Core.List.{List}
 use mathlib.Core.Logic.{⊎-elim}
 use native.Mathlib.Nat.{div-le-self, mul-le-mul}
 use native.Mathlib.Omega.{arith}
-use lib.Dec.{eqb, leb}
+use lib.Dec.{leb}
 use lib.ListN.{length, getD}
 use lib.Pow.{pow-mono}
 use borrow.Author.Needs.{needs}
 use Rattle.logic.proofs.Tests.{and-both}
-use Rattle.place.specs.Search.{isOfKind, isFrom}
+use Rattle.word.specs.Limits.{highestClass, longestRun}
+use Rattle.word.proofs.Fields.{field-less}
+use Rattle.word.specs.Kinds.{isOfKind}
+use Rattle.place.specs.Search.{isFrom}
 use Rattle.place.proofs.Firsts.{part-passes, Seeking, seek-start, seek-before, seek-hit, seek-end, seek-rest}
-use Rattle.place.proofs.Words.{field-less, part-from}
+use Rattle.place.proofs.Words.{part-from}
 use Rattle.place.proofs.search.first_rising.Statement.{statement}
 use Rattle.place.proofs.search.first_rising.Tie as tie
 
 abbrev Inv-loop : tie.InvT-loop
-Inv-loop words of width key n most low₀ high₀ below₀ above₀ known₀ turn₀ low high below above known turn =
-    (low ≤ high) × (high ≤ length words) × Seeking (isFrom of width key) words low × (turn < 8)
+Inv-loop words kind key n most low₀ high₀ below₀ above₀ known₀ turn₀ low high below above known turn =
+    (low ≤ high) × (high ≤ length words) × Seeking (isFrom kind key) words low × (turn < 8)
 
 abbrev μ-loop : tie.MeasureT-loop
-μ-loop words of width key n most low₀ high₀ below₀ above₀ known₀ turn₀ low high below above known turn = high - low
+μ-loop words kind key n most low₀ high₀ below₀ above₀ known₀ turn₀ low high below above known turn = high - low
 
 -- ---- the places of the proof
 
-abbrev entry : tie.After-kind Inv-loop μ-loop → tie.Start Inv-loop μ-loop
+abbrev entry : tie.After-is-of-kind Inv-loop μ-loop → tie.Start Inv-loop μ-loop
 entry c = c .before .before .before .before
 
 -- where the first word is not it
@@ -35,7 +38,7 @@ abbrev opened : tie.Else2 Inv-loop μ-loop → tie.Start Inv-loop μ-loop
 opened c = entry (c .before .before .before)
 
 abbrev start : tie.At-loop Inv-loop μ-loop → tie.Start Inv-loop μ-loop
-start c = opened (c .before .before)
+start c = opened (c .before .before .before)
 
 -- before the places where a guess is made, where the next word of the kind is sought and where it is found: the loop
 abbrev turn-of : tie.Joined4 Inv-loop μ-loop → tie.At-loop Inv-loop μ-loop
@@ -65,7 +68,7 @@ words c = start (in-turn c) .args .words .now
 -- ---- what is known there
 
 key-small : (s : tie.Start Inv-loop μ-loop) → s .args .key < 2 ^ 14
-key-small s = omega (arith, s .pre .small, pow-mono {i = s .args .width} {j = 14} (s .pre .narrow))
+key-small s = omega (arith, s .pre .small, pow-mono {i = s .args .kind .width} {j = 14} (s .pre .narrow))
 
 -- the guess is within the words left
 guess-within : (c : tie.Joined4 Inv-loop μ-loop) → middle c < turn-of c .loop .high
@@ -77,7 +80,7 @@ next-within c = omega (arith, guess-within (guess-of (c .before)))
 
 -- .. which is of the kind
 of-kind :
-    (c : tie.Else5 Inv-loop μ-loop) → isOfKind (start (in-turn c) .args .of) (getD (words c) (next c) 0) ≡ true
+    (c : tie.Else5 Inv-loop μ-loop) → isOfKind (start (in-turn c) .args .kind) (getD (words c) (next c) 0) ≡ true
 of-kind c =
     let from = middle (guess-of (c .before)) in
     let l = in-turn c .loop in
@@ -85,82 +88,82 @@ of-kind c =
     let a = s .args in
     let is-next =
     c .before .first .ensures .0
-    ∙ part-from (a .of) (a .width) 0 (omega arith) (words c) (l .high - from) from (s .pre .no-lower) in
-    and-both _ _ (part-passes (words c) _ _ (l .inv .1) (isFrom (a .of) (a .width) 0) 0 _ is-next (next-within c)) .0
+    ∙ part-from (a .kind) 0 (omega arith) (words c) (l .high - from) from (s .pre .no-lower) in
+    and-both _ _ (part-passes (words c) _ _ (l .inv .1) (isFrom (a .kind) 0) 0 _ is-next (next-within c)) .0
 
 -- the words up to one that holds less are passed
 passed :
     (c : tie.Then7 Inv-loop μ-loop)
     → let t = found-of (c .before) in
     let a = start (in-turn t) .args in
-    Seeking (isFrom (a .of) (a .width) (a .key)) (words t) (next t + 1)
+    Seeking (isFrom (a .kind) (a .key)) (words t) (next t + 1)
 passed c =
     let t = found-of (c .before) in
     let rises = start (in-turn t) .pre .rises in
-    let held = c .before .before .field-of2 .ensures in
+    let held = c .before .before .key-of2 .ensures in
     seek-before _ _ _
     (omega (arith, rises .below _ (omega (arith, next-within t)) (of-kind t) (omega (arith, held))))
 
 -- what it holds
-held-small : (c : tie.Then7 Inv-loop μ-loop) → c .before .before .field-of2 .result < 2 ^ 14
+held-small : (c : tie.Then7 Inv-loop μ-loop) → c .before .before .key-of2 .result < 2 ^ 14
 held-small c =
     let t = found-of (c .before) in
     let s = start (in-turn t) in
     omega (
       arith,
-      c .before .before .field-of2 .ensures,
-      field-less (getD (words t) (next t) 0) 0 (s .args .width) 14 (s .pre .narrow),
+      c .before .before .key-of2 .ensures,
+      field-less (getD (words t) (next t) 0) (record { low = 0; width = s .args .kind .width }) 14 (s .pre .narrow),
     )
 
 -- .. times the words left after it is a small number
 product-small :
     (c : tie.Then7 Inv-loop μ-loop)
     → let t = found-of (c .before) in
-    c .before .before .field-of2 .result * (in-turn t .loop .high - (next t + 1)) ≤ 16383 * 65535
+    c .before .before .key-of2 .result * (in-turn t .loop .high - (next t + 1)) ≤ highestClass * longestRun
 product-small c =
     let t = found-of (c .before) in
     let l = in-turn t .loop in
     let few = start (in-turn t) .pre .few in
-    mul-le-mul {n₁ = c .before .before .field-of2 .result} {m₁ = l .high - (next t + 1)} {n₂ = 16383} {m₂ = 65535}
+    mul-le-mul {n₁ = c .before .before .key-of2 .result} {m₁ = l .high - (next t + 1)} {n₂ = highestClass} {m₂ = longestRun}
     (omega (arith, held-small c)) (omega (arith, few, l .inv .1))
 
 quotient-small :
     (c : tie.Then7 Inv-loop μ-loop)
     → let t = found-of (c .before) in
-    let product = c .before .before .field-of2 .result * (in-turn t .loop .high - (next t + 1)) in
+    let product = c .before .before .key-of2 .result * (in-turn t .loop .high - (next t + 1)) in
     product / (next t + 1) ≤ product
 quotient-small c =
     let t = found-of (c .before) in
-    div-le-self (c .before .before .field-of2 .result * (in-turn t .loop .high - (next t + 1))) (next t + 1)
+    div-le-self (c .before .before .key-of2 .result * (in-turn t .loop .high - (next t + 1))) (next t + 1)
 
 -- ---- what is to be shown there
 
 returns : tie.Need-returns Inv-loop μ-loop
 returns c =
     let a = c .before .before .args in
-    let test = isFrom (a .of) (a .width) (a .key) in
+    let test = isFrom (a .kind) (a .key) in
     (seek-end test (a .words .now) 0 (seek-start test (a .words .now)) (omega arith), omega arith)
 
-shared-slice-read-kind : tie.Need-shared-slice-read-kind Inv-loop μ-loop
-shared-slice-read-kind c = omega arith
+shared-slice-read-is-of-kind : tie.Need-shared-slice-read-is-of-kind Inv-loop μ-loop
+shared-slice-read-is-of-kind c = omega arith
 
-kind-requires : tie.Need-kind-requires Inv-loop μ-loop
-kind-requires c κs = search needs
+is-of-kind-requires : tie.Need-is-of-kind-requires Inv-loop μ-loop
+is-of-kind-requires c κs = search needs
 
-shared-slice-read-field-of : tie.Need-shared-slice-read-field-of Inv-loop μ-loop
-shared-slice-read-field-of c = omega arith
+shared-slice-read-key-of : tie.Need-shared-slice-read-key-of Inv-loop μ-loop
+shared-slice-read-key-of c = omega arith
 
-field-of-requires : tie.Need-field-of-requires Inv-loop μ-loop
-field-of-requires c κs = search needs
+key-of-requires : tie.Need-key-of-requires Inv-loop μ-loop
+key-of-requires c κs = search needs
 
 returns-2 : tie.Need-returns-2 Inv-loop μ-loop
 returns-2 c =
     let f = c .before in
     let k = f .before .before in
     let a = entry k .args in
-    let test = isFrom (a .of) (a .width) (a .key) in (
+    let test = isFrom (a .kind) (a .key) in (
       seek-hit test (a .words .now) 0 0 (seek-start test (a .words .now)) (omega arith)
-          (ap₂ (λ (x y : ℕ). eqb x (a .of) && leb (a .key) y) (sym (k .kind .ensures)) (sym (f .field-of .ensures))
+          (ap₂ (λ (x : Bool) (y : ℕ). x && leb (a .key) y) (sym (k .is-of-kind .ensures)) (sym (f .key-of .ensures))
           ∙ c .if2 .taken),
       omega arith,
     )
@@ -169,10 +172,10 @@ shl-most : tie.Need-shl-most Inv-loop μ-loop
 shl-most c = search needs
 
 mul-if3 : tie.Need-mul-if3 Inv-loop μ-loop
-mul-if3 c = omega (arith, key-small (opened c))
+mul-if3 c = omega (arith, key-small (opened (c .before)))
 
 mul-above : tie.Need-mul-above Inv-loop μ-loop
-mul-above c = omega (arith, key-small (opened (c .before)))
+mul-above c = omega (arith, key-small (opened (c .before .before)))
 
 loop-holds : tie.Need-loop-holds Inv-loop μ-loop
 loop-holds c = (omega arith, omega arith, seek-start _ _, omega arith)
@@ -218,21 +221,21 @@ loop-again c =
     let j = guess-of (c .before) in
     (omega arith, omega (arith, guess-within j), turn-of j .loop .inv .2, omega arith)
 
-mul-field-of : tie.Need-mul-field-of Inv-loop μ-loop
-mul-field-of c = omega (arith, next-within c)
+mul-key-of : tie.Need-mul-key-of Inv-loop μ-loop
+mul-key-of c = omega (arith, next-within c)
 
-shared-slice-read-field-of-2 : tie.Need-shared-slice-read-field-of-2 Inv-loop μ-loop
-shared-slice-read-field-of-2 c = omega (arith, next-within (c .before))
+shared-slice-read-key-of-2 : tie.Need-shared-slice-read-key-of-2 Inv-loop μ-loop
+shared-slice-read-key-of-2 c = omega (arith, next-within (c .before))
 
-field-of-requires-2 : tie.Need-field-of-requires-2 Inv-loop μ-loop
-field-of-requires-2 c κs = search needs
+key-of-requires-2 : tie.Need-key-of-requires-2 Inv-loop μ-loop
+key-of-requires-2 c κs = search needs
 
 returns-3 : tie.Need-returns-3 Inv-loop μ-loop
 returns-3 c =
     let read = c .before in
     let t = read .before .before in
     let rises = start (in-turn t) .pre .rises in (
-      rises .equal _ (omega (arith, next-within t)) (of-kind t) (sym (read .field-of2 .ensures) ∙ c .if6 .taken),
+      rises .equal _ (omega (arith, next-within t)) (of-kind t) (sym (read .key-of2 .ensures) ∙ c .if6 .taken),
       omega (arith, next-within t),
     )
 
@@ -310,7 +313,7 @@ returns-4 c =
     let left = length (a .words .now) - low in
     let small : a .key < 2 ^ 28 = omega (arith, key-small s) in
     seek-rest _ _ _ (l .loop .inv .2) _
-    (c .first2 .ensures .0 ∙ part-from (a .of) (a .width) (a .key) small (a .words .now) left low (s .pre .no-lower))
+    (c .first2 .ensures .0 ∙ part-from (a .kind) (a .key) small (a .words .now) left low (s .pre .no-lower))
 
 pub first-rising-spec : {M : Type 1} → statement M
 first-rising-spec =
@@ -319,10 +322,10 @@ first-rising-spec =
     Inv-loop
     μ-loop
     returns
-    shared-slice-read-kind
-    kind-requires
-    shared-slice-read-field-of
-    field-of-requires
+    shared-slice-read-is-of-kind
+    is-of-kind-requires
+    shared-slice-read-key-of
+    key-of-requires
     returns-2
     shl-most
     mul-if3
@@ -341,9 +344,9 @@ first-rising-spec =
     add-next
     loop-less
     loop-again
-    mul-field-of
-    shared-slice-read-field-of-2
-    field-of-requires-2
+    mul-key-of
+    shared-slice-read-key-of-2
+    key-of-requires-2
     returns-3
     add-low
     sub-above

@@ -78,27 +78,27 @@ amid c =
 first-about :
     (c : tie.After-first)
     → let a = entry (about c) .args in
-    a .near - beforeCount + c .first .result ≡ firstAbout (a .near) (a .of) (a .width) (a .key) (a .words .now)
+    a .near - beforeCount + c .first .result ≡ firstAbout (a .near) (a .kind) (a .key) (a .words .now)
 first-about c =
     let a = entry (about c) .args in
     let from = a .near - beforeCount in
     let width : from + aboutCount - from ≡ aboutCount = omega arith in
     ap (λ (k : ℕ). from + k)
     (c .first .ensures .0
-    ∙ ap (λ (k : ℕ). firstAt (isUpTo (a .of) (a .width) (a .key)) (take k (drop from (a .words .now)))) width)
+    ∙ ap (λ (k : ℕ). firstAt (isUpTo (a .kind) (a .key)) (take k (drop from (a .words .now)))) width)
 
 -- .. and whether it holds the key decide, where the word at `near` does not
 else-found :
     (c : tie.After-holds2) (held : Bool) → c .holds2 .result ≡ held
     → let a = entry (about (searched c)) .args in
     cond {A = ℕ} held (a .near - beforeCount + searched c .first .result) (length (a .words .now))
-    ≡ foundNear (a .near) (a .of) (a .width) (a .key) (a .words .now)
+    ≡ foundNear (a .near) (a .kind) (a .key) (a .words .now)
 else-found c held e =
     let there = searched c in
     let a = entry (about there) .args in
     let at = a .near - beforeCount + there .first .result in
     ap (λ (b : Bool). cond {A = ℕ} b at (length (a .words .now))) (sym e ∙ c .holds2 .ensures)
-    ∙ near-about (a .near) (a .words .now) (a .of) (a .width) (a .key) (amid (about there))
+    ∙ near-about (a .near) (a .words .now) (a .kind) (a .key) (amid (about there))
     (sym (missed there .before .holds .ensures) ∙ missed there .if3 .left) at (first-about there)
 
 -- ---- what is to be shown there
@@ -135,7 +135,7 @@ returns-3 : tie.Need-returns-3
 returns-3 c =
     let here = amidst (c .before) in
     let a = entry here .args in
-    near-there (a .near) (a .words .now) (a .of) (a .width) (a .key) (amid here)
+    near-there (a .near) (a .words .now) (a .kind) (a .key) (amid here)
     (sym (c .before .holds .ensures) ∙ c .if3 .taken)
 
 sub-from : tie.Need-sub-from

@@ -14,24 +14,24 @@ use lib.Seq.{take-all}
 use borrow.Author.Needs.{needs}
 use borrow.Author.Tests.{le-leb, lt-leb}
 use Rattle.word.specs.Digits.{binary}
-use Rattle.place.specs.Search.{gradeOf}
+use Rattle.word.specs.Kinds.{gradeOf}
 use Rattle.place.proofs.Firsts.{doubled-more}
 use Rattle.place.proofs.search.graded_of_16.Statement.{statement}
 use Rattle.place.proofs.search.graded_of_16.Tie as tie
 
 abbrev Inv-loop : tie.InvT-loop
-Inv-loop block width most bits₀ i₀ bits i =
-    (i ≤ 16) × (bits ≡ 2 * binary (map (λ w. leb (gradeOf width w) most) (take i block)))
+Inv-loop block kind most bits₀ i₀ bits i =
+    (i ≤ 16) × (bits ≡ 2 * binary (map (λ w. leb (gradeOf kind w) most) (take i block)))
 
 abbrev μ-loop : tie.MeasureT-loop
-μ-loop block width most bits₀ i₀ bits i = 16 - i
+μ-loop block kind most bits₀ i₀ bits i = 16 - i
 
 -- the bit of the word at i
 word-bit :
     (c : tie.Joined1 Inv-loop μ-loop)
     → let l = c .before .before .before .before .loop in
     let a = c .before .before .before .before .before .before .args in
-    c .if1 .bit ≡ 2 * cond {A = ℕ} (leb (gradeOf (a .width) (getD (a .block .now) (l .i) 0)) (a .most)) (2 ^ l .i) 0
+    c .if1 .bit ≡ 2 * cond {A = ℕ} (leb (gradeOf (a .kind) (getD (a .block .now) (l .i) 0)) (a .most)) (2 ^ l .i) 0
 word-bit c =
     let k = c .before in
     let i = k .before .before .before .loop .i in
@@ -71,14 +71,14 @@ loop-again c =
     let a = s .before .before .args in (
       omega arith,
       ap₂ bitOr (s .loop .inv .1) (word-bit (c .before))
-          ∙ doubled-more (λ w. leb (gradeOf (a .width) w) (a .most)) 0 (a .block .now) (s .loop .i) (omega arith),
+          ∙ doubled-more (λ w. leb (gradeOf (a .kind) w) (a .most)) 0 (a .block .now) (s .loop .i) (omega arith),
     )
 
 returns : tie.Need-returns Inv-loop μ-loop
 returns c =
     let s = c .before in
     let a = s .before .before .args in
-    s .loop .inv .1 ∙ ap (λ (l : List ℕ). 2 * binary (map (λ w. leb (gradeOf (a .width) w) (a .most)) l)) (take-all (s .loop .i) (a .block .now) (omega arith))
+    s .loop .inv .1 ∙ ap (λ (l : List ℕ). 2 * binary (map (λ w. leb (gradeOf (a .kind) w) (a .most)) l)) (take-all (s .loop .i) (a .block .now) (omega arith))
 
 pub graded-of-16-spec : {M : Type 1} → statement M
 graded-of-16-spec =

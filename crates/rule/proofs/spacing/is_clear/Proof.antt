@@ -4,8 +4,8 @@ use borrow.Author.Needs.{needs}
 use Rattle.rule.proofs.spacing.is_clear.Statement.{statement}
 use Rattle.rule.proofs.spacing.is_clear.Tie as tie
 
-key-requires : tie.Need-key-requires
-key-requires c κs = search needs
+key-of-requires : tie.Need-key-of-requires
+key-of-requires c κs = search needs
 
 field-of-requires : tie.Need-field-of-requires
 field-of-requires c κs = search needs
@@ -40,14 +40,14 @@ returns c =
       long .before .is-crowded2 .ensures,
       crowded .is-crowded .ensures,
       crowded .before .field-of .ensures,
-      crowded .before .before .key .ensures,
+      crowded .before .before .key-of .ensures,
     )
 
 pub is-clear-spec : {M : Type 1} → statement M
 is-clear-spec =
     tie.close
     (tie.spec
-    key-requires
+    key-of-requires
     field-of-requires
     is-crowded-requires
     is-crowded-requires-2

@@ -9,8 +9,8 @@ add-is-bare c = search needs
 is-bare-requires : tie.Need-is-bare-requires
 is-bare-requires c κs = search needs
 
-key-requires : tie.Need-key-requires
-key-requires c κs = search needs
+key-of-requires : tie.Need-key-of-requires
+key-of-requires c κs = search needs
 
 field-of-requires : tie.Need-field-of-requires
 field-of-requires c κs = search needs
@@ -30,7 +30,7 @@ returns c =
     let number = dollar .before .before in
     simp (
       number .before .is-bare .ensures,
-      number .key .ensures,
+      number .key-of .ensures,
       dollar .before .field-of .ensures,
       dollar .is-designation .ensures,
       c .before .field-of2 .ensures,
@@ -43,7 +43,7 @@ is-class-above-spec =
     (tie.spec
     add-is-bare
     is-bare-requires
-    key-requires
+    key-of-requires
     field-of-requires
     is-designation-requires
     field-of-requires-2

@@ -22,38 +22,38 @@ shared-slice-read-field-of-2 c = search needs
 field-of-requires-2 : tie.Need-field-of-requires-2
 field-of-requires-2 c κs = search needs
 
-mul-key : tie.Need-mul-key
-mul-key c = search needs
+mul-key-of : tie.Need-mul-key-of
+mul-key-of c = search needs
 
-shared-slice-read-key : tie.Need-shared-slice-read-key
-shared-slice-read-key c = search needs
+shared-slice-read-key-of : tie.Need-shared-slice-read-key-of
+shared-slice-read-key-of c = search needs
 
-key-requires : tie.Need-key-requires
-key-requires c κs = search needs
+key-of-requires : tie.Need-key-of-requires
+key-of-requires c κs = search needs
 
-add-key : tie.Need-add-key
-add-key c = search needs
+add-key-of : tie.Need-add-key-of
+add-key-of c = search needs
 
-mul-key-2 : tie.Need-mul-key-2
-mul-key-2 c = search needs
+mul-key-of-2 : tie.Need-mul-key-of-2
+mul-key-of-2 c = search needs
 
-shared-slice-read-key-2 : tie.Need-shared-slice-read-key-2
-shared-slice-read-key-2 c = search needs
+shared-slice-read-key-of-2 : tie.Need-shared-slice-read-key-of-2
+shared-slice-read-key-of-2 c = search needs
 
-key-requires-2 : tie.Need-key-requires-2
-key-requires-2 c κs = search needs
+key-of-requires-2 : tie.Need-key-of-requires-2
+key-of-requires-2 c κs = search needs
 
-add-key-2 : tie.Need-add-key-2
-add-key-2 c = search needs
+add-key-of-2 : tie.Need-add-key-of-2
+add-key-of-2 c = search needs
 
-mul-key-3 : tie.Need-mul-key-3
-mul-key-3 c = search needs
+mul-key-of-3 : tie.Need-mul-key-of-3
+mul-key-of-3 c = search needs
 
-shared-slice-read-key-3 : tie.Need-shared-slice-read-key-3
-shared-slice-read-key-3 c = search needs
+shared-slice-read-key-of-3 : tie.Need-shared-slice-read-key-of-3
+shared-slice-read-key-of-3 c = search needs
 
-key-requires-3 : tie.Need-key-requires-3
-key-requires-3 c κs = search needs
+key-of-requires-3 : tie.Need-key-of-requires-3
+key-of-requires-3 c κs = search needs
 
 returns : tie.Need-returns
 returns c =
@@ -64,9 +64,9 @@ returns c =
     let dollar = half .before .before in
     λ i.
     record {
-      number = number .key .ensures i;
-      close = close .key2 .ensures i;
-      volume = volume .key3 .ensures i;
+      number = number .key-of .ensures i;
+      close = close .key-of2 .ensures i;
+      volume = volume .key-of3 .ensures i;
       designations = dollar .field-of .ensures i ∷ half .field-of2 .ensures i ∷ [];
     }
 
@@ -80,15 +80,15 @@ read-spec =
     mul-field-of-2
     shared-slice-read-field-of-2
     field-of-requires-2
-    mul-key
-    shared-slice-read-key
-    key-requires
-    add-key
-    mul-key-2
-    shared-slice-read-key-2
-    key-requires-2
-    add-key-2
-    mul-key-3
-    shared-slice-read-key-3
-    key-requires-3
+    mul-key-of
+    shared-slice-read-key-of
+    key-of-requires
+    add-key-of
+    mul-key-of-2
+    shared-slice-read-key-of-2
+    key-of-requires-2
+    add-key-of-2
+    mul-key-of-3
+    shared-slice-read-key-of-3
+    key-of-requires-3
     returns)
