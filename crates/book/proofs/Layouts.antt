@@ -11,7 +11,7 @@ use borrow.Author.Tests.{eqb-true}
 use Rattle.logic.specs.Lists.{sum, every}
 use Rattle.word.specs.Codec.{Word, Head, Invalid, isLegal, packed, reading}
 use Rattle.word.specs.Limits.{isLength, isMonth}
-use Rattle.logic.proofs.Tests.{and-both, and-intro, ands, T-true}
+use Rattle.logic.proofs.Tests.{and-intro, ands, parts, T-true}
 use Rattle.word.proofs.Words.{reading-packed}
 use Rattle.book.specs.Facts.{Series, OpenClass, Facts, fresh, expirations, wordsTaken, wordsOf}
 use Rattle.word.specs.Figures.{figuresWords, areFigures}
@@ -151,8 +151,9 @@ words-legal now xs good = T-true (every isLegal (classesWords xs [])) (classes-l
 read-words : (ws : List Word) → every isLegal ws ≡ true → map reading (map packed ws) ≡ ws
 read-words [] legal = refl
 read-words (w ∷ ws) legal =
-    let p = and-both (isLegal w) (every isLegal ws) legal in
-    λ i. reading-packed w (p .0) i ∷ read-words ws (p .1) i
+    let first = reading-packed w (search parts) in
+    let rest = read-words ws (search parts) in
+    λ i. first i ∷ rest i
 
 read-zeros : (k : ℕ) → map reading (replicate k 0) ≡ replicate k Invalid
 unfolding reading

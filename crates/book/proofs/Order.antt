@@ -15,7 +15,7 @@ use Rattle.word.specs.declared.answer.Refusal.{Refusal}
 use Rattle.word.specs.declared.answer.Refusal.the-variants.{BeyondLimits, OutOfWords}
 use Rattle.word.specs.Answers.{refusalNumber, answerNumber, rank, isAccepted, strikesListed}
 use Rattle.word.proofs.Refusals.{accepted-zero}
-use Rattle.logic.proofs.Tests.{and-both, and-intro, ands, T-true, equal-test, or-left, or-right}
+use Rattle.logic.proofs.Tests.{and-intro, ands, parts, T-true, equal-test, or-left, or-right}
 use Rattle.book.specs.Facts.{Facts, number}
 use Rattle.book.specs.Views.{View, viewOf}
 use Rattle.book.specs.Changes.{Deed, monthBecomes, opens, becomes, grows, designates, writes, nothing, factsAfter, listOf}
@@ -231,7 +231,9 @@ module _ (n room : ℕ) (x : Call) (f : Facts) where
       go false = refl
 
   pub accepted-granted : isAccepted (answerTo n room x f) ≡ true → isGranted n x f ≡ true
-  accepted-granted e = and-both (isGranted n x f) (not exceeds) (sym accepted-exactly ∙ e) .0
+  accepted-granted e =
+      let both : (isGranted n x f && not exceeds) ≡ true = sym accepted-exactly ∙ e in
+      search parts
 
   -- what a call writes fits the second run
   pub written-fits : length (written n room x f) ≤ room
@@ -240,8 +242,8 @@ module _ (n room : ℕ) (x : Call) (f : Facts) where
     where
       go : (b : Bool) → isAccepted (answerTo n room x f) ≡ b → length (cond b (listOf (effect x f .does)) []) ≤ room
       go true e =
-          let fits = and-both (isGranted n x f) (not exceeds) (sym accepted-exactly ∙ e) .1 in
-          ltb-false room (length (listOf (effect x f .does))) (not-true exceeds fits)
+          let both : (isGranted n x f && not exceeds) ≡ true = sym accepted-exactly ∙ e in
+          ltb-false room (length (listOf (effect x f .does))) (not-true exceeds (search parts))
       go false e = zero-le
 
   -- the answer tells how many words are written

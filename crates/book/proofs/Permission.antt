@@ -11,10 +11,10 @@ use Rattle.word.specs.declared.answer.Answer.the-variants.{Ground, Listed, Refu
 use Rattle.word.specs.declared.answer.Refusal.the-variants.{BeyondLimits, NotOpen, MonthOutside, NoClose, OutOfWords}
 use Rattle.word.specs.Answers.{answerNumber, answerValue, isAccepted}
 use Rattle.word.specs.Limits.{isClassNumber, isMonth}
-use Rattle.logic.proofs.Tests.{and-both, ands, T-true, at-most}
+use Rattle.logic.proofs.Tests.{ands, parts, T-true, at-most}
+use Rattle.logic.proofs.Numbers.{only-rises, only-exactly}
 use Rattle.logic.specs.Lists.{some, Rising}
 use Rattle.rule.specs.Terms.{isOutside}
-use Rattle.rule.proofs.Permitted.{only-rises, only-exactly}
 use Rattle.word.specs.Programs.{program}
 use Rattle.book.specs.Facts.{Facts, owned, wordsTaken}
 use Rattle.book.specs.Layout.{factsOf}
@@ -101,8 +101,9 @@ module _ {w w′ : List ℕ} {r : Answer} (book : T (isBook w)) where
         go false p short s e = e
         go true p false s e = e
         go true p true s e =
-            let both = and-both (isPlace c m h) (noneApplies (judging m h (viewOf c (factsOf w)))) p in
-            let none : T (noneApplies asked) = rw (both .0, both .1) tt in
+            let place : isPlace c m h ≡ true = search parts in
+            let judged : noneApplies (judging m h (viewOf c (factsOf w))) ≡ true = search parts in
+            let none : T (noneApplies asked) = rw (place, judged) tt in
             let drew : answerTo (length w) 0 (on c (callL m h)) (factsOf w) ≡ Refused (OutOfWords 0) =
             rw s
             (first-after (Ground (groundOf (viewOf c (factsOf w)) m h)) asked (OutOfWords 0)
@@ -205,8 +206,9 @@ pub permitted-exactly :
     → some (eqb h) (permittedIn m (viewOf c f)) ≡ isPermitted c m h f
 unfolding permittedIn effectOn
 permitted-exactly c m h f limits =
-    let both = and-both (isClassNumber c) (isMonth m) limits in
+    let class : isClassNumber c ≡ true = search parts in
+    let month : isMonth m ≡ true = search parts in
     only-exactly (λ i. noneApplies (judging m i (viewOf c f))) 19999 1 h
     ∙ ap (λ (t : Bool). leb 1 h && t && noneApplies (judging m h (viewOf c f))) (leb·suc-suc h 19999)
-    ∙ (rw (both .0, both .1))
+    ∙ (rw (class, month))
     ∙ judged-exactly 0 c m h f

@@ -16,13 +16,14 @@ use Rattle.rule.specs.Terms.{isOutside}
 use Rattle.rule.specs.Ends.{highEnd}
 use Rattle.rule.specs.Spacing.{Standing}
 use Rattle.rule.specs.Judgement.{passesGrid, passesRange, passes, refusalOf, groundFrom, decided, judgement, isPermittedBeside, permitted}
-use Rattle.rule.proofs.Tests.{and-left}
-use Rattle.rule.proofs.Most.{refused-above, only-short}
+use Rattle.rule.proofs.Most.{refused-above}
 use Rattle.book.specs.Facts.{inMonth}
 use Rattle.book.specs.Views.{View, isNotOpen, isStanding, hasNoClose, setting, standingIn, rows, groundOf}
 use Rattle.book.specs.Calls.{Condition, draws, firstOr, noneApplies, judging, permittedIn}
 use Rattle.book.specs.Permission.{isPermittedBy}
+use Rattle.logic.proofs.Tests.{parts}
 use Rattle.logic.proofs.Lists.{some-map}
+use Rattle.logic.proofs.Numbers.{only-short}
 use Rattle.book.proofs.Order.{first-accepted}
 use Rattle.logic.proofs.Parts.{some-both}
 
@@ -61,10 +62,10 @@ some-less p q less (r ∷ rs) e = go (p r) refl (q r) refl e (some-less p q less
     go false x false y t rest = rest t
 
 passes-range : (r : List Bool) → passes r ≡ true → passesRange r ≡ true
-passes-range r e = and-left (passesRange r) (getD r 2 false) e
+passes-range r e = search parts
 
 range-grid : (r : List Bool) → passesRange r ≡ true → passesGrid r ≡ true
-range-grid r e = and-left (passesGrid r) (getD r 1 false) e
+range-grid r e = search parts
 
 -- the lowest refusal that the rules draw is the judgement's, and so is the ground
 pub ruled-answer : (rs : List (List Bool)) → firstOr (Ground (answerValue (decided rs))) (ruled rs) ≡ decided rs

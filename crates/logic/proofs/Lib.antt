@@ -3,3 +3,7 @@ pub mod Tests
 pub mod Lists
 pub mod Parts
 pub mod Splits
+pub mod Walks
+pub mod Multiples
+pub mod Numbers
+pub mod Stores

@@ -1,21 +1,23 @@
 -- Lists under any test and any order: what keeping some, changing each and inserting one leave of `every`, `some`,
 -- `rises` and sums, through the form in which each element stands before all later ones. Assumes nothing.
-use Prim.Native.Nat.{ℕ, zero, suc, _+_, _≤_, _<_, zero-le}
+use Prim.Native.Nat.{ℕ, zero, suc, _+_, _-_, _≤_, _<_, zero-le}
 use mathlib.Core.Path.{_≡_, refl, sym, ap, _∙_, subst}
 use mathlib.Core.Bool.{Bool, true, false, cond, not, _&&_, _||_, or-true}
 use mathlib.Core.List.{List, [], _∷_, map}
-use mathlib.Core.Logic.{inl, inr}
+use mathlib.Core.Logic.{inl, inr, ⊎-elim}
 use native.Mathlib.Omega.{arith}
 use lib.ListN.{length, getD}
 use lib.Dec.{T, T-not}
-use Rattle.logic.specs.Lists.{every, some, only, sum, rises, inserted}
-use Rattle.logic.proofs.Tests.{and-intro, ands, or-cases}
+use Rattle.logic.specs.Lists.{every, some, only, sum, Rising, rises, inserted}
+use Rattle.logic.proofs.Tests.{and-intro, ands, or-cases, or-left, or-right, refuted}
 
 pub not-some : {A : Type 0} (test : A → Bool) (xs : List A) → not (some test xs) ≡ every (λ x. not (test x)) xs
 not-some test [] = refl
 not-some test (x ∷ xs) = go (test x) (not-some test xs)
   where
-    go : (t : Bool) → not (some test xs) ≡ every (λ x. not (test x)) xs → not (t || some test xs) ≡ (not t && every (λ x. not (test x)) xs)
+    go :
+        (t : Bool) → not (some test xs) ≡ every (λ x. not (test x)) xs
+        → not (t || some test xs) ≡ (not t && every (λ x. not (test x)) xs)
     go true r = refl
     go false r = r
 
@@ -47,14 +49,19 @@ module _ {A : Type 0} where
       and-intro (p x) (every p xs) (each 0 (omega arith))
       (every-places p none xs (λ i l. each (suc i) (omega arith)))
 
+  pub every-not :
+      (p : A → Bool) (none : A) (xs : List A) (i : ℕ) → i < length xs → p (getD xs i none) ≡ false → every p xs ≡ false
+  every-not p none xs i l e = sym (refuted (every p xs) (λ t. rw e at (every-at p none xs i l t)))
+
+  pub every-mapped :
+      {B : Type 0} (p : B → Bool) (g : A → B) (xs : List A) → every p (map g xs) ≡ every (λ x. p (g x)) xs
+  every-mapped p g [] = refl
+  every-mapped p g (x ∷ xs) = ap (λ (t : Bool). p (g x) && t) (every-mapped p g xs)
+
   pub every-map :
       {B : Type 0} (p : A → Bool) (q : B → Bool) (g : A → B) → ((x : A) → T (p x) → T (q (g x))) → (xs : List A)
       → T (every p xs) → T (every q (map g xs))
-  every-map p q g f [] t = tt
-  every-map p q g f (x ∷ xs) t =
-      let a : T (q (g x)) = f x (search ands) in
-      let b : T (every q (map g xs)) = every-map p q g f xs (search ands) in
-      search and-intro
+  every-map p q g f xs t = rw (every-mapped q g xs) (every-imply p (λ x. q (g x)) f xs t)
 
   pub every-only :
       (p q keep : A → Bool) → ((x : A) → T (keep x) → T (p x) → T (q x)) → (xs : List A) → T (every p xs)
@@ -66,7 +73,22 @@ module _ {A : Type 0} where
       go true e rest = let a : T (q x) = f x (rw e tt) (search ands) in search and-intro
       go false e rest = rest
 
-  pub some-map : {B : Type 0} (p : B → Bool) (q : A → Bool) (g : A → B) → ((x : A) → p (g x) ≡ q x) → (xs : List A) → some p (map g xs) ≡ some q xs
+  -- what follows from each that passes
+  pub some-cases : {P : Type 0} (p : A → Bool) (xs : List A) → ((x : A) → T (p x) → P) → T (some p xs) → P
+  some-cases p [] each t = absurd t
+  some-cases p (x ∷ xs) each t = ⊎-elim (each x) (some-cases p xs each) (or-cases (p x) (some p xs) t)
+
+  pub some-imply : (p q : A → Bool) → ((x : A) → T (p x) → T (q x)) → (xs : List A) → T (some p xs) → T (some q xs)
+  some-imply p q f [] t = t
+  some-imply p q f (x ∷ xs) t =
+      ⊎-elim
+      (λ u. or-left (q x) (some q xs) (f x u))
+      (λ u. or-right (q x) (some q xs) (some-imply p q f xs u))
+      (or-cases (p x) (some p xs) t)
+
+  pub some-map :
+      {B : Type 0} (p : B → Bool) (q : A → Bool) (g : A → B) → ((x : A) → p (g x) ≡ q x) → (xs : List A)
+      → some p (map g xs) ≡ some q xs
   some-map p q g f [] = refl
   some-map p q g f (x ∷ xs) = let r = some-map p q g f xs in λ i. f x i || r i
 
@@ -86,6 +108,21 @@ module _ {A : Type 0} where
   sum-map size g l (x ∷ xs) = omega (arith, l x, sum-map size g l xs)
 
 -- ---- lists that rise
+
+-- numbers that rise do so by at least one from place to place
+pub rising-at :
+    {A : Type 0} (f : A → ℕ) (none : A) (xs : List A) → Rising (map f xs) → (i j : ℕ) → i ≤ j → j < length xs
+    → f (getD xs i none) + (j - i) ≤ f (getD xs j none)
+rising-at f none [] r i j l k = absurd (omega arith)
+rising-at f none (x ∷ xs) r zero zero l k = omega arith
+rising-at f none (x ∷ xs) r (suc i) zero l k = absurd (omega arith)
+rising-at f none (x ∷ []) r i (suc j) l k = absurd (omega arith)
+rising-at f none (x ∷ y ∷ ys) r zero (suc j) l k =
+    let m = rising-at f none (y ∷ ys) (r .1) zero j (omega arith) (omega arith) in
+    omega (arith, r .0)
+rising-at f none (x ∷ y ∷ ys) r (suc i) (suc j) l k =
+    let m = rising-at f none (y ∷ ys) (r .1) i j (omega arith) (omega arith) in
+    omega arith
 
 -- the order depends on a key alone
 rises-keys :

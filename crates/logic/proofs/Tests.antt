@@ -1,11 +1,12 @@
 -- Tests joined by `and` and `or`, tests that fail, the test of equal numbers and numbers in order: by cases on the tests.
--- Assumes nothing.
+-- That a test passes is said by `T`; `true-T` and its kin lead there from what the branches of code give. Assumes
+-- nothing.
 use Prim.Native.Nat.{ℕ, _≤_, _<_}
-use mathlib.Core.Path.{_≡_, refl, sym}
-use mathlib.Core.Bool.{Bool, true, false, not, _&&_, _||_}
+use mathlib.Core.Path.{_≡_, refl, sym, ap, _∙_}
+use mathlib.Core.Bool.{Bool, true, false, not, _&&_, _||_, and-false}
 use mathlib.Core.Logic.{_⊎_, inl, inr, ⊎-elim}
 use native.Mathlib.Omega.{arith}
-use lib.Dec.{T, eqb, leb, ltb, eqb→eq, eqb-refl}
+use lib.Dec.{T, eqb, leb, ltb, leb→le, le→leb, ltb→lt, eqb→eq, eqb-refl}
 use borrow.Author.Tests.{ltb-true, ltb-false, leb-true, leb-false, lt-ltb, le-ltb, eqb-true, eqb-false}
 
 pub and-left : (a b : Bool) → T (a && b) → T a
@@ -29,6 +30,16 @@ T-true false t = absurd t
 
 pub true-T : (b : Bool) → b ≡ true → T b
 true-T b e = rw e tt
+
+-- `search parts` does so where a test is said to be `true`, too
+pub ruleset parts = (ands, true-T, T-true)
+
+pub T-false : (b : Bool) → T (not b) → b ≡ false
+T-false true t = absurd t
+T-false false t = refl
+
+pub false-T : (b : Bool) → b ≡ false → T (not b)
+false-T b e = rw e tt
 
 pub equal-test : (m n : ℕ) → m ≡ n → T (eqb m n)
 equal-test m n e = rw e (eqb-refl n)
@@ -63,6 +74,9 @@ pub nor-right : (a b : Bool) → T (not (a || b)) → T (not b)
 nor-right true b t = absurd t
 nor-right false b t = t
 
+-- `search none-of` finds that a part of a test by `or` fails
+pub ruleset none-of = (nor-left, nor-right, T-false, false-T)
+
 pub not-not : (b : Bool) → T (not (not b)) → T b
 not-not true t = tt
 not-not false t = t
@@ -86,19 +100,40 @@ pub or-else : (a b : Bool) → T (a || b) → (T a → ⊥) → T b
 or-else true b t fails = absurd (fails tt)
 or-else false b t fails = t
 
-pub or-none : (a b : Bool) → (a || b) ≡ false → (a ≡ false) × (b ≡ false)
-or-none true b e = (e, cc)
-or-none false b e = (refl, e)
-
 pub refuted : (a : Bool) → (T a → ⊥) → false ≡ a
 refuted true fails = absurd (fails tt)
 refuted false fails = refl
 
--- ---- a test as `true` or `false`, as the branches of code give it
+-- ---- tests that agree
 
-pub and-both : (a b : Bool) → (a && b) ≡ true → (a ≡ true) × (b ≡ true)
-and-both true b h = (refl, h)
-and-both false b h = (h, cc)
+-- two tests need agree only where the one before them passes
+pub and-where : (a b b′ : Bool) → (T a → b ≡ b′) → (a && b) ≡ (a && b′)
+and-where true b b′ e = e tt
+and-where false b b′ e = refl
+
+-- or those on both sides
+pub and-middle : (a b b′ c : Bool) → (T a → T c → b ≡ b′) → (a && b && c) ≡ (a && b′ && c)
+and-middle true b b′ true e = ap (λ (t : Bool). t && true) (e tt tt)
+and-middle true b b′ false e = and-false b ∙ sym (and-false b′)
+and-middle false b b′ c e = refl
+
+-- a test that a later one implies may go
+pub and-implied : (a b c d : Bool) → (T c → T a) → (a && b && (c && d)) ≡ (c && b && d)
+and-implied a b true d e = rw (T-true a (e tt))
+and-implied a b false d e = and-false (a && b)
+
+-- four tests pass where none fails
+pub none-fails : (a b c d : Bool) → (not a && b && not c && not d) ≡ not (a || not b || c || d)
+none-fails true b c d = refl
+none-fails false true true d = refl
+none-fails false true false d = refl
+none-fails false false c d = refl
+
+pub same-leb : (a b c d : ℕ) → (a ≤ b → c ≤ d) → (c ≤ d → a ≤ b) → leb a b ≡ leb c d
+same-leb a b c d to from =
+    same-bool (leb a b) (leb c d) (λ t. le→leb c d (to (leb→le a b t))) (λ t. le→leb a b (from (leb→le c d t)))
+
+-- ---- one way or the other
 
 pub bool-cases : (t : Bool) → (t ≡ true) ⊎ (t ≡ false)
 bool-cases true = inl refl
@@ -110,15 +145,11 @@ lt-or-le m n = ⊎-elim (λ e. inl (ltb-true m n e)) (λ e. inr (ltb-false m n e
 pub eq-or-not : (m n : ℕ) → (m ≡ n) ⊎ (m ≡ n → ⊥)
 eq-or-not m n = ⊎-elim (λ e. inl (eqb-true m n e)) (λ e. inr (eqb-false m n e)) (bool-cases (eqb m n))
 
-pub one-of : (a b : Bool) → (a || b) ≡ true → (a ≡ true) ⊎ (b ≡ true)
-one-of true b h = inl refl
-one-of false b h = inr h
-
 module _ (low high n : ℕ) where
   pub outside : (ltb n low || ltb high n) ≡ true → (n < low) ⊎ (high < n)
-  outside h = ⊎-elim (λ e. inl (ltb-true n low e)) (λ e. inr (ltb-true high n e)) (one-of (ltb n low) (ltb high n) h)
+  outside e =
+      ⊎-elim (λ t. inl (ltb→lt n low t)) (λ t. inr (ltb→lt high n t))
+      (or-cases (ltb n low) (ltb high n) (true-T (ltb n low || ltb high n) e))
 
   pub inside : (ltb n low || ltb high n) ≡ false → (low ≤ n) × (n ≤ high)
-  inside h =
-      let both = or-none (ltb n low) (ltb high n) h in
-      (ltb-false n low (both .0), ltb-false high n (both .1))
+  inside e = (ltb-false n low (search none-of), ltb-false high n (search none-of))

@@ -23,6 +23,11 @@ abbrev pub upFrom : ℕ → ℕ → List ℕ
 upFrom zero h = []
 upFrom (suc n) h = h ∷ upFrom n (suc h)
 
+-- the first of the n numbers from g up that passes the test, or g + n where none does
+abbrev pub firstFrom : (ℕ → Bool) → ℕ → ℕ → ℕ
+firstFrom test zero g = g
+firstFrom test (suc n) g = cond (test g) g (firstFrom test n (g + 1))
+
 -- each number is below the next one
 abbrev pub Rising : List ℕ → Type 0
 Rising [] = Unit {0}

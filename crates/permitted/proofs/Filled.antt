@@ -1,4 +1,5 @@
--- The permitted strikes are written where all have a place; where that is not plain a first turn counts them, with no place lent: writing to no place changes nothing. Assumes nothing.
+-- The permitted strikes are written where all have a place; where that is not plain a first turn counts them, with no
+-- place lent: writing to no place changes nothing. Assumes nothing.
 use Prim.Native.Nat.{ℕ, _-_, _≤_, _<_}
 use mathlib.Core.Path.{_≡_, refl, sym, ap, ap₂, _∙_}
 use mathlib.Core.List.{List, [], _∷_, _++_, append-nil}
@@ -8,31 +9,36 @@ use native.Mathlib.Omega.{arith}
 use lib.ListN.{length, take, drop, drop-of-length-le}
 use lib.Seq.{sets, sets-eq, length-sets, length-front, take-all}
 use borrow.Author.Tests.{lt-ltb, le-ltb}
+use Rattle.logic.proofs.Stores.{sets-none}
 use Rattle.word.specs.declared.answer.Answer.the-variants.{Listed, Refused}
 use Rattle.word.specs.declared.answer.Refusal.the-variants.{OutOfWords}
 use Rattle.permitted.specs.Listing.{Filled}
 
-sets-none : (vs : List ℕ) (i : ℕ) → sets [] i vs ≡ []
-sets-none [] i = refl
-sets-none (v ∷ vs) i = sets-none vs _
+-- all places are lent, and they are enough
+abbrev Whole : List ℕ → List ℕ → ℕ → Type 0
+Whole strikes v room = (room ≡ length v) × (length strikes ≤ length v)
 
 -- a turn begins: the run `second` is as it came, v, and lends no place, or all places where they are enough
 pub record Turn (strikes v second : List ℕ) (room : ℕ) : Type 0 where
   pub same : second ≡ v
-  pub lent : (room ≡ 0) ⊎ ((room ≡ length v) × (length strikes ≤ length v))
+  pub lent : (room ≡ 0) ⊎ Whole strikes v room
 
 module _ {strikes v second : List ℕ} {room : ℕ} (t : Turn strikes v second room) where
   pub turn-within : room ≤ length second
   turn-within =
-      ⊎-elim (λ (e : room ≡ 0). omega arith) (λ (e : (room ≡ length v) × (length strikes ≤ length v)). omega (arith, ap length (t .same))) (t .lent)
+      ⊎-elim (λ (e : room ≡ 0). omega arith) (λ (e : Whole strikes v room). omega (arith, ap length (t .same)))
+      (t .lent)
 
   -- `part` is what comes back of the places that are lent
-  module _ {part : List ℕ} {count : ℕ} (done : (count ≡ length strikes) × (part ≡ sets (take (room - 0) second) 0 strikes)) where
+  module _ {part : List ℕ} {count : ℕ}
+      (done : (count ≡ length strikes) × (part ≡ sets (take (room - 0) second) 0 strikes)) where
     abbrev back : List ℕ
     back = part ++ drop (room - 0) second
 
     pub same-long : length back ≡ length v
-    same-long = length-front second part (room - 0) (ap length (done .1) ∙ length-sets (take (room - 0) second) 0 strikes) ∙ ap length (t .same)
+    same-long =
+        length-front second part (room - 0) (ap length (done .1) ∙ length-sets (take (room - 0) second) 0 strikes)
+        ∙ ap length (t .same)
 
     unchanged : room ≡ 0 → back ≡ v
     unchanged e =
@@ -46,7 +52,7 @@ module _ {strikes v second : List ℕ} {room : ℕ} (t : Turn strikes v second r
           answer = rw (lt-ltb (length v) (length strikes) short, done .0);
           second =
               rw (lt-ltb (length v) (length strikes) short)
-              (⊎-elim unchanged (λ (e : (room ≡ length v) × (length strikes ≤ length v)). absurd (omega arith)) (t .lent));
+              (⊎-elim unchanged (λ (e : Whole strikes v room). absurd (omega arith)) (t .lent));
         }
 
     pub filled-all : count ≤ length back → room ≡ length back → Filled strikes v (Listed count) back
@@ -57,7 +63,8 @@ module _ {strikes v second : List ℕ} {room : ℕ} (t : Turn strikes v second r
           answer = rw (le-ltb (length v) (length strikes) fits, done .0);
           second =
               rw (le-ltb (length v) (length strikes) fits)
-              (ap₂ _++_ (done .1 ∙ ap (λ (l : List ℕ). sets l 0 strikes) (take-all (room - 0) second long ∙ t .same)) (drop-of-length-le second long)
+              (ap₂ _++_ (done .1 ∙ ap (λ (l : List ℕ). sets l 0 strikes) (take-all (room - 0) second long ∙ t .same))
+              (drop-of-length-le second long)
               ∙ append-nil (sets v 0 strikes)
               ∙ sets-eq strikes v 0 (rw zero-add fits)
               ∙ rw zero-add);
@@ -66,7 +73,8 @@ module _ {strikes v second : List ℕ} {room : ℕ} (t : Turn strikes v second r
     -- a turn that isn't the last had no place, and the next one has all
     module _ (partly : room ≡ length back → ⊥) where
       counted : room ≡ 0
-      counted = ⊎-elim (λ (e : room ≡ 0). e) (λ (e : (room ≡ length v) × (length strikes ≤ length v)). absurd (partly (e .0 ∙ sym same-long))) (t .lent)
+      counted =
+          ⊎-elim (λ (e : room ≡ 0). e) (λ (e : Whole strikes v room). absurd (partly (e .0 ∙ sym same-long))) (t .lent)
 
       pub turn-less : length back - length back < length second - room
       turn-less = omega (arith, counted, same-long, ap length (t .same))

@@ -1,5 +1,4 @@
 pub mod Strikes
-pub mod Filling
 pub mod Trying
 pub mod Parts
 pub mod Filled

@@ -1,7 +1,7 @@
 -- The permitted strikes of a range are written rung by rung: below the height that is reached all are written. Those of
 -- the range are all of them. Assumes nothing.
 use mathlib.Core.Path.{_≡_, refl, sym, ap, ap₂, _∙_}
-use mathlib.Core.Bool.{Bool, true≢false}
+use mathlib.Core.Bool.{Bool}
 use mathlib.Core.List.{List, _++_, map}
 use Prim.Native.Nat.{ℕ, _+_, _-_, _≤_, _<_, min, max}
 use native.Mathlib.Nat.{add-sub-cancel, zero-add}
@@ -11,6 +11,8 @@ use lib.Seq.{sets}
 use Rattle.rule.specs.declared.terms.Setting.{Setting}
 use Rattle.rule.specs.declared.bounds.Rung.{Rung}
 use Rattle.logic.specs.Lists.{only, upFrom}
+use Rattle.logic.proofs.Numbers.{left, left-none, left-skip, left-parts}
+use Rattle.logic.proofs.Stores.{Filling, filling-start, filling-as, filling-more, filling-done}
 use Rattle.rule.specs.Ends.{lowEnd, highEnd, rungs, Climbs}
 use Rattle.rule.specs.Spacing.{standingOf}
 use Rattle.rule.specs.Judgement.{isPermittedBeside, permitted}
@@ -21,8 +23,6 @@ use Rattle.rule.proofs.Most.{permitted-short}
 use Rattle.permitted.specs.declared.Progress.{Progress}
 use Rattle.permitted.specs.declared.Range.{Range}
 use Rattle.permitted.specs.Listing.{Listable, permittedBetween, above, Behind, Continuable, Climbable, Continued}
-use Rattle.permitted.proofs.Filling.{left, left-none, left-skip, left-parts}
-use Rattle.permitted.proofs.Filling.{Filling, filling-start, filling-as, filling-more, filling-done}
 use Rattle.permitted.proofs.Trying.{closed-refused, behind-more}
 
 -- the permitted strikes of the range below h are written to o from `at` on, which is now b, by the rungs before i
@@ -151,7 +151,7 @@ module _ (s : Setting) (ws : List ℕ) {low : ℕ} (e : low ≡ max (lowEnd (s .
       permitted-short s (map standingOf ws)
       ∙ ap (λ (n : ℕ). only all (upFrom n 1)) (sym (add-sub-cancel (highEnd s) 1))
       ∙ left-skip all (highEnd s + 1) (low - 1) 1
-      (λ i l m k. closed-refused s ws i (λ q. true≢false (sym q ∙ closed-below s i (omega arith))))
+      (λ i l m k. closed-refused s ws i (λ t. rw (closed-below s i (omega arith)) at t))
       ∙ ap (left all (highEnd s + 1)) sum
 
   pub range-done : {r : Progress} {o b : List ℕ} →

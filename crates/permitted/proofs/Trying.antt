@@ -1,42 +1,35 @@
 -- The multiples that are tried, one after another from the lowest to the highest: no strike between them is open, so
 -- that what is written are the permitted ones. Assumes nothing.
-use mathlib.Core.Path.{_≡_, refl, ap, _∙_}
+use mathlib.Core.Path.{_≡_, refl, sym, ap, _∙_}
 use mathlib.Core.Bool.{Bool, true, false, cond}
 use mathlib.Core.List.{List, _∷_, map}
 use Prim.Native.Nat.{ℕ, suc, _+_, _-_, _*_, _/_, _%_, _≤_, _<_, min}
-use native.Mathlib.Nat.{add-mod-right, mul-add-mod-self-left, mul-mod-left, div-add-mod, div-add-mod', mod-lt, mod-eq-of-lt}
+use native.Mathlib.Nat.{add-mod-right, mul-mod-left, div-add-mod', mod-lt, mod-eq-of-lt}
 use native.Mathlib.Omega.{arith}
-use lib.Dec.{leb, ltb}
+use lib.Dec.{T, leb, ltb}
 use lib.ListN.{length, getD, set}
 use borrow.Author.Tests.{ltb-true, ltb-false, leb-false}
+use Rattle.logic.proofs.Tests.{T-true, refuted}
+use Rattle.logic.proofs.Walks.{First}
+use Rattle.logic.proofs.Multiples.{between-multiples}
+use Rattle.logic.proofs.Numbers.{left, left-here, left-none, left-skip}
+use Rattle.logic.proofs.Stores.{Filling, filling-start, filling-as, filling-one, filling-done}
 use Rattle.rule.specs.declared.terms.Setting.{Setting}
 use Rattle.rule.specs.declared.bounds.Rung.{Rung}
 use Rattle.rule.specs.Ends.{reachOf, isOpenStrike}
 use Rattle.rule.specs.Spacing.{standingOf}
 use Rattle.rule.specs.Judgement.{isPermittedBeside}
-use Rattle.rule.proofs.Walks.{First}
 use Rattle.rule.proofs.Open.{permitted-open}
 use Rattle.permitted.specs.declared.Progress.{Progress}
 use Rattle.permitted.specs.declared.Range.{Range}
 use Rattle.permitted.specs.Listing.{strikeIn, strikeFrom, permittedBetween, above, Behind, Triable, Continuable, Continued}
 use Rattle.permitted.proofs.Strikes.{strike-found}
-use Rattle.permitted.proofs.Filling.{left, left-here, left-none, left-skip, Filling, filling-start, filling-as, filling-one, filling-done}
 
--- no multiple of k stands between two that follow each other
-between-multiples : (k h i : ℕ) → h % k ≡ 0 → i % k ≡ 0 → h < i → i < h + k → ⊥
-between-multiples k h i a b l m =
-    let e : i ≡ k * (h / k) + (i - h) = omega (arith, div-add-mod h k) in
-    let d : i % k ≡ i - h =
-    ap (λ (n : ℕ). n % k) e ∙ mul-add-mod-self-left k (h / k) (i - h) ∙ mod-eq-of-lt (omega arith) in
-    omega arith
-
-pub closed-refused : (s : Setting) (ws : List ℕ) (h : ℕ) → (isOpenStrike s h ≡ true → ⊥) →
+pub closed-refused : (s : Setting) (ws : List ℕ) (h : ℕ) → (T (isOpenStrike s h) → ⊥) →
     isPermittedBeside s (map standingOf ws) h ≡ false
-closed-refused s ws h closed = go (isPermittedBeside s (map standingOf ws) h) refl
-  where
-    go : (t : Bool) → isPermittedBeside s (map standingOf ws) h ≡ t → t ≡ false
-    go true e = absurd (closed (permitted-open s h (map standingOf ws) e))
-    go false e = refl
+closed-refused s ws h closed =
+    sym
+    (refuted (isPermittedBeside s (map standingOf ws) h) (λ t. closed (permitted-open s h (map standingOf ws) t)))
 
 pub behind-more : {s : Setting} {ws : List ℕ} {from h h′ : ℕ} → h ≤ h′ → Behind s ws from h → Behind s ws from h′
 behind-more l t = record { within = t .within; below = λ i k. omega (arith, t .below i k) }
@@ -91,7 +84,7 @@ module _ {s : Setting} {ws : List ℕ} {r : Rung} {range : Range} {done : Progre
   test h = isPermittedBeside s (map standingOf ws) h
 
   untried : (h : ℕ) → low ≤ h → h < high + 1 → (h % step ≡ 0 → ⊥) → test h ≡ false
-  untried h l m other = closed-refused s ws h (λ e. other (p .multiples .among h l (omega arith) e))
+  untried h l m other = closed-refused s ws h (λ t. other (p .multiples .among h l (omega arith) (T-true (isOpenStrike s h) t)))
 
   pub trying-start : (o : List ℕ) (reach h : ℕ) → reach ≡ reachOf s → h ≡ (low + (step - 1)) / step * step →
       Trying s ws o r range (done .count) reach o (done .from) (done .count) h

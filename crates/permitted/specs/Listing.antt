@@ -13,11 +13,11 @@ use Rattle.word.specs.declared.answer.Answer.the-variants.{Listed, Refused}
 use Rattle.word.specs.declared.answer.Refusal.the-variants.{OutOfWords}
 use Rattle.word.specs.Kinds.{keyOf, strikeKind}
 use Rattle.rule.specs.declared.terms.Setting.{Setting}
-use Rattle.logic.specs.Lists.{Rising, only, upFrom}
+use Rattle.logic.specs.Lists.{Rising, only, upFrom, firstFrom}
 use Rattle.rule.specs.declared.bounds.Rung.{Rung}
 use Rattle.rule.specs.Ends.{rungAt, reachOf, isOpenStrike, Multiples, Fit, Climbs}
 use Rattle.rule.specs.Spacing.{standingOf}
-use Rattle.rule.specs.Judgement.{Judged, firstFrom, isPermittedBeside, permitted}
+use Rattle.rule.specs.Judgement.{Judged, isPermittedBeside, permitted}
 use Rattle.permitted.specs.declared.Progress.{Progress}
 use Rattle.permitted.specs.declared.Range.{Range}
 

@@ -10,7 +10,7 @@ use borrow.Author.Tests.{not-true, not-false, ltb-true, lt-ltb, le-ltb}
 use Rattle.word.specs.Limits.{lastMonth}
 use Rattle.word.specs.Kinds.{expirationKind, strikeKind}
 use Rattle.word.specs.Codec.{Expiration as ExpirationWord, packed}
-use Rattle.logic.proofs.Tests.{and-both}
+use Rattle.logic.proofs.Tests.{parts}
 use Rattle.logic.specs.Lists.{some, only}
 use Rattle.book.specs.Facts.{Series, Facts, isOpen, inMonth}
 use Rattle.book.specs.Layout.{used, factsOf}
@@ -33,7 +33,9 @@ module _ (at end : ℕ) (test : Bool) where
   is-used l = ap (λ (b : Bool). b && test) (sym (lt-ltb at end l))
 
   pub used-there : (r : Bool) → r ≡ (ltb at end && test) → not r ≡ false → at < end
-  used-there r e n = ltb-true at end (and-both (ltb at end) test (sym e ∙ not-false r n) .0)
+  used-there r e n =
+      let both : (ltb at end && test) ≡ true = sym e ∙ not-false r n in
+      ltb-true at end (search parts)
 
 -- ---- the answers
 

@@ -13,8 +13,6 @@ use lib.Dec.{T}
 use Rattle.word.specs.Digits.{binary, firstOne}
 use Rattle.word.proofs.Digits.{digits-more, trailing-zeros, no-one, some-one}
 use Rattle.logic.specs.Lists.{every}
-use Rattle.rule.proofs.Near.{each-at}
-use Rattle.logic.proofs.Tests.{T-true, true-T}
 use Rattle.logic.proofs.Splits.{every-split}
 use Rattle.place.specs.Search.{firstAt}
 
@@ -112,9 +110,6 @@ module _ {A : Type 0} (p : A → Bool) where
           → suc i + firstAt p (drop i xs) ≡ cond {A = ℕ} b 0 (suc (firstAt p xs))
       go true h r = absurd (omega arith)
       go false h r = omega (arith, r (omega arith))
-
-pub every-at : {A : Type 0} (p : A → Bool) (d : A) (xs : List A) (i : ℕ) → i < length xs → T (every p xs) → T (p (getD xs i d))
-every-at p d xs i l t = true-T (p (getD xs i d)) (each-at p d xs i l (T-true (every p xs) t))
 
 -- ---- the words from i to e, as a part is lent
 

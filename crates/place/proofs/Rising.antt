@@ -1,5 +1,5 @@
 -- The class words of a book rise: each holds less than every later one, so that a search knows from one of them on which side the first from a key on stands. By induction on the classes, and on the words. Assumes nothing.
-use Prim.Native.Nat.{ℕ, zero, suc, _<_}
+use Prim.Native.Nat.{ℕ, zero, suc, _≤_, _<_}
 use mathlib.Core.Path.{_≡_, refl, ap, ap₂}
 use mathlib.Core.Bool.{Bool, true, false, cond, not, _||_}
 use mathlib.Core.List.{List, [], _∷_, map}
@@ -9,15 +9,14 @@ use lib.Dec.{T, eqb, leb, ltb}
 use borrow.Author.Tests.{eqb-true, leb-true, ltb-true, le-leb, lt-leb}
 use Rattle.word.specs.declared.kind.Kind.{Kind}
 use Rattle.word.specs.Codec.{Word, Class, isLegal, packed}
-use Rattle.logic.proofs.Tests.{and-both, and-intro, ands, T-true}
+use Rattle.logic.proofs.Tests.{and-intro, ands, parts, T-true}
 use Rattle.word.proofs.Words.{legal-fits, kindIn, kind-packed}
 use Rattle.logic.specs.Lists.{every}
 use Rattle.book.specs.Facts.{Series, OpenClass, isBelow}
 use Rattle.book.specs.Layout.{strikeWord, expirationUnless, seriesWords, classesWords}
-use Rattle.logic.proofs.Lists.{every-true, ordered}
+use Rattle.logic.proofs.Lists.{every-true, every-at, ordered}
 use Rattle.word.specs.Kinds.{isOfKind, keyOf, classKind}
 use Rattle.place.specs.Search.{firstAt, isFrom, Rises}
-use Rattle.place.proofs.Firsts.{every-at}
 use Rattle.place.proofs.Words.{keyIn, kindNumbered, key-said}
 use Rattle.place.proofs.Laid.{no-class, every-class}
 
@@ -33,8 +32,9 @@ module _ (kind : Kind) (key : ℕ) where
   later-more :
       (v w : ℕ) → isFrom kind key v ≡ true → isOfKind kind w ≡ true → T (isLess kind v w) → key < keyOf kind w
   later-more v w f k t =
-      let e = and-both (isOfKind kind v) (leb key (keyOf kind v)) f in
-      omega (arith, leb-true key (keyOf kind v) (e .1), ltb-true (keyOf kind v) (keyOf kind w) (T-true _ (rw (e .0, k) at t)))
+      let of : isOfKind kind v ≡ true = search parts in
+      let from : key ≤ keyOf kind v = leb-true key (keyOf kind v) (search parts) in
+      omega (arith, ltb-true (keyOf kind v) (keyOf kind w) (T-true _ (rw (of, k) at t)))
 
   below :
       (ws : List ℕ) → T (ordered (isLess kind) ws) → (i : ℕ) → i < length ws → isOfKind kind (getD ws i 0) ≡ true

@@ -7,7 +7,7 @@ use native.Mathlib.Omega.{arith}
 use lib.ListN.{length, getD, set, take, drop, replicate, length-append, length-drop, take-append-drop, drop-of-length-le}
 use lib.Seq.{take-all, take-add, take-suc, take-append-le, take-take, take-at, drop-at, drop-drop, drop-cons, getD-drop, length-take-le, sets, sets-eq, length-sets}
 use borrow.Rule.Slice.PartMut.{midOf, putMid}
-use Rattle.word.proofs.Stores.{sets-append}
+use Rattle.logic.proofs.Stores.{sets-append}
 use Rattle.removal.specs.Runs.{movedDown, closed}
 use Rattle.removal.proofs.Parts.{tail-all, tail-zeroed}
 use Rattle.removal.proofs.Stretches.{drop-later}

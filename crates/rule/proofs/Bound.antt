@@ -1,21 +1,22 @@
 -- The ranges in half dollars: a strike in range stands from the lowest end to the highest, and each strike of the range
 -- grid between them is in range, so that on each grid the ends tell the range. Assumes nothing.
-use mathlib.Core.Path.{_≡_, refl, sym, _∙_}
+use mathlib.Core.Path.{_≡_, refl, subst}
 use mathlib.Core.Bool.{Bool, true, false, not, cond, _&&_, _||_}
 use mathlib.Core.Logic.{⊎-elim}
 use Prim.Native.Nat.{ℕ, _+_, _*_, _/_, _%_, _≤_, _<_, min, max}
 use native.Mathlib.Omega.{arith}
-use lib.Dec.{leb, ltb}
+use lib.Dec.{T, leb, ltb, leb→le, le→leb}
 use borrow.Author.Tests.{ltb-false, leb-true, leb-false, le-leb, lt-ltb, le-ltb, eq-eqb}
+use Rattle.logic.proofs.Tests.{ands, parts, true-T, T-true, or-cases, same-bool}
+use Rattle.logic.proofs.Multiples.{times}
 use Rattle.word.specs.Limits.{highestStrike}
 use Rattle.rule.specs.declared.terms.Setting.{Setting}
 use Rattle.rule.specs.Terms.{cents, isDollarClass, isHalfClass, isLong, isNear, price}
 use Rattle.rule.specs.Grids.{multiple, standardGrid, dollarGrid, halfDollars, halfGrid, wingBase, wingGrid}
 use Rattle.rule.specs.Ranges.{amongFive, rangeBy, rangeGrid, standardRange, rangeOf}
 use Rattle.rule.specs.Ends.{fifthAbove, halfEnd, lowEnd, highEnd, reachOf}
-use Rattle.rule.proofs.Tests.{and-left, and-right, or-cases, same}
 use Rattle.rule.proofs.Five.{five, five-half-dollars}
-use Rattle.rule.proofs.Steps.{times, standard-five, fives-standard, Wing, wing-stepped}
+use Rattle.rule.proofs.Steps.{standard-five, fives-standard, Wing, wing-stepped}
 
 -- the fifth strike above a price of at most $20
 module _ (whole dollar : Bool) (q : ℕ) where
@@ -55,34 +56,33 @@ module _ (s : Setting) where
   pub standard-ranged : (h : ℕ) → standardRange s h ≡ true → Ranged h
   standard-ranged h = go (ltb 2000 p) refl
     where
-      above : Bool
-      above = leb p (2 * cents h)
-
-      below : Bool
-      below = leb (2 * cents h) (3 * p)
-
       go : (t : Bool) → ltb 2000 p ≡ t →
-          cond t (above && below) (leb (cents h) (2 * p) || amongFive (rangeGrid s) p h) ≡ true → Ranged h
+          cond t (leb p (2 * cents h) && leb (2 * cents h) (3 * p))
+          (leb (cents h) (2 * p) || amongFive (rangeGrid s) p h)
+          ≡ true →
+          Ranged h
       go true q e =
           record {
-            low = rw q (omega (arith, leb-true p (2 * cents h) (and-left above below e)));
-            high = λ l. rw q (omega (arith, leb-true (2 * cents h) (3 * p) (and-right above below e)));
+            low = rw q (omega (arith, leb-true p (2 * cents h) (search parts)));
+            high = λ l. rw q (omega (arith, leb-true (2 * cents h) (3 * p) (search parts)));
           }
       go false q e =
           record {
             low = rw q (omega arith);
-            high = λ l. rw q (⊎-elim double among (or-cases (leb (cents h) (2 * p)) (amongFive (rangeGrid s) p h) e));
+            high =
+                λ l.
+                rw q
+                (⊎-elim double among (or-cases (leb (cents h) (2 * p)) (amongFive (rangeGrid s) p h) (true-T _ e)));
           }
         where
-          double : leb (cents h) (2 * p) ≡ true → h ≤ max (p / 25) fifth
-          double a = omega (arith, leb-true (cents h) (2 * p) a)
+          double : T (leb (cents h) (2 * p)) → h ≤ max (p / 25) fifth
+          double a = omega (arith, leb→le (cents h) (2 * p) a)
 
-          among : amongFive (rangeGrid s) p h ≡ true → h ≤ max (p / 25) fifth
+          among : T (amongFive (rangeGrid s) p h) → h ≤ max (p / 25) fifth
           among a =
-              let b : (ltb (p / 50) h && leb h fifth) ≡ true =
-              and-left (ltb (p / 50) h && leb h fifth) (rangeGrid s (cents h))
-              (sym (five s h (ltb-false 2000 p q)) ∙ a) in
-              omega (arith, leb-true h fifth (and-right (ltb (p / 50) h) (leb h fifth) b))
+              let b : T (ltb (p / 50) h && leb h fifth && rangeGrid s (cents h)) =
+              subst T (five s h (ltb-false 2000 p q)) a in
+              omega (arith, leb→le h fifth (search ands))
 
   pub ranged-standard : (h : ℕ) → rangeGrid s (cents h) ≡ true → lowEnd p ≤ h → h ≤ highEnd s → standardRange s h ≡ true
   ranged-standard h on = go (ltb 2000 p) refl (leb (cents h) (2 * p)) refl
@@ -102,18 +102,17 @@ module _ (s : Setting) where
   -- on the range grid the ends tell the range
   range-ends : (h : ℕ) → rangeGrid s (cents h) ≡ true → h ≤ highestStrike →
       standardRange s h ≡ (leb (lowEnd p) h && leb h (highEnd s))
-  range-ends h on most = same (standardRange s h) (leb (lowEnd p) h && leb h (highEnd s)) to from
+  range-ends h on most = same-bool (standardRange s h) (leb (lowEnd p) h && leb h (highEnd s)) to from
     where
-      to : standardRange s h ≡ true → (leb (lowEnd p) h && leb h (highEnd s)) ≡ true
-      to e =
-          let r : Ranged h = standard-ranged h e in
-          rw (le-leb (lowEnd p) h (r .low), le-leb h (highEnd s) (r .high most))
+      to : T (standardRange s h) → T (leb (lowEnd p) h && leb h (highEnd s))
+      to t =
+          let r : Ranged h = standard-ranged h (T-true (standardRange s h) t) in
+          rw (le-leb (lowEnd p) h (r .low), le-leb h (highEnd s) (r .high most)) tt
 
-      from : (leb (lowEnd p) h && leb h (highEnd s)) ≡ true → standardRange s h ≡ true
-      from e =
-          ranged-standard h on
-          (leb-true (lowEnd p) h (and-left (leb (lowEnd p) h) (leb h (highEnd s)) e))
-          (leb-true h (highEnd s) (and-right (leb (lowEnd p) h) (leb h (highEnd s)) e))
+      from : T (leb (lowEnd p) h && leb h (highEnd s)) → T (standardRange s h)
+      from t =
+          true-T (standardRange s h)
+          (ranged-standard h on (leb→le (lowEnd p) h (search ands)) (leb→le h (highEnd s) (search ands)))
 
   -- the range grid holds the Standard strikes
   pub standard-range-grid : (h : ℕ) → standardGrid (s .class) (cents h) ≡ true → rangeGrid s (cents h) ≡ true
@@ -121,7 +120,7 @@ module _ (s : Setting) where
     where
       go : (t : Bool) → (isNear s && dollar) ≡ t →
           cond t (multiple 100 (cents h)) (standardGrid (s .class) (cents h)) ≡ true
-      go true q = eq-eqb (cents h % 100) 0 (omega (arith, standard-five (s .class) h (and-right (isNear s) dollar q) e))
+      go true q = eq-eqb (cents h % 100) 0 (omega (arith, standard-five (s .class) h (search parts) e))
       go false q = e
 
   pub standard-ends : (h : ℕ) → standardGrid (s .class) (cents h) ≡ true → h ≤ highestStrike →
@@ -132,18 +131,14 @@ module _ (s : Setting) where
   pub dollar-ends : (h : ℕ) → dollarGrid s (cents h) ≡ true → h ≤ highestStrike →
       standardRange s h ≡ (leb (lowEnd p) h && leb h (highEnd s))
   dollar-ends h e most =
-      let asked : Bool = isNear s && dollar && ltb p 5000 in
-      let whole : Bool = multiple 100 (cents h) in
-      let a : asked ≡ true = and-left asked (whole && leb 100 (cents h) && leb (cents h) 5000) e in
-      let b : (whole && leb 100 (cents h)) ≡ true =
-      and-left (whole && leb 100 (cents h)) (leb (cents h) 5000)
-      (and-right asked (whole && leb 100 (cents h) && leb (cents h) 5000) e) in
-      range-ends h (rw (and-left (isNear s && dollar) (ltb p 5000) a, and-left whole (leb 100 (cents h)) b)) most
+      let near : (isNear s && dollar) ≡ true = search parts in
+      let whole : multiple 100 (cents h) ≡ true = search parts in
+      range-ends h (rw (near, whole)) most
 
   -- the L of a wing and the strike $5 above it are Standard strikes
   pub wing-ends : (h : ℕ) → wingGrid s (cents h) ≡ true →
       rangeOf s 3 h ≡ (leb (lowEnd p) (wingBase (cents h) / 50) && leb (wingBase (cents h) / 50 + 10) (highEnd s))
-  wing-ends h e = same (rangeOf s 3 h) (leb (lowEnd p) l && leb (l + 10) (highEnd s)) to from
+  wing-ends h e = same-bool (rangeOf s 3 h) (leb (lowEnd p) l && leb (l + 10) (highEnd s)) to from
     where
       l : ℕ
       l = wingBase (cents h) / 50
@@ -152,26 +147,24 @@ module _ (s : Setting) where
       in-range n m k =
           ranged-standard n (standard-range-grid n (fives-standard (s .class) n m (λ j. absurd (omega arith))))
 
-      to : rangeOf s 3 h ≡ true → (leb (lowEnd p) l && leb (l + 10) (highEnd s)) ≡ true
+      to : T (rangeOf s 3 h) → T (leb (lowEnd p) l && leb (l + 10) (highEnd s))
       to r =
           let w : Wing s h = wing-stepped s h e in
-          let low : lowEnd p ≤ l = standard-ranged l (and-left (standardRange s l) (standardRange s (l + 10)) r) .low in
-          let high : l + 10 ≤ highEnd s =
-          standard-ranged (l + 10) (and-right (standardRange s l) (standardRange s (l + 10)) r) .high
-          (omega (arith, w .most)) in
-          rw (le-leb (lowEnd p) l low, le-leb (l + 10) (highEnd s) high)
+          let low : lowEnd p ≤ l = standard-ranged l (search parts) .low in
+          let high : l + 10 ≤ highEnd s = standard-ranged (l + 10) (search parts) .high (omega (arith, w .most)) in
+          rw (le-leb (lowEnd p) l low, le-leb (l + 10) (highEnd s) high) tt
 
-      from : (leb (lowEnd p) l && leb (l + 10) (highEnd s)) ≡ true → rangeOf s 3 h ≡ true
+      from : T (leb (lowEnd p) l && leb (l + 10) (highEnd s)) → T (rangeOf s 3 h)
       from r =
           let w : Wing s h = wing-stepped s h e in
-          let low : lowEnd p ≤ l = leb-true (lowEnd p) l (and-left (leb (lowEnd p) l) (leb (l + 10) (highEnd s)) r) in
-          let high : l + 10 ≤ highEnd s =
-          leb-true (l + 10) (highEnd s) (and-right (leb (lowEnd p) l) (leb (l + 10) (highEnd s)) r) in
+          let low : lowEnd p ≤ l = leb→le (lowEnd p) l (search ands) in
+          let high : l + 10 ≤ highEnd s = leb→le (l + 10) (highEnd s) (search ands) in
           let m : l % 10 ≡ 0 = times 10 l (cents h / 500) (omega arith) in
           rw (
             in-range l m (omega (arith, w .most)) low (omega arith),
             in-range (l + 10) (omega arith) (omega (arith, w .most)) (omega arith) high,
           )
+          tt
 
   pub high-strike : highEnd s ≤ highestStrike
   high-strike = go (ltb 2000 p) refl
@@ -187,9 +180,7 @@ module _ (s : Setting) where
   halfAsked = isNear s && isHalfClass (s .class) && leb p 500 && leb 1000 (s .class .volume)
 
   half-price : halfAsked ≡ true → p ≤ 500
-  half-price a =
-      let both : Bool = isNear s && isHalfClass (s .class) in
-      leb-true p 500 (and-right both (leb p 500) (and-left (both && leb p 500) (leb 1000 (s .class .volume)) a))
+  half-price a = leb-true p 500 (search parts)
 
   pub half-within : halfEnd s ≤ highEnd s
   half-within = go halfAsked refl
@@ -204,7 +195,7 @@ module _ (s : Setting) where
   -- on the grid of Half the price sets no lowest strike
   pub half-low : (h : ℕ) → halfGrid s (cents h) ≡ true → lowEnd p ≡ 0
   half-low h grid =
-      let cheap : p ≤ 500 = half-price (and-left halfAsked (halfDollars (cents h)) grid) in
+      let cheap : p ≤ 500 = half-price (search parts) in
       rw (le-ltb 2000 p (omega arith))
 
   -- Half gives strikes in near expirations only
@@ -222,23 +213,23 @@ module _ (s : Setting) where
 
   pub half-ranged : (h : ℕ) → halfGrid s (cents h) ≡ true → rangeBy halfDollars p h ≡ true → h ≤ halfEnd s
   half-ranged h grid range =
-      let a : halfAsked ≡ true = and-left halfAsked (halfDollars (cents h)) grid in
-      let on : halfDollars (cents h) ≡ true = and-right halfAsked (halfDollars (cents h)) grid in
+      let a : halfAsked ≡ true = search parts in
       let l : p ≤ 500 = half-price a in
-      let most : cents h ≤ 550 = leb-true (cents h) 550 (and-right (multiple 50 (cents h)) (leb (cents h) 550) on) in
+      let most : cents h ≤ 550 = leb-true (cents h) 550 (search parts) in
+      let within : (leb (cents h) (2 * p) || amongFive halfDollars p h) ≡ true =
+      rw (le-ltb 2000 p (omega arith)) at range in
       let near : h ≤ max (p / 25) (p / 50 + 5) =
-      ⊎-elim double among
-      (or-cases (leb (cents h) (2 * p)) (amongFive halfDollars p h) (rw (le-ltb 2000 p (omega arith)) at range)) in
+      ⊎-elim double among (or-cases (leb (cents h) (2 * p)) (amongFive halfDollars p h) (true-T _ within)) in
       rw a (omega arith)
     where
-      double : leb (cents h) (2 * p) ≡ true → h ≤ max (p / 25) (p / 50 + 5)
-      double b = omega (arith, leb-true (cents h) (2 * p) b)
+      double : T (leb (cents h) (2 * p)) → h ≤ max (p / 25) (p / 50 + 5)
+      double b = omega (arith, leb→le (cents h) (2 * p) b)
 
-      among : amongFive halfDollars p h ≡ true → h ≤ max (p / 25) (p / 50 + 5)
+      among : T (amongFive halfDollars p h) → h ≤ max (p / 25) (p / 50 + 5)
       among b =
-          let c : (ltb (p / 50) h && leb h (p / 50 + 5)) ≡ true =
-          and-left (ltb (p / 50) h && leb h (p / 50 + 5)) (halfDollars (cents h)) (sym (five-half-dollars p h) ∙ b) in
-          omega (arith, leb-true h (p / 50 + 5) (and-right (ltb (p / 50) h) (leb h (p / 50 + 5)) c))
+          let c : T (ltb (p / 50) h && leb h (p / 50 + 5) && halfDollars (cents h)) =
+          subst T (five-half-dollars p h) b in
+          omega (arith, leb→le h (p / 50 + 5) (search ands))
 
   half-near : (h : ℕ) → halfAsked ≡ true → h ≤ min (max (p / 25) (p / 50 + 5)) 11 →
       (halfGrid s (cents h) ≡ true) × (rangeBy halfDollars p h ≡ true)
@@ -265,7 +256,7 @@ module _ (s : Setting) where
 
   pub half-ends : (h : ℕ) → halfGrid s (cents h) ≡ true → rangeBy halfDollars p h ≡ leb h (halfEnd s)
   half-ends h grid =
-      let a : halfAsked ≡ true = and-left halfAsked (halfDollars (cents h)) grid in
-      same (rangeBy halfDollars p h) (leb h (halfEnd s))
-      (λ r. le-leb h (halfEnd s) (half-ranged h grid r))
-      (λ r. half-near h a (rw a at (leb-true h (halfEnd s) r)) .1)
+      let a : halfAsked ≡ true = search parts in
+      same-bool (rangeBy halfDollars p h) (leb h (halfEnd s))
+      (λ r. le→leb h (halfEnd s) (half-ranged h grid (T-true (rangeBy halfDollars p h) r)))
+      (λ r. true-T (rangeBy halfDollars p h) (half-near h a (rw a at (leb→le h (halfEnd s) r)) .1))

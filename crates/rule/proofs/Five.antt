@@ -1,20 +1,21 @@
 -- The five lowest strikes above a price end at a closed form: a walk finds the strikes that pass up to where it ends,
 -- and the ends are computed for each price of at most $20. Assumes nothing.
 use mathlib.Core.Path.{_≡_, refl, sym, ap, _∙_, fun-ext}
-use mathlib.Core.Bool.{Bool, true, false, cond, not, _&&_, _||_, and-false, true≢false}
+use mathlib.Core.Bool.{Bool, true, false, cond, not, _&&_, _||_, and-false}
 use mathlib.Core.List.{_∷_}
 use Prim.Native.Nat.{ℕ, zero, suc, _+_, _/_, _≤_, _<_}
 use native.Mathlib.Omega.{arith}
-use borrow.Author.Tests.{leb-true, ltb-true, ltb-false, eqb-true, eqb-false, lt-ltb, le-ltb, le-leb}
-use lib.Dec.{leb, ltb, eqb, leb·suc-suc}
+use borrow.Author.Tests.{leb-true, ltb-false, eqb-true, eqb-false, lt-ltb, le-ltb, le-leb}
+use lib.Dec.{T, leb, ltb, eqb, leb·suc-suc, leb→le, le→leb, ltb→lt, eqb→eq}
 use Rattle.word.specs.Limits.{highestStrike}
 use Rattle.rule.specs.declared.terms.Setting.{Setting}
-use Rattle.logic.specs.Lists.{some}
+use Rattle.logic.specs.Lists.{every, some, upFrom}
+use Rattle.logic.proofs.Tests.{ands, and-middle, and-implied, same-leb}
+use Rattle.logic.proofs.Numbers.{every-number}
 use Rattle.rule.specs.Terms.{cents, isDollarClass, isNear, price}
 use Rattle.rule.specs.Grids.{multiple, ladder, halfDollars}
 use Rattle.rule.specs.Ranges.{lowest, amongFive, rangeGrid}
 use Rattle.rule.specs.Ends.{fifthAbove}
-use Rattle.rule.proofs.Tests.{and-right, and-middle, and-implied, same-leb}
 
 -- the strike past the last one that `lowest` looks at
 endOf : (ℕ → Bool) → ℕ → ℕ → ℕ → ℕ
@@ -122,24 +123,7 @@ among-above grid p h =
     (fun-ext (λ x. ap (λ (t : Bool). t && grid (cents x)) (above p x)))
     ∙ among (λ x. ltb (p / 50) x && grid (cents x)) highestStrike 5 1 h
     ∙ and-implied (leb 1 h) (ltb h (endAbove grid (p / 50))) (ltb (p / 50) h) (grid (cents h))
-    (λ e. le-leb 1 h (omega (arith, ltb-true (p / 50) h e)))
-
--- a test of each number below n, which is computed
-abbrev allBelow : (ℕ → Bool) → ℕ → Bool
-allBelow test zero = true
-allBelow test (suc n) = test n && allBelow test n
-
-below : (test : ℕ → Bool) (n : ℕ) → allBelow test n ≡ true → (q : ℕ) → q < n → test q ≡ true
-below test zero all q l = absurd (omega arith)
-below test (suc n) all q l = go (λ u m. below test n u q m) (test n) refl (eqb q n) refl
-  where
-    go : (allBelow test n ≡ true → q < n → test q ≡ true) → (b : Bool) → test n ≡ b → (t : Bool) → eqb q n ≡ t →
-        test q ≡ true
-    go rest true e true k = rw (eqb-true q n k) e
-    go rest true e false k =
-        let ne : q ≡ n → ⊥ = eqb-false q n k in
-        rest (rw e at all) (omega arith)
-    go rest false e t k = absurd (true≢false (sym (rw e at all)))
+    (λ t. le→leb 1 h (omega (arith, ltb→lt (p / 50) h t)))
 
 -- the range grid of Standard and Dollar, by what it asks of the class and the expiration
 abbrev gridBy : Bool → Bool → ℕ → Bool
@@ -149,12 +133,12 @@ gridBy whole dollar k = cond whole (multiple 100 k) (ladder k && not (dollar && 
 endTest : Bool → Bool → ℕ → Bool
 endTest whole dollar q = eqb (endAbove (gridBy whole dollar) q) (suc (fifthAbove whole dollar q))
 
-ends : (whole dollar : Bool) → allBelow (endTest whole dollar) 41 ≡ true
+ends : (whole dollar : Bool) → T (every (endTest whole dollar) (upFrom 41 0))
 unfolding endTest endAbove endOf
-ends true true = refl
-ends true false = refl
-ends false true = refl
-ends false false = refl
+ends true true = tt
+ends true false = tt
+ends false true = tt
+ends false false = tt
 
 five-by : (whole dollar : Bool) (p h : ℕ) → p ≤ 2000 →
     amongFive (gridBy whole dollar) p h
@@ -163,7 +147,7 @@ unfolding endTest
 five-by whole dollar p h cheap =
     let fifth : ℕ = fifthAbove whole dollar (p / 50) in
     let end : endAbove (gridBy whole dollar) (p / 50) ≡ suc fifth =
-    eqb-true _ _ (below (endTest whole dollar) 41 (ends whole dollar) (p / 50) (omega arith)) in
+    eqb→eq _ _ (every-number (endTest whole dollar) 41 0 (ends whole dollar) (p / 50) (omega arith) (omega arith)) in
     among-above (gridBy whole dollar) p h
     ∙ ap (λ (t : Bool). ltb (p / 50) h && t && gridBy whole dollar (cents h)) (ap (ltb h) end ∙ leb·suc-suc h fifth)
 
@@ -178,13 +162,14 @@ five s h cheap = five-by (isNear s && isDollarClass (s .class)) (isDollarClass (
 halfEndTest : ℕ → Bool
 halfEndTest q = eqb (endAbove halfDollars q) (cond (ltb q 7) (q + 6) 20000)
 
-half-ends : allBelow halfEndTest 11 ≡ true
+half-ends : T (every halfEndTest (upFrom 11 0))
 unfolding halfEndTest endAbove endOf
-half-ends = refl
+half-ends = tt
 
 half-end : (q h : ℕ) → q < h → h ≤ 11 → ltb h (endAbove halfDollars q) ≡ leb h (q + 5)
 unfolding halfEndTest
-half-end q h low high = go (ltb q 7) refl (eqb-true _ _ (below halfEndTest 11 half-ends q (omega arith)))
+half-end q h low high =
+    go (ltb q 7) refl (eqb→eq _ _ (every-number halfEndTest 11 0 half-ends q (omega arith) (omega arith)))
   where
     go : (t : Bool) → ltb q 7 ≡ t → endAbove halfDollars q ≡ cond t (q + 6) 20000 →
         ltb h (endAbove halfDollars q) ≡ leb h (q + 5)
@@ -197,7 +182,7 @@ pub five-half-dollars : (p h : ℕ) →
 five-half-dollars p h =
     among-above halfDollars p h
     ∙ and-middle (ltb (p / 50) h) (ltb h (endAbove halfDollars (p / 50))) (leb h (p / 50 + 5)) (halfDollars (cents h))
-    (λ low on. half-end (p / 50) h (ltb-true (p / 50) h low) (high on))
+    (λ low on. half-end (p / 50) h (ltb→lt (p / 50) h low) (high on))
   where
-    high : halfDollars (cents h) ≡ true → h ≤ 11
-    high on = omega (arith, leb-true (cents h) 550 (and-right (multiple 50 (cents h)) (leb (cents h) 550) on))
+    high : T (halfDollars (cents h)) → h ≤ 11
+    high on = omega (arith, leb→le (cents h) 550 (search ands))

@@ -1,10 +1,8 @@
-pub mod Tests
 pub mod Rungs
 pub mod Steps
 pub mod Five
 pub mod Grounds
 pub mod Rows
-pub mod Walks
 pub mod Permitted
 pub mod Bound
 pub mod Near

@@ -1,17 +1,19 @@
 -- The open strikes, those that the rules accept where none stands: each is in range and a multiple of the step at its
 -- height, by one law for each ground; where the rung says so each such multiple is open, by one law for each rung.
 -- Assumes nothing.
-use mathlib.Core.Path.{_≡_, refl, sym, ap, _∙_}
-use mathlib.Core.Bool.{Bool, true, false, not, _&&_, and-true, true≢false}
-use mathlib.Core.List.{List, [], _∷_, map}
-use mathlib.Core.Logic.{⊎-elim}
+use mathlib.Core.Path.{_≡_, sym, ap, _∙_, subst}
+use mathlib.Core.Bool.{Bool, true, false, _&&_, true≢false}
+use mathlib.Core.List.{List, [], _∷_}
 use Prim.Native.Nat.{ℕ, zero, suc, _+_, _*_, _/_, _%_, _≤_, _<_, min}
 use native.Mathlib.Omega.{arith}
-use lib.Dec.{ltb, eqb}
+use lib.Dec.{T, ltb, eqb, eqb→eq}
 use borrow.Author.Tests.{le-leb, eq-eqb}
 use Rattle.word.specs.Limits.{highestStrike}
 use Rattle.rule.specs.declared.terms.Setting.{Setting}
 use Rattle.logic.specs.Lists.{some}
+use Rattle.logic.proofs.Tests.{ands, parts, and-intro, true-T, T-true, or-left, or-right, refuted}
+use Rattle.logic.proofs.Lists.{some-cases, some-imply}
+use Rattle.logic.proofs.Multiples.{times}
 use Rattle.rule.specs.Terms.{cents, isDollarClass, isNear, price}
 use Rattle.rule.specs.Grids.{multiple, standardGrid, dollarGrid, halfDollars, halfGrid, wingBase, wingGrid}
 use Rattle.rule.specs.Grids.{gridOf, grounds}
@@ -19,69 +21,53 @@ use Rattle.rule.specs.Ranges.{rangeBy, standardRange, rangeOf}
 use Rattle.rule.specs.declared.bounds.Rung.{Rung}
 use Rattle.rule.specs.Ends.{isProgramClass, halfEnd, lowEnd, highEnd, rungs, rungAt, isOpenStrike, Multiples, Fit, Climbs}
 use Rattle.rule.specs.Ends.{lastDollar, lastTwoFifty}
-use Rattle.rule.specs.Spacing.{Standing, spacingOf}
+use Rattle.rule.specs.Spacing.{Standing}
 use Rattle.word.specs.Answers.{isAccepted}
 use Rattle.rule.specs.Judgement.{rowOf, rowsOf, passes, judgement, isPermittedBeside}
-use Rattle.rule.proofs.Tests.{and-left, and-right, or-left, or-right, or-cases}
 use Rattle.rule.proofs.Rows.{accepted-passes}
 use Rattle.rule.proofs.Rungs.{On, _▹_, at-rung, same-rung}
 use Rattle.rule.proofs.Near.{reach-most}
-use Rattle.rule.proofs.Steps.{times, standard-of, fives-standard, dollar-reached, ladder-reached, standard-on}
+use Rattle.rule.proofs.Steps.{standard-of, fives-standard, dollar-reached, ladder-reached, standard-on}
 use Rattle.rule.proofs.Steps.{half-on, whole-on, dollar-whole, Wing, wing-stepped}
 use Rattle.rule.proofs.Bound.{Ranged, standard-ranged, ranged-standard, standard-range-grid, half-ranged}
 use Rattle.rule.proofs.Bound.{high-strike, half-each, half-within, half-low, half-reach}
-
-some-cases : {A B P : Type 0} (test : B → Bool) (f : A → B) (xs : List A) → ((x : A) → test (f x) ≡ true → P) →
-    some test (map f xs) ≡ true → P
-some-cases test f [] each e = absurd (true≢false (sym e))
-some-cases test f (x ∷ xs) each e =
-    ⊎-elim (each x) (some-cases test f xs each) (or-cases (test (f x)) (some test (map f xs)) e)
-
-some-more : {A B : Type 0} (test : B → Bool) (f g : A → B) (xs : List A) →
-    ((x : A) → test (f x) ≡ true → test (g x) ≡ true) →
-    some test (map f xs) ≡ true → some test (map g xs) ≡ true
-some-more test f g [] each e = e
-some-more test f g (x ∷ xs) each e =
-    ⊎-elim
-    (λ a. or-left (test (g x)) (some test (map g xs)) (each x a))
-    (λ a. or-right (test (g x)) (some test (map g xs)) (some-more test f g xs each a))
-    (or-cases (test (f x)) (some test (map f xs)) e)
 
 module _ (s : Setting) (h : ℕ) where
   -- the ground g gives the strike its grid and its range
   abbrev gives : ℕ → Bool
   gives g = gridOf s g h && rangeOf s g h
 
-  beside-none : (g : ℕ) → gives g ≡ true → passes (rowOf s [] h g) ≡ true
-  beside-none g e = and-true (gives g) ∙ e
+  -- whether the row of a ground passes
+  abbrev passesAt : List Standing → ℕ → Bool
+  passesAt standing g = passes (rowOf s standing h g)
+
+  -- a strike is accepted where some ground passes
+  accepted : (standing : List Standing) → T (isAccepted (judgement s standing h)) → T (some (passesAt standing) grounds)
+  accepted standing t = subst T (accepted-passes (rowsOf s standing h)) t
+
+  opened : T (some (passesAt []) grounds) → T (isOpenStrike s h)
+  opened t = subst T (sym (accepted-passes (rowsOf s [] h))) t
+
+  beside-none : (g : ℕ) → T (gives g) → T (passesAt [] g)
+  beside-none g t = and-intro (gives g) true t tt
 
   -- spacing only takes away
-  pub accepted-open : (standing : List Standing) → isAccepted (judgement s standing h) ≡ true → isOpenStrike s h ≡ true
-  accepted-open standing e =
-      accepted-passes (rowsOf s [] h)
-      ∙ some-more passes (rowOf s standing h) (rowOf s [] h) grounds
-      (λ g a. beside-none g (and-left (gives g) (spacingOf s standing g h) a))
-      (sym (accepted-passes (rowsOf s standing h)) ∙ e)
+  pub accepted-open : (standing : List Standing) → T (isAccepted (judgement s standing h)) → T (isOpenStrike s h)
+  accepted-open standing t =
+      opened
+      (some-imply (passesAt standing) (passesAt []) (λ g u. beside-none g (search ands)) grounds (accepted standing t))
 
-  pub permitted-open : (standing : List Standing) → isPermittedBeside s standing h ≡ true → isOpenStrike s h ≡ true
-  permitted-open standing e =
-      accepted-open standing
-      (and-right (not (some (λ t. eqb (t .strike) h) standing)) (isAccepted (judgement s standing h)) e)
+  pub permitted-open : (standing : List Standing) → T (isPermittedBeside s standing h) → T (isOpenStrike s h)
+  permitted-open standing t = accepted-open standing (search ands)
 
-  -- the rows from the ground on that gives it
-  first : gives 0 ≡ true → isOpenStrike s h ≡ true
-  first e = accepted-passes (rowsOf s [] h) ∙ or-left (passes (rowOf s [] h 0)) _ (beside-none 0 e)
-
-  second : gives 1 ≡ true → isOpenStrike s h ≡ true
-  second e =
-      accepted-passes (rowsOf s [] h)
-      ∙ or-right (passes (rowOf s [] h 0)) _ (or-left (passes (rowOf s [] h 1)) _ (beside-none 1 e))
-
-  third : gives 2 ≡ true → isOpenStrike s h ≡ true
-  third e =
-      accepted-passes (rowsOf s [] h)
-      ∙ or-right (passes (rowOf s [] h 0)) _
-      (or-right (passes (rowOf s [] h 1)) _ (or-left (passes (rowOf s [] h 2)) _ (beside-none 2 e)))
+  -- the ground g gives it
+  given-by : (g : ℕ) → T (some (eqb g) grounds) → gives g ≡ true → isOpenStrike s h ≡ true
+  given-by g t e =
+      T-true (isOpenStrike s h)
+      (opened
+      (some-imply (eqb g) (passesAt [])
+      (λ x u. subst (λ (k : ℕ). T (passesAt [] k)) (eqb→eq g x u) (beside-none g (true-T (gives g) e)))
+      grounds t))
 
   -- ---- where an open strike stands: in range, and on the rung of its height
 
@@ -109,9 +95,8 @@ module _ (s : Setting) (h : ℕ) where
   wing-given a b =
       let l : ℕ = wingBase (cents h) / 50 in
       let w : Wing s h = wing-stepped s h a in
-      let r : Ranged s l = standard-ranged s l (and-left (standardRange s l) (standardRange s (l + 10)) b) in
-      let t : Ranged s (l + 10) =
-      standard-ranged s (l + 10) (and-right (standardRange s l) (standardRange s (l + 10)) b) in
+      let r : Ranged s l = standard-ranged s l (search parts) in
+      let t : Ranged s (l + 10) = standard-ranged s (l + 10) (search parts) in
       record {
         low = omega (arith, w .least, r .low);
         high = λ k. omega (arith, w .most, t .high (omega arith));
@@ -124,36 +109,31 @@ module _ (s : Setting) (h : ℕ) where
   ground-given (suc (suc zero)) = half-given
   ground-given (suc (suc (suc g))) = wing-given
 
-  pub open-given : isOpenStrike s h ≡ true → Given
-  open-given e = some-cases passes (rowOf s [] h) grounds row (sym (accepted-passes (rowsOf s [] h)) ∙ e)
-    where
-      row : (g : ℕ) → passes (rowOf s [] h g) ≡ true → Given
-      row g a =
-          let b : gives g ≡ true = and-left (gives g) true a in
-          ground-given g (and-left (gridOf s g h) (rangeOf s g h) b) (and-right (gridOf s g h) (rangeOf s g h) b)
+  pub open-given : T (isOpenStrike s h) → Given
+  open-given t = some-cases (passesAt []) grounds (λ g u. ground-given g (search parts) (search parts)) (accepted [] t)
 
   -- ---- which strikes are open
 
   pub standard-open : standardGrid (s .class) (cents h) ≡ true → lowEnd (price s) ≤ h → h ≤ highEnd s →
       isOpenStrike s h ≡ true
-  standard-open grid low high = first (rw (grid, ranged-standard s h (standard-range-grid s h grid) low high))
+  standard-open grid low high = given-by 0 tt (rw (grid, ranged-standard s h (standard-range-grid s h grid) low high))
 
   -- in a near $1 class whose close allows it each whole dollar to $50
   dollar-open : isNear s ≡ true → isProgramClass (s .class) ≡ true → h % 2 ≡ 0 → 1 ≤ h → h ≤ lastDollar →
       lowEnd (price s) ≤ h → h ≤ highEnd s → isOpenStrike s h ≡ true
   dollar-open near program m l k low high =
-      let dollar : isDollarClass (s .class) ≡ true = and-left (isDollarClass (s .class)) (ltb (price s) 5000) program in
-      let cheap : ltb (price s) 5000 ≡ true = and-right (isDollarClass (s .class)) (ltb (price s) 5000) program in
+      let dollar : isDollarClass (s .class) ≡ true = search parts in
+      let cheap : ltb (price s) 5000 ≡ true = search parts in
       let whole : multiple 100 (cents h) ≡ true = eq-eqb (cents h % 100) 0 (omega arith) in
       let grid : dollarGrid s (cents h) ≡ true =
       rw (near, dollar, cheap, whole, le-leb 100 (cents h) (omega arith), le-leb (cents h) 5000 (omega arith)) in
       let range : standardRange s h ≡ true = ranged-standard s h (rw (near, dollar, whole)) low high in
-      second (rw (grid, range))
+      given-by 1 tt (rw (grid, range))
 
   half-open : 1 ≤ h → h ≤ halfEnd s → isOpenStrike s h ≡ true
   half-open l k =
       let g = half-each s h l k in
-      third (rw (g .0, g .1))
+      given-by 2 tt (rw (g .0, g .1))
 
   -- where the rung says so each multiple of its step in range is open
   pub rung-open : 1 ≤ h → lowEnd (price s) ≤ h → h ≤ highEnd s → rungAt (rungs s) h .all ≡ true → On (rungs s) h →
@@ -169,7 +149,8 @@ module _ (s : Setting) (h : ℕ) where
       tens : h % 20 ≡ 0 → h % 10 ≡ 0
       tens m = times 10 h (2 * (h / 20)) (omega arith)
 
-      dollars : (isProgramClass (s .class) ≡ true) × (h ≤ lastDollar) → isNear s ≡ true → h % 2 ≡ 0 → isOpenStrike s h ≡ true
+      dollars : (isProgramClass (s .class) ≡ true) × (h ≤ lastDollar) → isNear s ≡ true → h % 2 ≡ 0 →
+          isOpenStrike s h ≡ true
       dollars p near m = dollar-open near (p .0) m least (p .1) low high
 
       ladder : (isDollarClass (s .class) ≡ false) × (h ≤ lastTwoFifty) → h % 5 ≡ 0 → isOpenStrike s h ≡ true
@@ -179,18 +160,11 @@ module _ (s : Setting) (h : ℕ) where
           record { fine = λ j. m; fives = λ j. absurd (omega (arith, p .1)); tens = λ j. absurd (omega (arith, p .1)) })
           low high
 
-closed : (s : Setting) (h : ℕ) → (isOpenStrike s h ≡ true → ⊥) → isOpenStrike s h ≡ false
-closed s h none = go (isOpenStrike s h) refl
-  where
-    go : (t : Bool) → isOpenStrike s h ≡ t → t ≡ false
-    go true e = absurd (none e)
-    go false e = refl
-
 pub closed-below : (s : Setting) (h : ℕ) → h < lowEnd (price s) → isOpenStrike s h ≡ false
-closed-below s h l = closed s h (λ e. omega (arith, open-given s h e .low))
+closed-below s h l = sym (refuted (isOpenStrike s h) (λ t. omega (arith, open-given s h t .low)))
 
 pub closed-above : (s : Setting) (h : ℕ) → highEnd s < h → h ≤ highestStrike → isOpenStrike s h ≡ false
-closed-above s h l k = closed s h (λ e. omega (arith, open-given s h e .high k))
+closed-above s h l k = sym (refuted (isOpenStrike s h) (λ t. omega (arith, open-given s h t .high k)))
 
 -- the open strikes from a height in range on, up to where its rung or the range ends
 open-multiples : (s : Setting) (low : ℕ) → 1 ≤ low → lowEnd (price s) ≤ low →
@@ -198,7 +172,7 @@ open-multiples : (s : Setting) (low : ℕ) → 1 ≤ low → lowEnd (price s) �
     Multiples s r low (min (r .to) (highEnd s))
 open-multiples s low least start =
     record {
-      among = λ h l k e. ap (λ (r : Rung). h % r .step) (sym (same h l k)) ∙ open-given s h e .on;
+      among = λ h l k e. ap (λ (r : Rung). h % r .step) (sym (same h l k)) ∙ open-given s h (true-T _ e) .on;
       each =
           λ a h l k m.
           rung-open s h (omega arith) (omega arith) (omega arith)

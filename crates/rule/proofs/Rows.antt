@@ -1,7 +1,7 @@
 -- The decision over the rows of the grounds, one row at a time: what is decided is said of the rows that are left. Of
 -- the spacing it needs only which ground is the first that passes. Assumes nothing.
 use mathlib.Core.Path.{_≡_, refl, sym, ap, _∙_}
-use mathlib.Core.Bool.{Bool, true, false, cond, _&&_, _||_, or-assoc, or-false, and-false, and-self-left}
+use mathlib.Core.Bool.{Bool, true, false, cond, _&&_, _||_, or-false, and-false, and-self-left}
 use mathlib.Core.List.{List, [], _∷_, map}
 use Prim.Native.Nat.{ℕ, zero, suc, _+_, _≤_, _<_}
 use native.Mathlib.Numerals.{add-one}
@@ -13,25 +13,19 @@ use Rattle.word.specs.declared.answer.Refusal.the-variants.{OffGrid, OutOfRange
 use Rattle.word.specs.declared.answer.Answer.{Answer}
 use Rattle.word.specs.declared.answer.Answer.the-variants.{Ground, Refused}
 use Rattle.rule.specs.declared.terms.Setting.{Setting}
-use Rattle.logic.specs.Lists.{some, upFrom}
+use Rattle.logic.specs.Lists.{some, upFrom, firstFrom}
+use Rattle.logic.proofs.Tests.{parts}
+use Rattle.logic.proofs.Walks.{some-step, first-found}
 use Rattle.rule.specs.Grids.{gridOf}
 use Rattle.rule.specs.Ranges.{rangeOf}
 use Rattle.word.specs.Answers.{isAccepted}
 use Rattle.rule.specs.Spacing.{Standing, spacingOf}
 use Rattle.rule.specs.Judgement.{rowOf, rowsOf, passes, passesGrid, passesRange, refusalOf, groundFrom, decided}
-use Rattle.rule.specs.Judgement.{foundRow, foundRows, firstFrom, firstGround, judgement}
-use Rattle.rule.proofs.Tests.{and-left}
-use Rattle.rule.proofs.Walks.{first-found}
+use Rattle.rule.specs.Judgement.{foundRow, foundRows, firstGround, judgement}
 
 first-step : (rows : List (List Bool)) (g : ℕ) → g < length rows → (v : Answer) →
     groundFrom v g (drop g rows) ≡ cond (passes (getD rows g [])) (Ground g) (groundFrom v (g + 1) (drop (g + 1) rows))
 first-step rows g l v = rw (ap (λ (n : ℕ). drop n rows) (add-one g), drop-cons rows g [])
-
--- b says whether one of the first i rows passes the test
-some-step : (test : List Bool → Bool) (rows : List (List Bool)) (i : ℕ) (b b′ : Bool) → i < length rows →
-    some test rows ≡ (b || some test (drop i rows)) → b′ ≡ (b || test (getD rows i [])) → some test rows ≡ (b′ || some test (drop (i + 1) rows))
-some-step test rows i b b′ l s e =
-    rw (e, add-one) (s ∙ rw (drop-cons rows i []) (sym (or-assoc b (test (getD rows i [])) (some test (drop (suc i) rows)))))
 
 -- what is known before row g: no row below g passes, and whether one of them passes its grid, and its range too
 pub record Seen (rows : List (List Bool)) (onGrid inRange : Bool) (g : ℕ) : Type 0 where
@@ -55,8 +49,8 @@ module _ {rows : List (List Bool)} {onGrid inRange : Bool} {g : ℕ} (seen : See
       record {
         bound = omega arith;
         first = λ v. seen .first v ∙ first-step rows g l v ∙ rw p;
-        grids = some-step passesGrid rows g onGrid onGrid′ l (seen .grids) e₁;
-        ranges = some-step passesRange rows g inRange inRange′ l (seen .ranges) e₂;
+        grids = some-step passesGrid [] rows g onGrid onGrid′ l (seen .grids) e₁;
+        ranges = some-step passesRange [] rows g inRange inRange′ l (seen .ranges) e₂;
       }
 
   pub seen-all : length rows ≤ g → Refused (cond inRange TooClose (cond onGrid OutOfRange OffGrid)) ≡ decided rows
@@ -66,7 +60,8 @@ module _ {rows : List (List Bool)} {onGrid inRange : Bool} {g : ℕ} (seen : See
       let b : some passesRange rows ≡ inRange = seen .ranges ∙ rw (e, or-false) in
       sym (seen .first (Refused (refusalOf rows)) ∙ rw (e, a, b))
 
-accepted-from : (v : Answer) → isAccepted v ≡ false → (g : ℕ) (rows : List (List Bool)) → isAccepted (groundFrom v g rows) ≡ some passes rows
+accepted-from : (v : Answer) → isAccepted v ≡ false → (g : ℕ) (rows : List (List Bool)) →
+    isAccepted (groundFrom v g rows) ≡ some passes rows
 accepted-from v e g [] = e
 accepted-from v e g (row ∷ rows) = go (passes row) (accepted-from v e (g + 1) rows)
   where
@@ -126,8 +121,7 @@ module _ (s : Setting) (h : ℕ) where
             groundFrom v g (map (foundRow s h (cond t g (firstFrom passesAt n (g + 1)))) (upFrom (suc n) g))
             ≡ cond t (Ground g) (groundFrom v (g + 1) (map (rowOf s standing h) (upFrom n (suc g))))
         go true e r =
-            let both : (gridOf s g h && rangeOf s g h) ≡ true =
-            and-left (gridOf s g h && rangeOf s g h) (spacingOf s standing g h) e in
+            let both : (gridOf s g h && rangeOf s g h) ≡ true = search parts in
             rw (and-self-left (gridOf s g h) (rangeOf s g h), both, eq-eqb g g refl)
         go false e r =
             let later : g + 1 ≤ firstFrom passesAt n (g + 1) = first-found passesAt n (g + 1) .least in

@@ -1,24 +1,22 @@
 -- The grids in half dollars: what the strikes of each ground but Half are multiples of, and which multiples Standard
 -- holds. Assumes nothing.
 use mathlib.Core.Path.{_≡_, refl, sym, ap, _∙_}
-use mathlib.Core.Bool.{Bool, true, false, not, cond, _&&_, _||_, and-false, and-assoc, true≢false}
+use mathlib.Core.Bool.{Bool, true, false, not, cond, _&&_, _||_, and-false, true≢false}
 use mathlib.Core.Logic.{⊎-elim}
 use Prim.Native.Nat.{ℕ, _+_, _*_, _/_, _%_, _≤_, _<_}
 use native.Mathlib.Omega.{arith}
-use native.Mathlib.Nat.{mul-mod-right, mod-one}
-use lib.Dec.{leb, ltb, eqb}
+use native.Mathlib.Nat.{mod-one}
+use lib.Dec.{T, leb, ltb, eqb, leb→le, eqb→eq}
 use borrow.Author.Tests.{ltb-false, leb-true, leb-false, eqb-true, le-leb, lt-ltb, eq-eqb}
+use Rattle.logic.proofs.Tests.{ands, parts, true-T, or-cases}
+use Rattle.logic.proofs.Multiples.{times}
 use Rattle.word.specs.declared.class.ClassRecord.{ClassRecord}
 use Rattle.rule.specs.declared.terms.Setting.{Setting}
 use Rattle.rule.specs.Terms.{cents, isDollarClass, isLong, isNear, price}
 use Rattle.rule.specs.Grids.{multiple, ladder, standardGrid, dollarGrid, wingBase, wingAt, wingGrid}
 use Rattle.rule.specs.declared.bounds.Rung.{Rung}
 use Rattle.rule.specs.Ends.{isProgramClass, halfEnd, dollarEnd, ladderEnd, rungs, lastDollar, lastTwoFifty, lastFive}
-use Rattle.rule.proofs.Tests.{and-left, and-right, or-cases}
 use Rattle.rule.proofs.Rungs.{On, _▹_, at-rung}
-
-pub times : (n h q : ℕ) → h ≡ n * q → h % n ≡ 0
-times n h q e = rw (e, mul-mod-right)
 
 -- what the ladder asks of a strike
 pub record Stepped (h : ℕ) : Type 0 where
@@ -26,39 +24,46 @@ pub record Stepped (h : ℕ) : Type 0 where
   pub fives : lastTwoFifty < h → h % 10 ≡ 0
   pub tens : lastFive < h → h % 20 ≡ 0
 
+-- the three parts of the ladder
+abbrev toTwentyFive : ℕ → Bool
+toTwentyFive k = leb k 2500 && multiple 250 k
+
+abbrev toTwoHundred : ℕ → Bool
+toTwoHundred k = ltb 2500 k && leb k 20000 && multiple 500 k
+
+abbrev pastTwoHundred : ℕ → Bool
+pastTwoHundred k = ltb 20000 k && multiple 1000 k
+
 ladder-stepped : (h : ℕ) → ladder (cents h) ≡ true → Stepped h
-ladder-stepped h e = ⊎-elim (λ d. ⊎-elim to-25 to-200 (or-cases _ _ d)) above-200 (or-cases _ _ e)
+ladder-stepped h e =
+    ⊎-elim
+    (λ d. ⊎-elim to-25 to-200 (or-cases (toTwentyFive (cents h)) (toTwoHundred (cents h)) d))
+    past-200
+    (or-cases (toTwentyFive (cents h) || toTwoHundred (cents h)) (pastTwoHundred (cents h)) (true-T _ e))
   where
-    to-25 : (leb (cents h) 2500 && multiple 250 (cents h)) ≡ true → Stepped h
+    to-25 : T (toTwentyFive (cents h)) → Stepped h
     to-25 a =
-        let most : cents h ≤ 2500 =
-        leb-true (cents h) 2500 (and-left (leb (cents h) 2500) (multiple 250 (cents h)) a) in
-        let m : cents h % 250 ≡ 0 =
-        eqb-true (cents h % 250) 0 (and-right (leb (cents h) 2500) (multiple 250 (cents h)) a) in
+        let most : cents h ≤ 2500 = leb→le (cents h) 2500 (search ands) in
+        let m : cents h % 250 ≡ 0 = eqb→eq (cents h % 250) 0 (search ands) in
         record {
           fine = λ l. times 5 h (cents h / 250) (omega arith);
           fives = λ l. absurd (omega arith);
           tens = λ l. absurd (omega arith);
         }
 
-    to-200 : (ltb 2500 (cents h) && leb (cents h) 20000 && multiple 500 (cents h)) ≡ true → Stepped h
+    to-200 : T (toTwoHundred (cents h)) → Stepped h
     to-200 a =
-        let b : (ltb 2500 (cents h) && leb (cents h) 20000) ≡ true =
-        and-left (ltb 2500 (cents h) && leb (cents h) 20000) (multiple 500 (cents h)) a in
-        let most : cents h ≤ 20000 =
-        leb-true (cents h) 20000 (and-right (ltb 2500 (cents h)) (leb (cents h) 20000) b) in
-        let m : cents h % 500 ≡ 0 =
-        eqb-true (cents h % 500) 0 (and-right (ltb 2500 (cents h) && leb (cents h) 20000) (multiple 500 (cents h)) a) in
+        let most : cents h ≤ 20000 = leb→le (cents h) 20000 (search ands) in
+        let m : cents h % 500 ≡ 0 = eqb→eq (cents h % 500) 0 (search ands) in
         record {
           fine = λ l. times 5 h (2 * (cents h / 500)) (omega arith);
           fives = λ l. times 10 h (cents h / 500) (omega arith);
           tens = λ l. absurd (omega arith);
         }
 
-    above-200 : (ltb 20000 (cents h) && multiple 1000 (cents h)) ≡ true → Stepped h
-    above-200 a =
-        let m : cents h % 1000 ≡ 0 =
-        eqb-true (cents h % 1000) 0 (and-right (ltb 20000 (cents h)) (multiple 1000 (cents h)) a) in
+    past-200 : T (pastTwoHundred (cents h)) → Stepped h
+    past-200 a =
+        let m : cents h % 1000 ≡ 0 = eqb→eq (cents h % 1000) 0 (search ands) in
         record {
           fine = λ l. times 5 h (4 * (cents h / 1000)) (omega arith);
           fives = λ l. times 10 h (2 * (cents h / 1000)) (omega arith);
@@ -87,15 +92,13 @@ stepped-ladder h r = go (leb (cents h) 2500) refl (leb (cents h) 20000) refl
 
 module _ (c : ClassRecord) (h : ℕ) where
   pub standard-ladder : standardGrid c (cents h) ≡ true → Stepped h
-  standard-ladder e =
-      ladder-stepped h
-      (and-left (ladder (cents h)) (not (isDollarClass c && ltb (cents h) 5000 && not (multiple 500 (cents h)))) e)
+  standard-ladder e = ladder-stepped h (search parts)
 
   -- in a $1 class Standard is the multiples of $5 on the ladder
   pub standard-five : isDollarClass c ≡ true → standardGrid c (cents h) ≡ true → h % 10 ≡ 0
   standard-five d e =
       go (ltb (cents h) 5000) refl (multiple 500 (cents h)) refl
-      (ap less (sym d) ∙ and-right (ladder (cents h)) (less (isDollarClass c)) e)
+      (ap less (sym d) ∙ search parts)
     where
       less : Bool → Bool
       less t = not (t && ltb (cents h) 5000 && not (multiple 500 (cents h)))
@@ -105,8 +108,7 @@ module _ (c : ClassRecord) (h : ℕ) where
       go true a true b n = times 10 h (cents h / 500) (omega (arith, eqb-true (cents h % 500) 0 b))
       go true a false b n = absurd (true≢false (sym n))
       go false a u b n =
-          ladder-stepped h (and-left (ladder (cents h)) (less (isDollarClass c)) e) .fives
-          (omega (arith, ltb-false (cents h) 5000 a))
+          ladder-stepped h (search parts) .fives (omega (arith, ltb-false (cents h) 5000 a))
 
   pub standard-of : (isDollarClass c ≡ true → h % 10 ≡ 0) → Stepped h → standardGrid c (cents h) ≡ true
   standard-of five r = go (isDollarClass c) refl
@@ -136,7 +138,7 @@ module _ (c : ClassRecord) (h : ℕ) where
       go false k = (refl, k)
 
   pub program-dollar : isProgramClass c ≡ true → isDollarClass c ≡ true
-  program-dollar e = and-left (isDollarClass c) (ltb (c .close) 5000) e
+  program-dollar e = search parts
 
   -- a Standard strike past $25, or in a $1 class, is a multiple of $5
   past-ladder : standardGrid c (cents h) ≡ true → ladderEnd c < h → h % 10 ≡ 0
@@ -189,20 +191,17 @@ module _ (s : Setting) (h : ℕ) where
 
   -- the last two of the three conditions of Dollar and of Wing
   program : (term : Bool) → (term && isDollarClass c && ltb (price s) 5000) ≡ true → isProgramClass c ≡ true
-  program term e = and-right term (isProgramClass c) (sym (and-assoc term (isDollarClass c) (ltb (price s) 5000)) ∙ e)
+  program term e =
+      let dollar : isDollarClass c ≡ true = search parts in
+      let cheap : ltb (price s) 5000 ≡ true = search parts in
+      rw (dollar, cheap)
 
   pub dollar-whole : dollarGrid s (cents h) ≡ true → Whole
   dollar-whole e =
-      let asked : Bool = isNear s && isDollarClass c && ltb (price s) 5000 in
-      let whole : Bool = multiple 100 (cents h) in
-      let a : (whole && leb 100 (cents h) && leb (cents h) 5000) ≡ true =
-      and-right asked (whole && leb 100 (cents h) && leb (cents h) 5000) e in
-      let m : whole ≡ true =
-      and-left whole (leb 100 (cents h)) (and-left (whole && leb 100 (cents h)) (leb (cents h) 5000) a) in
       record {
-        program = program (isNear s) (and-left asked (whole && leb 100 (cents h) && leb (cents h) 5000) e);
-        whole = times 2 h (cents h / 100) (omega (arith, eqb-true (cents h % 100) 0 m));
-        most = omega (arith, leb-true (cents h) 5000 (and-right (whole && leb 100 (cents h)) (leb (cents h) 5000) a));
+        program = program (isNear s) (search parts);
+        whole = times 2 h (cents h / 100) (omega (arith, eqb-true (cents h % 100) 0 (search parts)));
+        most = omega (arith, leb-true (cents h) 5000 (search parts));
       }
 
   abbrev base : ℕ
@@ -219,18 +218,17 @@ module _ (s : Setting) (h : ℕ) where
   wing-whole e =
       ⊎-elim
       (λ d.
-      ⊎-elim (λ a. two (and-left at-2 (leb (price s) base) a))
-      (λ a. three (and-left at-3 (leb (base + 500) (price s)) a))
+      ⊎-elim (λ a. two (search ands)) (λ a. three (search ands))
       (or-cases (at-2 && leb (price s) base) (at-3 && leb (base + 500) (price s)) d))
-      (λ a. two (and-left at-2 (ltb base (price s) && leb (price s) (base + 500)) a))
+      (λ a. two (search ands))
       (or-cases (at-2 && leb (price s) base || at-3 && leb (base + 500) (price s))
-      (at-2 && (ltb base (price s) && leb (price s) (base + 500))) e)
+      (at-2 && (ltb base (price s) && leb (price s) (base + 500))) (true-T _ e))
     where
-      two : at-2 ≡ true → h % 2 ≡ 0
-      two a = times 2 h (5 * (cents h / 500) + 2) (omega (arith, eqb-true (cents h) (base + 200) a))
+      two : T at-2 → h % 2 ≡ 0
+      two a = times 2 h (5 * (cents h / 500) + 2) (omega (arith, eqb→eq (cents h) (base + 200) a))
 
-      three : at-3 ≡ true → h % 2 ≡ 0
-      three a = times 2 h (5 * (cents h / 500) + 3) (omega (arith, eqb-true (cents h) (base + 300) a))
+      three : T at-3 → h % 2 ≡ 0
+      three a = times 2 h (5 * (cents h / 500) + 3) (omega (arith, eqb→eq (cents h) (base + 300) a))
 
   -- what the grid of Wing says of the strike, and of its L
   pub record Wing : Type 0 where
@@ -240,18 +238,14 @@ module _ (s : Setting) (h : ℕ) where
 
   pub wing-stepped : wingGrid s (cents h) ≡ true → Wing
   wing-stepped e =
-      let asked : Bool = isLong s && isDollarClass c && ltb (price s) 5000 in
-      let at : Bool = wingAt (price s) base (cents h) in
-      let a : (leb 500 base && leb base 4500 && at) ≡ true = and-right asked (leb 500 base && leb base 4500 && at) e in
-      let b : (leb 500 base && leb base 4500) ≡ true = and-left (leb 500 base && leb base 4500) at a in
-      let most : base ≤ 4500 = leb-true base 4500 (and-right (leb 500 base) (leb base 4500) b) in
+      let most : base ≤ 4500 = leb-true base 4500 (search parts) in
       record {
         whole =
             record {
-              program = program (isLong s) (and-left asked (leb 500 base && leb base 4500 && at) e);
-              whole = wing-whole (and-right (leb 500 base && leb base 4500) at a);
+              program = program (isLong s) (search parts);
+              whole = wing-whole (search parts);
               most = omega arith;
             };
-        least = leb-true 500 base (and-left (leb 500 base) (leb base 4500) b);
+        least = leb-true 500 base (search parts);
         most = most;
       }

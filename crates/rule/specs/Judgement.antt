@@ -1,6 +1,6 @@
 -- Document 01, end of "Spacing": the ground of a strike, or 11, 12 or 13, and the list of permitted strikes. Assumes
 -- nothing.
-use Prim.Native.Nat.{ℕ, zero, suc, _+_, _≤_}
+use Prim.Native.Nat.{ℕ, _+_, _≤_}
 use mathlib.Core.Bool.{Bool, false, cond, not, _&&_}
 use mathlib.Core.List.{List, [], _∷_, map}
 use lib.Dec.{eqb}
@@ -12,7 +12,7 @@ use Rattle.word.specs.declared.answer.Refusal.the-variants.{OffGrid, OutOfRange
 use Rattle.word.specs.declared.answer.Answer.{Answer}
 use Rattle.word.specs.declared.answer.Answer.the-variants.{Ground, Refused}
 use Rattle.rule.specs.declared.terms.Setting.{Setting}
-use Rattle.logic.specs.Lists.{some, only, upFrom}
+use Rattle.logic.specs.Lists.{some, only, upFrom, firstFrom}
 use Rattle.rule.specs.Grids.{grounds, gridOf}
 use Rattle.rule.specs.Ranges.{rangeOf}
 use Rattle.rule.specs.Spacing.{Standing, spacingOf}
@@ -53,11 +53,6 @@ foundRow s h found g = gridOf s g h ∷ (gridOf s g h && rangeOf s g h) ∷ eqb 
 -- the rows from which the code decides; no ground was found where `found` is their number
 abbrev pub foundRows : Setting → ℕ → ℕ → List (List Bool)
 foundRows s h found = map (foundRow s h found) grounds
-
--- the first of the n numbers from g up that passes the test, or g + n where none does
-abbrev pub firstFrom : (ℕ → Bool) → ℕ → ℕ → ℕ
-firstFrom test zero g = g
-firstFrom test (suc n) g = cond (test g) g (firstFrom test n (g + 1))
 
 -- the first ground that passes grid, range and spacing; their number where none does
 abbrev pub firstGround : Setting → List Standing → ℕ → ℕ

@@ -17,7 +17,7 @@ use Rattle.word.specs.Programs.{program, dollarProgram, halfProgram, designatio
 use Rattle.logic.specs.Lists.{every}
 use Rattle.book.specs.Facts.{OpenClass}
 use Rattle.book.specs.Books.{isClass}
-use Rattle.logic.proofs.Tests.{true-T, or-none}
+use Rattle.logic.proofs.Tests.{true-T, none-of}
 use Rattle.scan.specs.Stretches.{mayFollow, SeriesThen, ClassesWhere, Classes, SeriesEnd}
 use Rattle.scan.proofs.Figures.{FiguresThen, figures, classes-length}
 
@@ -127,11 +127,10 @@ module _ {now : ℕ} {ws : List ℕ} {i last dollars halves : ℕ} (v : Counted 
       (j : ℕ) → (ltb (program 1 .cap) dollars || ltb (program 2 .cap) halves) ≡ false → SeriesEnd now ws (i + figuresLength) j
       → Walked now ws j last dollars halves
   counted-more j t e =
-      let few = or-none (ltb (program 1 .cap) dollars) (ltb (program 2 .cap) halves) t in
       record {
         within = e .within;
-        dollarCapped = ltb-false (program 1 .cap) dollars (few .0);
-        halfCapped = ltb-false (program 2 .cap) halves (few .1);
+        dollarCapped = ltb-false (program 1 .cap) dollars (search none-of);
+        halfCapped = ltb-false (program 2 .cap) halves (search none-of);
         same = (
           λ r. replaced (λ xs legal. e .rest xs legal .0) (v .same .0 r),
           λ r. v .same .1 (replaced (λ xs legal. e .rest xs legal .1) r),

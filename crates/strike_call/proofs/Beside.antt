@@ -13,21 +13,19 @@ use Rattle.word.specs.Kinds.{kindOf, isOfKind}
 use Rattle.word.specs.Codec.{Word, Head, Close, Volume, Expiration, isLegal, packed}
 use Rattle.word.proofs.Words.{legal-fits, kindIn, kind-packed}
 use Rattle.logic.specs.Lists.{every, only}
-use Rattle.rule.proofs.Tests.{and-left}
 use Rattle.book.specs.Facts.{Series, OpenClass, number, isOpen, inMonth}
 use Rattle.word.specs.Figures.{classWord, figuresWords}
 use Rattle.book.specs.Layout.{strikeWord, expirationUnless, seriesWords, classesWords, used, factsOf}
 use Rattle.book.specs.Books.{isSeries, isBook}
 use Rattle.book.specs.Views.{class}
 use Rattle.book.specs.Places.{hasExpiration, strikesPlace, strikesEnd}
-use Rattle.logic.proofs.Tests.{and-intro, ands, T-true}
-use Rattle.logic.proofs.Lists.{every-map, every-true}
+use Rattle.logic.proofs.Tests.{and-intro, ands, parts, T-true}
+use Rattle.logic.proofs.Lists.{every-at, every-map, every-true}
 use Rattle.logic.proofs.Parts.{isUnder, isOver}
 use Rattle.logic.proofs.Splits.{every-split}
 use Rattle.book.proofs.ClassWords.{book-words}
 use Rattle.book.proofs.Expirations.{monthOf}
 use Rattle.book.proofs.Runs.{bookWords, run-word, strikes-within, strikes-part, strikes-good, expiration-strikes, expiration-length}
-use Rattle.place.proofs.Firsts.{every-at}
 use Rattle.place.proofs.Heads.{book-good, book-form, book-is, book-room, book-long}
 use Rattle.place.proofs.Laid.{kinds-packed}
 use Rattle.place.proofs.Found.{legal}
@@ -55,7 +53,7 @@ beside-within w at start stop below first last within =
         (b : Bool) → isStrikeAt w at ≡ b → stop ≡ cond {A = ℕ} b (at + 1) at
         → (at ≤ stop) × (stop ≤ used (factsOf w))
     stops true e d =
-        let l = ltb-true at (used (factsOf w)) (and-left (ltb at (used (factsOf w))) (isOfKind strikeKind (getD w at 0)) e) in
+        let l = ltb-true at (used (factsOf w)) (search parts) in
         (omega arith, omega arith)
     stops false e d = (omega arith, omega arith)
 

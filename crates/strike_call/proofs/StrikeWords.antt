@@ -14,7 +14,6 @@ use Rattle.rule.specs.declared.terms.Setting.{Setting}
 use Rattle.logic.specs.Lists.{Rising}
 use Rattle.rule.specs.Spacing.{Standing, standingOf}
 use Rattle.rule.specs.Judgement.{judgement}
-use Rattle.rule.proofs.Walks.{every-map}
 use Rattle.rule.proofs.Near.{nearest-judged}
 use Rattle.permitted.specs.Listing.{strikeIn}
 use Rattle.book.specs.Facts.{Series, isOpen, isAt, inMonth}
@@ -23,11 +22,11 @@ use Rattle.book.specs.Books.{isBook}
 use Rattle.book.specs.Views.{class, viewOf, isStanding, standingIn}
 use Rattle.book.specs.Places.{hasExpiration, strikesPlace, strikesEnd, strikePlace}
 use Rattle.book.proofs.Layouts.{book-facts}
+use Rattle.logic.proofs.Lists.{every-at, every-mapped}
 use Rattle.logic.proofs.Parts.{only-absent, only-both, every-kept, isUnder, isEqual, isOver}
 use Rattle.book.proofs.ClassWords.{series-good}
 use Rattle.book.proofs.Expirations.{monthOf, strikeOf, low, placed, high, strike-parts, strikes-rise}
 use Rattle.book.proofs.Runs.{strikes-standing}
-use Rattle.place.proofs.Firsts.{every-at}
 use Rattle.strike_call.proofs.Beside.{isStrikeAt, strike-there, strike-below}
 
 drop-take : {A : Type 0} (n k : ℕ) (xs : List A) → drop n (take (n + k) xs) ≡ take k (drop n xs)
@@ -153,7 +152,7 @@ module _
       rw (strike-at i, List·getD-append lower higher 0 i l)
       (ltb→lt (getD lower i 0) h
       (every-at (λ x. ltb x h) 0 lower i l
-      (rw (every-map (λ x. ltb x h) strikeOf (low series m h)) (every-kept (isUnder strikeOf h) (inMonth m series)))))
+      (rw (every-mapped (λ x. ltb x h) strikeOf (low series m h)) (every-kept (isUnder strikeOf h) (inMonth m series)))))
 
   over : (i : ℕ) → length lower ≤ i → i < length words → h < strikeIn (getD words i 0)
   over i l k =
@@ -162,7 +161,7 @@ module _
       rw (strike-at i, e, getD-append-add lower higher j 0)
       (ltb→lt h (getD higher j 0)
       (every-at (λ x. ltb h x) 0 higher j (omega (arith, all))
-      (rw (every-map (λ x. ltb h x) strikeOf (high series m h)) (every-kept (isOver strikeOf h) (inMonth m series)))))
+      (rw (every-mapped (λ x. ltb h x) strikeOf (high series m h)) (every-kept (isOver strikeOf h) (inMonth m series)))))
 
   -- the strikes next to its place are all that bear on h
   pub judged-beside : (s : Setting) (at start stop : ℕ) → at ≡ strikePlace c m h (factsOf w) →
@@ -186,8 +185,13 @@ module _
       (last ∙ ap (λ (b : Bool). cond {A = ℕ} b (at + 1) at) (strike-there w book c m o at least most)) in
       ap (λ (l : List ℕ). judgement s (map standingOf l) h)
       (sym (part-part w from start stop to (part .begins) (part .order) (part .ends)))
-      ∙ nearest-judged s h words (length lower) (start - from) (stop - from)
-      (strikes-rising w book c m o from to refl refl) (omega (arith, all)) under over
-      (rw behind at (part .below))
-      (above-from from at to stop (length lower) (length words) behind size least (part .above))
+      ∙ nearest-judged s
+      record {
+        rising = strikes-rising w book c m o from to refl refl;
+        within = omega (arith, all);
+        under = under;
+        over = over;
+        start = rw behind at (part .below);
+        stop = above-from from at to stop (length lower) (length words) behind size least (part .above);
+      }
       ∙ ap (λ (standing : List Standing). judgement s standing h) (standing-words w book c m o from to refl refl)

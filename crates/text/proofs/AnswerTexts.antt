@@ -10,7 +10,7 @@ use Rattle.word.specs.declared.answer.Answer.{Answer}
 use Rattle.word.specs.declared.answer.Answer.the-variants.{Done, Ground, Removed, Listed, Refused}
 use Rattle.word.specs.declared.answer.Refusal.{Refusal}
 use Rattle.word.specs.Answers.{refusalValue, answerNumber}
-use Rattle.word.proofs.Stores.{sets-append}
+use Rattle.logic.proofs.Stores.{sets-append}
 use Rattle.text.specs.Printing.{decimal, spacedNumber, spacedNumbers, valueOrNone, afterNumber, answerText}
 use Rattle.text.proofs.SpacedNumbers.{one-number}
 

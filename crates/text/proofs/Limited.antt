@@ -11,9 +11,8 @@ use borrow.Author.Tests.{leb-true}
 use Rattle.word.specs.declared.answer.Answer.{Answer}
 use Rattle.word.specs.declared.answer.Answer.the-variants.{Refused}
 use Rattle.word.specs.declared.answer.Refusal.the-variants.{BeyondLimits}
-use Rattle.logic.proofs.Tests.{and-both, and-intro, ands, same-bool, bool-cases}
+use Rattle.logic.proofs.Tests.{and-intro, ands, parts, same-bool, same-leb, bool-cases}
 use Rattle.logic.specs.Lists.{every}
-use Rattle.rule.proofs.Tests.{same-leb}
 use Rattle.book.specs.Facts.{Facts}
 use Rattle.book.specs.Calls.{Call, callM, on, callO, callC, callV, callD, callL, callJ, callX, callI, callR, callA, effectOn, effect, answerTo, written, step}
 use Rattle.book.specs.Letters.{callOf}
@@ -32,9 +31,8 @@ capped-small (k ∷ ns) =
 small-kept : (ns : List ℕ) → areSmall ns ≡ true → map capped ns ≡ ns
 small-kept [] e = refl
 small-kept (k ∷ ns) e =
-    let both = and-both (leb k 99999998) (areSmall ns) e in
-    let kept : capped k ≡ k = omega (arith, leb-true k 99999998 (both .0)) in
-    rw (kept, small-kept ns (both .1))
+    let kept : capped k ≡ k = omega (arith, leb-true k 99999998 (search parts)) in
+    rw (kept, small-kept ns (search parts))
 
 -- a number within a limit
 under : (limit v : ℕ) → T (leb v limit) → T (leb limit 99999998) → T (leb v 99999998)

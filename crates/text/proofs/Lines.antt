@@ -11,7 +11,7 @@ use lib.Seq.{sets}
 use lib.Dec.{leb}
 use borrow.Author.Tests.{le-leb}
 use Rattle.word.specs.Limits.{between}
-use Rattle.logic.proofs.Tests.{and-both, bool-cases, lt-or-le}
+use Rattle.logic.proofs.Tests.{parts, bool-cases, lt-or-le}
 use Rattle.logic.specs.Lists.{every}
 use Rattle.book.specs.Calls.{malformed}
 use Rattle.book.specs.Letters.{callOf}
@@ -43,9 +43,8 @@ parted s (c ∷ []) e =
     let test : Bool = between 65 90 c && every isNumeral (laterParts s) in
     ⊎-elim
     (λ (h : test ≡ true).
-    let both = and-both (between 65 90 c) (every isNumeral (laterParts s)) h in
-    let range = between-both 65 90 c (both .0) in
-    let numerals = true-numerals (laterParts s) (both .1) in
+    let range = between-both 65 90 c (search parts) in
+    let numerals = true-numerals (laterParts s) (search parts) in
     inr (c, record { low = range .0; high = range .1; numerals = numerals; same = rw e at (joined s) }))
     (λ (h : test ≡ false). inl (rw h))
     (bool-cases test)

@@ -8,7 +8,7 @@ use native.Mathlib.Omega.{arith}
 use lib.Dec.{leb, eqb}
 use borrow.Author.Tests.{leb-true, le-leb, eq-eqb, ne-eqb}
 use Rattle.word.specs.Limits.{between}
-use Rattle.logic.proofs.Tests.{and-both, eq-or-not}
+use Rattle.logic.proofs.Tests.{parts, eq-or-not}
 use Rattle.logic.specs.Lists.{every}
 use Rattle.text.specs.Grammar.{Digits, Numeral, Numerals, Formed, no-digits, a-digit, lone-zero, leading, no-numbers, a-number, spaced, isDigit, isNumeral, firstPart, laterParts}
 
@@ -19,8 +19,7 @@ between-true low high n least most = simp (le-leb low n least, le-leb n high mos
 
 pub between-both : (low high n : ℕ) → between low high n ≡ true → (low ≤ n) × (n ≤ high)
 between-both low high n h =
-    let both = and-both (leb low n) (leb n high) h in
-    (leb-true low n (both .0), leb-true n high (both .1))
+    (leb-true low n (search parts), leb-true n high (search parts))
 
 digits-true : {ds : List ℕ} → Digits ds → every isDigit ds ≡ true
 digits-true no-digits = refl
@@ -29,9 +28,8 @@ digits-true (a-digit {b} {ds} low high more) = simp (between-true 48 57 b low hi
 true-digits : (ds : List ℕ) → every isDigit ds ≡ true → Digits ds
 true-digits [] h = no-digits
 true-digits (b ∷ ds) h =
-    let both = and-both (isDigit b) (every isDigit ds) h in
-    let range = between-both 48 57 b (both .0) in
-    a-digit (range .0) (range .1) (true-digits ds (both .1))
+    let range = between-both 48 57 b (search parts) in
+    a-digit (range .0) (range .1) (true-digits ds (search parts))
 
 numeral-true : {t : List ℕ} → Numeral t → isNumeral t ≡ true
 unfolding isNumeral
@@ -50,9 +48,8 @@ true-numeral (b ∷ []) h =
     (λ differs. leading (omega (arith, differs, range .0)) (range .1) no-digits)
     (eq-or-not b 48)
 true-numeral (b ∷ d ∷ ds) h =
-    let both = and-both (between 49 57 b) (every isDigit (d ∷ ds)) h in
-    let range = between-both 49 57 b (both .0) in
-    leading (range .0) (range .1) (true-digits (d ∷ ds) (both .1))
+    let range = between-both 49 57 b (search parts) in
+    leading (range .0) (range .1) (true-digits (d ∷ ds) (search parts))
 
 pub numerals-true : {ts : List (List ℕ)} → Numerals ts → every isNumeral ts ≡ true
 numerals-true no-numbers = refl
@@ -61,8 +58,7 @@ numerals-true (a-number r rs) = simp (numeral-true r, numerals-true rs)
 pub true-numerals : (ts : List (List ℕ)) → every isNumeral ts ≡ true → Numerals ts
 true-numerals [] h = no-numbers
 true-numerals (t ∷ ts) h =
-    let both = and-both (isNumeral t) (every isNumeral ts) h in
-    a-number (true-numeral t (both .0)) (true-numerals ts (both .1))
+    a-number (true-numeral t (search parts)) (true-numerals ts (search parts))
 
 -- ---- parts
 

@@ -25,7 +25,7 @@ use Rattle.text.specs.Printing.{replyTo}
 use Rattle.text.specs.Sheets.{lineEnd}
 use Rattle.text.specs.WholeLines.{lineAfter, WholeAt}
 use Rattle.text.specs.Pieces.{Reader, callEnded, callMade, byteRead, bytesRead, hasBegun, lastEnded, lineRoom, bytesTaken, FirstTaken, Ended, Holds, begun, LinesRead, Pieced}
-use Rattle.logic.proofs.Tests.{bool-cases, eq-or-not, or-none}
+use Rattle.logic.proofs.Tests.{bool-cases, eq-or-not, none-of}
 use Rattle.text.proofs.AnswerTexts.{stores-after}
 
 -- ---- the bytes in turn
@@ -258,9 +258,8 @@ module _
   where
     pub onward-room : put + lineRoom (length second) ≤ length out
     onward-room =
-        let full = ltb (length out - put) (lineRoom (length second)) in
         let some : lineRoom (length second) ≤ length out - put =
-        ltb-false (length out - put) (lineRoom (length second)) (or-none (eqb end (length piece)) full test .1) in
+        ltb-false (length out - put) (lineRoom (length second)) (search none-of) in
         omega (arith, some)
 
     pub onward-more :
@@ -273,9 +272,8 @@ module _
         let m = length v in
         let s = drop read piece in
         let whole = drop from piece in
-        let full = ltb (length out - put) (lineRoom (length second)) in
         let inside : end < length piece =
-        omega (arith, eqb-false end (length piece) (or-none (eqb end (length piece)) full test .0), is .within) in
+        omega (arith, eqb-false end (length piece) (search none-of), is .within) in
         let ends : lineEnd s < length s = omega (arith, is .end-is, length-drop read piece) in
         let upto : end + 1 - from ≡ (read - from) + suc (lineEnd s) = omega (arith, is .end-is, g .lines .onward) in
         let here : from + (read - from) ≡ read = omega (arith, g .lines .onward) in

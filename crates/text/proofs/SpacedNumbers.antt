@@ -7,7 +7,7 @@ use mathlib.Core.List.{List, [], _∷_, _++_, append-assoc, append-nil}
 use lib.ListN.{length, take, drop, getD, length-append, take-append-drop}
 use lib.Seq.{sets, take-suc}
 use Rattle.text.specs.Printing.{spacedNumber, spacedNumbers}
-use Rattle.word.proofs.Stores.{sets-append}
+use Rattle.logic.proofs.Stores.{sets-append}
 
 numbers-append : (a b : List ℕ) → spacedNumbers (a ++ b) ≡ spacedNumbers a ++ spacedNumbers b
 unfolding spacedNumbers

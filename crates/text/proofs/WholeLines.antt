@@ -6,7 +6,7 @@ use mathlib.Core.Bool.{Bool, true, false, cond, not, _||_, and-false, true≢fal
 use mathlib.Core.List.{List, [], _∷_}
 use native.Mathlib.Omega.{arith}
 use native.Mathlib.Numerals.{add-one}
-use lib.Dec.{ltb, eqb}
+use lib.Dec.{T, ltb, eqb, eqb→eq, T-not}
 use lib.ListN.{length, take, drop, getD, set, drop-of-length-le}
 use lib.Seq.{drop-cons, drop-drop}
 use borrow.Author.Tests.{lt-ltb, le-ltb, lt-leb, eq-eqb, ne-eqb, eqb-true, eqb-false, not-true, not-false}
@@ -18,7 +18,7 @@ use Rattle.text.specs.Reading.{capped, zeros, emptyLine, malformedLine, 
 use Rattle.text.specs.Grammar.{isDigit}
 use Rattle.text.specs.Sheets.{lineEnd}
 use Rattle.text.specs.WholeLines.{digitsLength, grownBy, numeralLength, numeralValue, NumeralAt, lineAfter, EndsAfter, letterLine, WholeAt}
-use Rattle.logic.proofs.Tests.{bool-cases, lt-or-le, eq-or-not, one-of, or-none, outside, inside}
+use Rattle.logic.proofs.Tests.{equal-test, bool-cases, lt-or-le, eq-or-not, true-T, none-of, or-cases, outside, inside}
 use Rattle.text.proofs.Complete.{Pending, at-zero, in-number, state, feed-space, end-number}
 use Rattle.text.proofs.Sound.{Follows, follows, run-malformed}
 use Rattle.text.proofs.Parts.{between-true, between-both}
@@ -344,9 +344,9 @@ module _ {letter : ℕ} {sheet : List ℕ} {from count : ℕ} {numbers : List �
         ⊎-elim
         (λ (is : b ≡ 32).
         ⊎-elim
-        (λ (e : not (eqb b 32) ≡ true). absurd (eqb-false b 32 (not-true (eqb b 32) e) is))
-        (λ (e : eqb count 5 ≡ true). sixth is (eqb-true count 5 e))
-        (one-of (not (eqb b 32)) (eqb count 5) h))
+        (λ (t : T (not (eqb b 32))). absurd (T-not (eqb b 32) t (equal-test b 32 is)))
+        (λ (t : T (eqb count 5)). sixth is (eqb→eq count 5 t))
+        (or-cases (not (eqb b 32)) (eqb count 5) (true-T _ h)))
         (λ other. no-space differs other)
         (eq-or-not b 32) in
         going (passed malformed r)
@@ -354,10 +354,10 @@ module _ {letter : ℕ} {sheet : List ℕ} {from count : ℕ} {numbers : List �
     -- a space, and fewer than five numbers
     module _ (h : (not (eqb (getD sheet i 0) 32) || eqb count 5) ≡ false) where
       space : getD sheet i 0 ≡ 32
-      space = eqb-true (getD sheet i 0) 32 (not-false (eqb (getD sheet i 0) 32) (or-none (not (eqb (getD sheet i 0) 32)) (eqb count 5) h .0))
+      space = eqb-true (getD sheet i 0) 32 (not-false (eqb (getD sheet i 0) 32) (search none-of))
 
       pub going-room : count < 5
-      going-room = omega (arith, g .few, eqb-false count 5 (or-none (not (eqb (getD sheet i 0) 32)) (eqb count 5) h .1))
+      going-room = omega (arith, g .few, eqb-false count 5 (search none-of))
 
       module _ {value end : ℕ} (n : NumeralAt sheet (i + 1) value end) where
         pub going-none : {r : WholeLine} → end ≡ i + 1 → EndsAfter malformedLine sheet i r → EndsAfter (letterLine letter) sheet from r

@@ -1,5 +1,4 @@
 -- The laws that the functions' proofs and other crates cite.
-pub mod Stores
 pub mod RangeTests
 pub mod Fields
 pub mod Digits

@@ -4,8 +4,8 @@ use mathlib.Core.Bool.{true}
 use Prim.Native.Nat.{ℕ, _≤_}
 use lib.Dec.{leb}
 use borrow.Author.Tests.{leb-true}
-use Rattle.logic.proofs.Tests.{and-both}
+use Rattle.logic.proofs.Tests.{parts}
 use Rattle.word.specs.Limits.{between}
 
 pub between-high : (low high n : ℕ) → between low high n ≡ true → n ≤ high
-between-high low high n h = leb-true n high (and-both (leb low n) (leb n high) h .1)
+between-high low high n h = leb-true n high (search parts)

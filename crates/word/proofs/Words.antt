@@ -15,7 +15,7 @@ use Rattle.word.specs.Programs.{Program, programs, programCount, program
 use Rattle.word.specs.Field.{field, end}
 use Rattle.word.specs.Kinds.{kindField, kindOf, keyOf, headKind, usedField, classKind, closeKind, volumeKind, expirationKind, strikeKind, groundField, putField, callField}
 use Rattle.word.specs.Codec.{isLegal, packed, shifted, kindPlaced, FitEach, Fits, fieldsAs, reading, Word, Head, Class, Close, Volume, Expiration, Strike, Invalid}
-use Rattle.logic.proofs.Tests.{and-both}
+use Rattle.logic.proofs.Tests.{parts}
 use Rattle.word.proofs.RangeTests.{between-high}
 use Rattle.word.proofs.Fields.{field-packed}
 
@@ -24,24 +24,25 @@ designations-fit [] [] legal = omega arith
 designations-fit [] (d ∷ ds) legal = absurd (true≢false (sym legal))
 designations-fit (g ∷ gs) [] legal = absurd (true≢false (sym legal))
 designations-fit (g ∷ gs) (d ∷ ds) legal =
-    let p = and-both (isDesignation d) (areDesignations gs ds) legal in
-    (omega (arith, leb-true), designations-fit gs ds (p .1))
+    let fits : isDesignation d ≡ true = search parts in
+    (omega (arith, leb-true), designations-fit gs ds (search parts))
 
 -- limits are within the fields' bits
 pub legal-fits : (x : Word) → isLegal x ≡ true → Fits x
 legal-fits (Head now used) legal =
-    let p = and-both (isMonth now) (isLength used) legal in
+    let month : isMonth now ≡ true = search parts in
+    let length : isLength used ≡ true = search parts in
     omega (arith, leb-true, between-high)
 legal-fits (Class number ds) legal =
-    let p = and-both (isClassNumber number) (areDesignations programs ds) legal in
-    (omega (arith, between-high), designations-fit programs ds (p .1))
+    let class : isClassNumber number ≡ true = search parts in
+    (omega (arith, between-high), designations-fit programs ds (search parts))
 legal-fits (Close price) legal = omega (arith, leb-true)
 legal-fits (Volume contracts) legal = omega (arith, leb-true)
 legal-fits (Expiration month) legal = omega (arith, leb-true)
 legal-fits (Strike h ground put call) legal =
-    let p = and-both (isStrike h) (isGround ground && (isMark put && isMark call)) legal in
-    let q = and-both (isGround ground) (isMark put && isMark call) (p .1) in
-    let s = and-both (isMark put) (isMark call) (q .1) in
+    let strike : isStrike h ≡ true = search parts in
+    let grounded : isGround ground ≡ true = search parts in
+    let marks : (isMark put ≡ true) × (isMark call ≡ true) = (search parts, search parts) in
     omega (arith, leb-true, between-high)
 legal-fits Invalid legal = omega arith
 
@@ -169,5 +170,5 @@ unfolding reading
 reading-says w x e valid =
     let y = fieldsAs (kindOf w) w in
     let p = chosen (isLegal y && eqb (packed y) w) y x e valid in
-    let q = and-both (isLegal y) (eqb (packed y) w) (p .0) in
-    (sym (ap isLegal (p .1)) ∙ q .0, sym (ap packed (p .1)) ∙ eqb-true (packed y) w (q .1))
+    let passed : (isLegal y && eqb (packed y) w) ≡ true = p .0 in
+    (sym (ap isLegal (p .1)) ∙ search parts, sym (ap packed (p .1)) ∙ eqb-true (packed y) w (search parts))

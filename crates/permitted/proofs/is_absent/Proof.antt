@@ -6,7 +6,7 @@ use lib.Dec.{eqb}
 use lib.ListN.{length}
 use borrow.Author.Needs.{needs}
 use borrow.Author.Tests.{eq-eqb, ne-eqb}
-use Rattle.rule.proofs.Walks.{Cleared, cleared-none, cleared-next, cleared-not, cleared-all}
+use Rattle.logic.proofs.Walks.{Cleared, cleared-none, cleared-next, cleared-not, cleared-all}
 use Rattle.permitted.specs.Listing.{strikeIn}
 use Rattle.permitted.proofs.Strikes.{absent-words}
 use Rattle.permitted.proofs.is_absent.Statement.{statement}

@@ -4,7 +4,7 @@ use lib.Dec.{leb}
 use lib.ListN.{length, getD}
 use borrow.Author.Needs.{needs}
 use borrow.Author.Tests.{le-leb, lt-leb}
-use Rattle.rule.proofs.Walks.{Passed, passed-none, passed-here, passed-next, passed-all}
+use Rattle.logic.proofs.Walks.{Passed, passed-none, passed-here, passed-next, passed-all}
 use Rattle.permitted.specs.Listing.{strikeIn}
 use Rattle.permitted.proofs.strike_from.Statement.{statement}
 use Rattle.permitted.proofs.strike_from.Tie as tie

@@ -10,7 +10,7 @@ use borrow.Author.Needs.{needs}
 use borrow.Author.Tests.{eqb-true}
 use Rattle.word.specs.Kinds.{classKind}
 use Rattle.word.specs.Limits.{isClassNumber}
-use Rattle.logic.proofs.Tests.{and-both, T-true}
+use Rattle.logic.proofs.Tests.{parts, T-true}
 use Rattle.word.proofs.RangeTests.{between-high}
 use Rattle.place.specs.Search.{isHolding}
 use Rattle.place.proofs.Near.{near-holds}
@@ -77,9 +77,9 @@ returns : tie.Need-returns
 returns c =
     let u = near (c .before) in
     let book = start u .pre .0 in
-    let holds = and-both _ _ (holds-number c) in
+    let holds = holds-number c in
     class-sought _ book _ _ _ (u .used .ensures)
-    (class-rises _ book _ _ (u .used .ensures) .equal _ (c .if2 .taken) (holds .0) (eqb-true _ _ (holds .1)))
+    (class-rises _ book _ _ (u .used .ensures) .equal _ (c .if2 .taken) (search parts) (eqb-true _ _ (search parts)))
 
 first-rising-requires : tie.Need-first-rising-requires
 first-rising-requires c κs =

@@ -2,10 +2,11 @@
 use Prim.Native.Nat.{_-_, _*_, _/_, _≤_, _<_}
 use native.Mathlib.Nat.{mul-le-mul-right, mul-lt-mul-of-pos-left, div-lt-iff-lt-mul}
 use native.Mathlib.Omega.{arith}
-use lib.Dec.{leb, ltb}
+use mathlib.Core.Bool.{_&&_}
+use lib.Dec.{T, leb, ltb, leb→le, ltb→lt}
 use borrow.Author.Needs.{needs}
-use borrow.Author.Tests.{leb-true, ltb-true, not-false}
-use Rattle.logic.proofs.Tests.{and-both}
+use borrow.Author.Tests.{not-false}
+use Rattle.logic.proofs.Tests.{ands, true-T}
 use Rattle.place.proofs.search.expected.Statement.{statement}
 use Rattle.place.proofs.search.expected.Tie as tie
 
@@ -13,8 +14,10 @@ use Rattle.place.proofs.search.expected.Tie as tie
 between : (c : tie.Else1) → let a = c .before .args in (a .below ≤ a .key) × (a .key < a .above)
 between c =
     let a = c .before .args in
-    let t = and-both (leb (a .below) (a .key)) (ltb (a .key) (a .above)) (not-false _ (c .if1 .left)) in
-    (leb-true (a .below) (a .key) (t .0), ltb-true (a .key) (a .above) (t .1))
+    let inside = leb (a .below) (a .key) && ltb (a .key) (a .above) in
+    let both : T (leb (a .below) (a .key) && ltb (a .key) (a .above)) =
+    true-T inside (not-false inside (c .if1 .left)) in
+    (leb→le (a .below) (a .key) (search ands), ltb→lt (a .key) (a .above) (search ands))
 
 there-within : (c : tie.Else1) → let a = c .before .args in a .span * (a .key - a .below) / (a .above - a .below) < a .span
 there-within c =

@@ -11,7 +11,7 @@ use lib.Dec.{leb}
 use lib.ListN.{length, getD}
 use lib.Pow.{pow-mono}
 use borrow.Author.Needs.{needs}
-use Rattle.logic.proofs.Tests.{and-both}
+use Rattle.logic.proofs.Tests.{parts}
 use Rattle.word.specs.Limits.{highestClass, longestRun}
 use Rattle.word.proofs.Fields.{field-less}
 use Rattle.word.specs.Kinds.{isOfKind}
@@ -89,7 +89,8 @@ of-kind c =
     let is-next =
     c .before .first .ensures .0
     ∙ part-from (a .kind) 0 (omega arith) (words c) (l .high - from) from (s .pre .no-lower) in
-    and-both _ _ (part-passes (words c) _ _ (l .inv .1) (isFrom (a .kind) 0) 0 _ is-next (next-within c)) .0
+    let passes = part-passes (words c) _ _ (l .inv .1) (isFrom (a .kind) 0) 0 _ is-next (next-within c) in
+    search parts
 
 -- the words up to one that holds less are passed
 passed :

@@ -3,10 +3,11 @@
 use Prim.Native.Nat.{_-_, _≤_}
 use mathlib.Core.Path.{_∙_}
 use native.Mathlib.Omega.{arith}
+use mathlib.Core.Bool.{_&&_}
 use lib.ListN.{length}
+use lib.Dec.{T, leb, leb→le}
 use borrow.Author.Needs.{needs}
-use borrow.Author.Tests.{leb-true}
-use Rattle.logic.proofs.Tests.{and-both}
+use Rattle.logic.proofs.Tests.{ands, true-T}
 use Rattle.removal.proofs.Shifts.{Shifting, shift-start, shift-on, shift-done, shift-rest}
 use Rattle.removal.proofs.gap.move_down_by.Statement.{statement}
 use Rattle.removal.proofs.gap.move_down_by.Tie as tie
@@ -48,8 +49,10 @@ eight-fit : (c : tie.Then1 Inv-loop μ-loop) →
     let a = c .before .before .before .before .args in
     (8 ≤ a .gap) × (8 ≤ length (a .words .now) - a .gap)
 eight-fit c =
-    let both = and-both _ _ (c .if1 .taken) in
-    (leb-true _ _ (both .0), leb-true _ _ (both .1))
+    let a = c .before .before .before .before .args in
+    let rest = length (a .words .now) - a .gap in
+    let both : T (leb 8 (a .gap) && leb 8 rest) = true-T (leb 8 (a .gap) && leb 8 rest) (c .if1 .taken) in
+    (leb→le 8 (a .gap) (search ands), leb→le 8 rest (search ands))
 
 sub-last : tie.Need-sub-last Inv-loop μ-loop
 sub-last c = omega (arith, eight-fit c)

@@ -1,7 +1,6 @@
 -- `half_end` answers the closed form: what it asks first is that one of the four conditions of Half fails. Assumes nothing.
 use borrow.Author.Needs.{needs}
-use Rattle.logic.proofs.Tests.{at-most}
-use Rattle.rule.proofs.Tests.{none-fails}
+use Rattle.logic.proofs.Tests.{at-most, none-fails}
 use Rattle.rule.proofs.bounds.half_end.Statement.{statement}
 use Rattle.rule.proofs.bounds.half_end.Tie as tie
 

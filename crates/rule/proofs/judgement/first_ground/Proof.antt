@@ -10,10 +10,12 @@ use borrow.Author.Needs.{needs}
 use borrow.Author.Tests.{not-true, not-false}
 use lib.ListN.{length, getD}
 use Rattle.logic.specs.Lists.{every}
+use Rattle.logic.proofs.Lists.{every-mapped}
+use Rattle.logic.proofs.Walks.{Passed, passed-none, passed-here, passed-next, passed-all}
+use Rattle.logic.proofs.Walks.{Cleared, cleared-none, cleared-next, cleared-not, cleared-all}
 use Rattle.rule.specs.Spacing.{clears, standingOf}
 use Rattle.rule.specs.Judgement.{passes, passesRange, rowOf}
 use Rattle.rule.proofs.Rows.{found-range}
-use Rattle.rule.proofs.Walks.{every-map, Passed, passed-none, passed-here, passed-next, passed-all, Cleared, cleared-none, cleared-next, cleared-not, cleared-all}
 use Rattle.rule.proofs.judgement.first_ground.Statement.{statement}
 use Rattle.rule.proofs.judgement.first_ground.Tie as tie
 
@@ -44,7 +46,7 @@ row-at c t e =
     ap (λ (rows : List (List Bool)). passesRange (getD rows g [])) (start .pre .1)
     ∙ found-range (args .s) (args .strike .0) g (omega arith) in
     ap₂ _&&_ (sym both ∙ e)
-    (every-map (clears (args .s) g (args .strike .0)) standingOf (args .standing .now))
+    (every-mapped (clears (args .s) g (args .strike .0)) standingOf (args .standing .now))
 
 grounds-holds : tie.Need-grounds-holds Inv-standing μ-standing Inv-grounds μ-grounds
 grounds-holds c = passed-none _ 0 4 (omega arith)

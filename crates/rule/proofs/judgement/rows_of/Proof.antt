@@ -7,6 +7,7 @@ use Prim.Native.Nat.{ℕ, _+_, _/_, _≤_}
 use native.Mathlib.Omega.{arith}
 use lib.Dec.{leb}
 use borrow.Author.Needs.{needs}
+use Rattle.logic.proofs.Tests.{T-true, and-where}
 use Rattle.word.specs.Limits.{highestStrike}
 use Rattle.rule.specs.declared.terms.Setting.{Setting}
 use Rattle.rule.specs.Terms.{cents, isLong, price}
@@ -14,7 +15,6 @@ use Rattle.rule.specs.Grids.{gridOf, wingBase}
 use Rattle.rule.specs.Ranges.{rangeOf}
 use Rattle.rule.specs.Ends.{halfEnd, lowEnd, highEnd}
 use Rattle.rule.specs.Judgement.{foundRows}
-use Rattle.rule.proofs.Tests.{and-where}
 use Rattle.rule.proofs.Bound.{standard-ends, dollar-ends, half-ends, wing-ends}
 use Rattle.rule.proofs.judgement.rows_of.Statement.{statement}
 use Rattle.rule.proofs.judgement.rows_of.Tie as tie
@@ -25,13 +25,13 @@ module _ (s : Setting) (h : ℕ) where
   between = leb (lowEnd (price s)) h && leb h (highEnd s)
 
   standard-row : h ≤ highestStrike → (gridOf s 0 h && between) ≡ (gridOf s 0 h && rangeOf s 0 h)
-  standard-row most = and-where (gridOf s 0 h) between (rangeOf s 0 h) (λ e. sym (standard-ends s h e most))
+  standard-row most = and-where (gridOf s 0 h) between (rangeOf s 0 h) (λ t. sym (standard-ends s h (T-true _ t) most))
 
   dollar-row : h ≤ highestStrike → (gridOf s 1 h && between) ≡ (gridOf s 1 h && rangeOf s 1 h)
-  dollar-row most = and-where (gridOf s 1 h) between (rangeOf s 1 h) (λ e. sym (dollar-ends s h e most))
+  dollar-row most = and-where (gridOf s 1 h) between (rangeOf s 1 h) (λ t. sym (dollar-ends s h (T-true _ t) most))
 
   half-row : (gridOf s 2 h && leb h (halfEnd s)) ≡ (gridOf s 2 h && rangeOf s 2 h)
-  half-row = and-where (gridOf s 2 h) (leb h (halfEnd s)) (rangeOf s 2 h) (λ e. sym (half-ends s h e))
+  half-row = and-where (gridOf s 2 h) (leb h (halfEnd s)) (rangeOf s 2 h) (λ t. sym (half-ends s h (T-true _ t)))
 
   wing-row : {base : ℕ} → base ≡ wingBase (cents h) / 50 →
       (gridOf s 3 h && leb (lowEnd (price s)) base && leb (base + 10) (highEnd s)) ≡ (gridOf s 3 h && rangeOf s 3 h)
@@ -39,7 +39,7 @@ module _ (s : Setting) (h : ℕ) where
       let low : Bool = leb (lowEnd (price s)) base in
       let high : Bool = leb (base + 10) (highEnd s) in
       and-assoc (gridOf s 3 h) low high
-      ∙ and-where (gridOf s 3 h) (low && high) (rangeOf s 3 h) (λ on. sym (wing-ends s h on ∙ rw e))
+      ∙ and-where (gridOf s 3 h) (low && high) (rangeOf s 3 h) (λ t. sym (wing-ends s h (T-true _ t) ∙ rw e))
 
   -- where the expiration is long Dollar and Half are empty
   long-rows : {base : ℕ} → isLong s ≡ true → h ≤ highestStrike → base ≡ wingBase (cents h) / 50 →

@@ -1,7 +1,8 @@
--- The search for the first number that passes a test, one number at a time, and the walk along a list, one element at a time: what is asked of all is asked of those that are left. Assumes nothing.
+-- The search for the first number that passes a test, one number at a time, and the walk along a list, one element at a
+-- time: what is asked of all is asked of those that are left. Assumes nothing.
 use mathlib.Core.Path.{_≡_, refl, sym, ap, _∙_}
-use mathlib.Core.Bool.{Bool, true, false, cond, _&&_}
-use mathlib.Core.List.{List, [], _∷_, map}
+use mathlib.Core.Bool.{Bool, true, false, cond, _||_, or-assoc}
+use mathlib.Core.List.{List}
 use Prim.Native.Nat.{ℕ, zero, suc, _+_, _-_, _≤_, _<_}
 use native.Mathlib.Omega.{arith}
 use native.Mathlib.Numerals.{add-one}
@@ -9,12 +10,7 @@ use lib.Dec.{eqb}
 use lib.ListN.{length, getD, drop, drop-of-length-le}
 use lib.Seq.{drop-cons}
 use borrow.Author.Tests.{eqb-true, eqb-false}
-use Rattle.logic.specs.Lists.{every}
-use Rattle.rule.specs.Judgement.{firstFrom}
-
-pub every-map : {A B : Type 0} (test : B → Bool) (f : A → B) (xs : List A) → every test (map f xs) ≡ every (λ x. test (f x)) xs
-every-map test f [] = refl
-every-map test f (x ∷ xs) = ap (λ (t : Bool). test (f x) && t) (every-map test f xs)
+use Rattle.logic.specs.Lists.{every, some, firstFrom}
 
 -- of the numbers from low up to n none below g passes the test
 pub record Passed (test : ℕ → Bool) (low n g : ℕ) : Type 0 where
@@ -33,7 +29,8 @@ module _ {test : ℕ → Bool} {low n g : ℕ} (passed : Passed test low n g) wh
   passed-here l e = sym (step (suc (n - (g + 1))) (omega arith) ∙ rw e)
 
   pub passed-next : g < n → test g ≡ false → Passed test low n (g + 1)
-  passed-next l e = record { above = omega arith; bound = omega arith; same = step (suc (n - (g + 1))) (omega arith) ∙ rw e }
+  passed-next l e =
+      record { above = omega arith; bound = omega arith; same = step (suc (n - (g + 1))) (omega arith) ∙ rw e }
 
   pub passed-all : n ≤ g → g ≡ firstFrom test (n - low) low
   passed-all l = sym (step 0 (omega arith))
@@ -46,15 +43,24 @@ pub record Cleared {A : Type 0} (test : A → Bool) (xs : List A) (i : ℕ) : Ty
 pub cleared-none : {A : Type 0} (test : A → Bool) (xs : List A) → Cleared test xs 0
 cleared-none test xs = record { bound = omega arith; same = refl }
 
-module _ {A : Type 0} {test : A → Bool} {xs : List A} {i : ℕ} (d : A) (cleared : Cleared test xs i) where
-  pub cleared-next : i < length xs → test (getD xs i d) ≡ true → Cleared test xs (i + 1)
-  cleared-next l e = record { bound = omega arith; same = cleared .same ∙ rw (add-one, drop-cons xs i d, e) }
+module _ {A : Type 0} {test : A → Bool} {xs : List A} {i : ℕ} (none : A) (cleared : Cleared test xs i) where
+  pub cleared-next : i < length xs → test (getD xs i none) ≡ true → Cleared test xs (i + 1)
+  cleared-next l e = record { bound = omega arith; same = cleared .same ∙ rw (add-one, drop-cons xs i none, e) }
 
-  pub cleared-not : i < length xs → test (getD xs i d) ≡ false → every test xs ≡ false
-  cleared-not l e = cleared .same ∙ rw (drop-cons xs i d, e)
+  pub cleared-not : i < length xs → test (getD xs i none) ≡ false → every test xs ≡ false
+  cleared-not l e = cleared .same ∙ rw (drop-cons xs i none, e)
 
   pub cleared-all : length xs ≤ i → every test xs ≡ true
   cleared-all l = cleared .same ∙ rw (drop-of-length-le xs {i = i} l)
+
+-- b says whether one of the first i elements passes the test, and b′ the same of one more
+pub some-step :
+    {A : Type 0} (test : A → Bool) (none : A) (xs : List A) (i : ℕ) (b b′ : Bool) → i < length xs
+    → some test xs ≡ (b || some test (drop i xs)) → b′ ≡ (b || test (getD xs i none))
+    → some test xs ≡ (b′ || some test (drop (i + 1) xs))
+some-step test none xs i b b′ l s e =
+    rw (e, add-one)
+    (s ∙ rw (drop-cons xs i none) (sym (or-assoc b (test (getD xs i none)) (some test (drop (suc i) xs)))))
 
 -- f is the first of the n numbers from g up that passes the test, or g + n
 pub record First (test : ℕ → Bool) (n g f : ℕ) : Type 0 where
@@ -65,11 +71,24 @@ pub record First (test : ℕ → Bool) (n g f : ℕ) : Type 0 where
 
 pub first-found : (test : ℕ → Bool) (n g : ℕ) → First test n g (firstFrom test n g)
 first-found test zero g =
-    record { least = omega arith; most = omega arith; before = λ i l k. absurd (omega arith); passes-here = λ l. absurd (omega arith) }
+    record {
+      least = omega arith;
+      most = omega arith;
+      before = λ i l k. absurd (omega arith);
+      passes-here = λ l. absurd (omega arith);
+    }
 first-found test (suc n) g = go (test g) refl (first-found test n (g + 1))
   where
-    go : (t : Bool) → test g ≡ t → First test n (g + 1) (firstFrom test n (g + 1)) → First test (suc n) g (cond t g (firstFrom test n (g + 1)))
-    go true e r = record { least = omega arith; most = omega arith; before = λ i l k. absurd (omega arith); passes-here = λ l. e }
+    go :
+        (t : Bool) → test g ≡ t → First test n (g + 1) (firstFrom test n (g + 1))
+        → First test (suc n) g (cond t g (firstFrom test n (g + 1)))
+    go true e r =
+        record {
+          least = omega arith;
+          most = omega arith;
+          before = λ i l k. absurd (omega arith);
+          passes-here = λ l. e;
+        }
     go false e r =
         record {
           least = omega arith;
