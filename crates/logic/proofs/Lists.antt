@@ -188,11 +188,14 @@ module _ {A : Type 0} (same before : A → A → Bool) (order : StrictOrder same
 -- ---- an element put where it has its place
 
 module _ {A : Type 0} (before : A → A → Bool) where
-  pub every-inserted : (p : A → Bool) (y : A) (xs : List A) → T (p y) → T (every p xs) → T (every p (inserted before y xs))
+  pub every-inserted :
+      (p : A → Bool) (y : A) (xs : List A) → T (p y) → T (every p xs) → T (every p (inserted before y xs))
   every-inserted p y [] a t = search and-intro
   every-inserted p y (x ∷ xs) a t = go (before y x) (every-inserted p y xs a (search ands))
     where
-      go : (b : Bool) → T (every p (inserted before y xs)) → T (every p (cond b (y ∷ x ∷ xs) (x ∷ inserted before y xs)))
+      go :
+          (b : Bool) → T (every p (inserted before y xs))
+          → T (every p (cond b (y ∷ x ∷ xs) (x ∷ inserted before y xs)))
       go true rest = search and-intro
       go false rest = let c : T (p x) = search ands in search and-intro
 
@@ -241,7 +244,8 @@ module _ {A : Type 0} (same before : A → A → Bool) (order : StrictOrder same
           let b : T (every (before y) xs) = before-every same before order y x xs a (search ands) in
           search and-intro
       go false e rest =
-          let a : T (every (before x) (inserted before y xs)) = every-inserted before (before x) y xs (other e) (search ands) in
+          let a : T (every (before x) (inserted before y xs)) =
+          every-inserted before (before x) y xs (other e) (search ands) in
           search and-intro
 
   pub rises-inserted :

@@ -139,7 +139,8 @@ module _ {A : Type 0} (key : A → ℕ) (k : ℕ) where
   abbrev pub isOver : A → Bool
   isOver x = ltb k (key x)
 
-  pub not-under : (xs ys : List A) → T (every isEqual xs) → T (every isOver ys) → T (every (λ x. leb k (key x)) (xs ++ ys))
+  pub not-under :
+      (xs ys : List A) → T (every isEqual xs) → T (every isOver ys) → T (every (λ x. leb k (key x)) (xs ++ ys))
   not-under xs ys t u =
       every-append (λ x. leb k (key x)) xs ys
       (every-imply isEqual (λ x. leb k (key x)) (λ x e. le→leb k (key x) (omega (arith, eqb→eq (key x) k e))) xs t)
@@ -175,7 +176,13 @@ module _ {A : Type 0} (key : A → ℕ) (k : ℕ) where
           only-none isEqual (λ y. leb (key x) (key y))
           (λ y l. ne-eqb (key y) k (λ e. omega (arith, leb→le (key x) (key y) l))) xs from in
           let r′ : xs ≡ only isOver xs = r ∙ rw (under (omega arith), none) in
-          rw (le-ltb (key x) k (omega arith), ne-eqb (key x) k (λ e. omega arith), lt-ltb k (key x) a, under (omega arith), none)
+          rw (
+            le-ltb (key x) k (omega arith),
+            ne-eqb (key x) k (λ e. omega arith),
+            lt-ltb k (key x) a,
+            under (omega arith),
+            none,
+          )
           (ap (λ (l : List A). x ∷ l) r′)
 
   -- the same where none has the number of another
@@ -197,7 +204,9 @@ module _ {A : Type 0} (key : A → ℕ) (k : ℕ) where
   single [] t s = absurd s
   single (x ∷ xs) t s = go (eqb (key x) k) refl s (single xs (search ands))
     where
-      go : (b : Bool) → eqb (key x) k ≡ b → T (b || some isEqual xs) → (T (some isEqual xs) → Single xs) → Single (x ∷ xs)
+      go :
+          (b : Bool) → eqb (key x) k ≡ b → T (b || some isEqual xs) → (T (some isEqual xs) → Single xs)
+          → Single (x ∷ xs)
       go true e u r =
           let here : key x ≡ k = eqb-true (key x) k e in
           let none : only isEqual xs ≡ [] =

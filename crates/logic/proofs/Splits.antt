@@ -65,7 +65,8 @@ module _ {A : Type 0} (key : A → ℕ) (k : ℕ) where
   pub some-leads : (xs : List A) → some (isEqual key k) xs ≡ leads (only (isEqual key k) xs ++ only (isOver key k) xs)
   some-leads xs =
       some-length (isEqual key k) xs
-      ∙ go (only (isEqual key k) xs) (only (isOver key k) xs) (every-kept (isEqual key k) xs) (every-kept (isOver key k) xs)
+      ∙ go (only (isEqual key k) xs) (only (isOver key k) xs)
+      (every-kept (isEqual key k) xs) (every-kept (isOver key k) xs)
     where
       go :
           (ys zs : List A) → T (every (isEqual key k) ys) → T (every (isOver key k) zs)

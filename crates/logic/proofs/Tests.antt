@@ -1,6 +1,6 @@
--- Tests joined by `and` and `or`, tests that fail, the test of equal numbers and numbers in order: by cases on the tests.
--- That a test passes is said by `T`; `true-T` and its kin lead there from what the branches of code give. Assumes
--- nothing.
+-- Tests joined by `and` and `or`, tests that fail, the test of equal numbers and numbers in order: by cases on the
+-- tests. That a test passes is said by `T`; `true-T` and its kin lead there from what the branches of code give.
+-- Assumes nothing.
 use Prim.Native.Nat.{ℕ, _≤_, _<_}
 use mathlib.Core.Path.{_≡_, refl, sym, ap, _∙_}
 use mathlib.Core.Bool.{Bool, true, false, not, _&&_, _||_, and-false}

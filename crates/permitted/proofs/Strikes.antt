@@ -16,7 +16,7 @@ use Rattle.rule.specs.Ends.{reachOf, isOpenStrike}
 use Rattle.rule.specs.Spacing.{standingOf}
 use Rattle.rule.specs.Judgement.{isPermittedBeside}
 use Rattle.rule.proofs.Near.{reach-most, Between, words-permitted}
-use Rattle.permitted.specs.Listing.{strikeIn, standingStrike, strikeFrom, Triable}
+use Rattle.permitted.specs.Listing.{strikeIn, noStrike, beyondReach, standingStrike, strikeFrom, Triable}
 
 pub absent-words : (ws : List ℕ) (h : ℕ) →
     not (some (λ t. eqb (t .strike) h) (map standingOf ws)) ≡ every (λ w. not (eqb (strikeIn w) h)) ws
@@ -34,18 +34,18 @@ pub record Ahead (s : Setting) (ws : List ℕ) (from to h : ℕ) : Type 0 where
   pub above : to < length ws → h + reachOf s < strikeIn (getD ws to 0)
 
 module _ {s : Setting} {ws : List ℕ} {from h : ℕ} (t : Triable s ws from h) where
-  pub ahead-found : (to : ℕ) → to ≡ strikeFrom ws from (h + 3) → Ahead s ws from to h
+  pub ahead-found : (to : ℕ) → to ≡ strikeFrom ws from (h + beyondReach) → Ahead s ws from to h
   ahead-found to e =
       record {
         start = found .least;
         end = omega (arith, found .most, t .behind .within);
         above = λ l.
             let here : to < from + (length ws - from) = omega (arith, t .behind .within) in
-            omega (arith, reach-most s, leb-true (h + 3) (strikeIn (getD ws to 0)) (found .passes-here here));
+            omega (arith, reach-most s, leb-true (h + beyondReach) (strikeIn (getD ws to 0)) (found .passes-here here));
       }
     where
-      found : First (λ i. leb (h + 3) (strikeIn (getD ws i 0))) (length ws - from) from to
-      found = rw e (strike-found ws from (h + 3))
+      found : First (λ i. leb (h + beyondReach) (strikeIn (getD ws i 0))) (length ws - from) from to
+      found = rw e (strike-found ws from (h + beyondReach))
 
   module _ {to : ℕ} (ahead : Ahead s ws from to h) where
     between : Between s h ws from to
@@ -77,7 +77,7 @@ module _ {s : Setting} {ws : List ℕ} {from h : ℕ} (t : Triable s ws from h) 
   pub standing-refused : standingStrike ws from ≡ h → false ≡ isPermittedBeside s (map standingOf ws) h
   standing-refused = go (ltb from (length ws)) refl
     where
-      go : (u : Bool) → ltb from (length ws) ≡ u → cond {A = ℕ} u (strikeIn (getD ws from 0)) 65535 ≡ h →
+      go : (u : Bool) → ltb from (length ws) ≡ u → cond {A = ℕ} u (strikeIn (getD ws from 0)) noStrike ≡ h →
           false ≡ isPermittedBeside s (map standingOf ws) h
       go true q e =
           let here : not (eqb (strikeIn (getD ws from 0)) h) ≡ false = rw (eq-eqb _ _ e) in

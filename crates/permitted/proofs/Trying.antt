@@ -84,7 +84,8 @@ module _ {s : Setting} {ws : List ℕ} {r : Rung} {range : Range} {done : Progre
   test h = isPermittedBeside s (map standingOf ws) h
 
   untried : (h : ℕ) → low ≤ h → h < high + 1 → (h % step ≡ 0 → ⊥) → test h ≡ false
-  untried h l m other = closed-refused s ws h (λ t. other (p .multiples .among h l (omega arith) (T-true (isOpenStrike s h) t)))
+  untried h l m other =
+      closed-refused s ws h (λ t. other (p .multiples .among h l (omega arith) (T-true (isOpenStrike s h) t)))
 
   pub trying-start : (o : List ℕ) (reach h : ℕ) → reach ≡ reachOf s → h ≡ (low + (step - 1)) / step * step →
       Trying s ws o r range (done .count) reach o (done .from) (done .count) h

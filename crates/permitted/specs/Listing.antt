@@ -25,9 +25,17 @@ use Rattle.permitted.specs.declared.Range.{Range}
 abbrev pub strikeIn : ℕ → ℕ
 strikeIn w = keyOf strikeKind w
 
+-- above all strikes
+abbrev pub noStrike : ℕ
+noStrike = 65535
+
+-- so many half dollars away no standing strike bears on a new one
+abbrev pub beyondReach : ℕ
+beyondReach = 3
+
 -- the strike at an index, or one above all strikes where the words end
 abbrev pub standingStrike : List ℕ → ℕ → ℕ
-standingStrike ws at = cond {A = ℕ} (ltb at (length ws)) (strikeIn (getD ws at 0)) 65535
+standingStrike ws at = cond {A = ℕ} (ltb at (length ws)) (strikeIn (getD ws at 0)) noStrike
 
 -- the first index from `at` on whose strike is at least `low`, or the length
 abbrev pub strikeFrom : List ℕ → ℕ → ℕ → ℕ

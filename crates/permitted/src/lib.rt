@@ -12,6 +12,8 @@ ghost use Rattle.rule.specs.Spacing.{standingOf};
 ghost use Rattle.rule.specs.Judgement.{isPermittedBeside};
 ghost use Rattle.permitted.specs.Listing.{Listable, Triable, OpenTriable, Continuable, Climbable, Continued};
 ghost use Rattle.permitted.specs.Listing.{standingStrike, strikeFrom, permittedBeside, Filled};
+use rule::amounts::HALF_DOLLAR;
+use rule::amounts::ONE_DOLLAR;
 use rule::bounds::RUNGS;
 use rule::bounds::Rung;
 use rule::bounds::Rungs;
@@ -29,6 +31,17 @@ use word::answer::Refusal;
 use word::kind::STRIKE;
 use word::kind::key_of;
 use word::strike::Strike;
+
+// A number above all strikes.
+const NO_STRIKE: u32 = 65535;
+
+// How many half dollars away a standing strike can bear on a new one, in a long expiration and in a near one; and so
+// many away none does.
+const LONG_REACH: u32 = ONE_DOLLAR / HALF_DOLLAR;
+
+const NEAR_REACH: u32 = 1;
+
+const BEYOND_REACH: u32 = LONG_REACH + 1;
 
 // How far a list is: the standing strikes before `from` are far below the strikes to come, and `count` strikes are
 // listed.
@@ -65,7 +78,7 @@ fn strike_at(standing: &[u32], at: usize) -> u32
     if at < standing.len() {
         return key_of(standing[at], STRIKE);
     }
-    65535
+    NO_STRIKE
 }
 
 // Whether the strike h is none of those of the words.
@@ -87,7 +100,7 @@ fn is_permitted_at(s: Setting, standing: &[u32], from: usize, h: u32) -> bool
     requires { ⌜ Triable s (now standing) from h ⌝ }
     ensures { λ r. ⌜ r ≡ isPermittedBeside s (map standingOf (now (standing .entry))) h ⌝ }
 {
-    let to = strike_from(standing, from, h + 3);
+    let to = strike_from(standing, from, h + BEYOND_REACH);
     let near = &standing[from..to];
     is_absent(near, h) && is_accepted(s, Strike(h), near)
 }
@@ -135,7 +148,7 @@ fn write_multiples(
     ensures { λ r. ⌜ Continued s (now (standing .entry)) range done (now (out .entry)) r (now (out .exit)) ⌝ }
 {
     let step = rung.step;
-    let reach = if is_long(s) { 2 } else { 1 };
+    let reach = if is_long(s) { LONG_REACH } else { NEAR_REACH };
     let mut from = done.from;
     let mut count = done.count;
     let mut h = (range.low + (step - 1)) / step * step;

@@ -11,10 +11,12 @@ use Rattle.logic.proofs.Tests.{ands, parts, true-T, T-true, or-cases, same-bool
 use Rattle.logic.proofs.Multiples.{times}
 use Rattle.word.specs.Limits.{highestStrike}
 use Rattle.rule.specs.declared.terms.Setting.{Setting}
-use Rattle.rule.specs.Terms.{cents, isDollarClass, isHalfClass, isLong, isNear, price}
+use Rattle.word.specs.Programs.{halfPrice, halfVolume}
+use Rattle.rule.specs.Terms.{halfDollar, cents, inHalves, isDollarClass, isHalfClass, isLong, isNear, price}
 use Rattle.rule.specs.Grids.{multiple, standardGrid, dollarGrid, halfDollars, halfGrid, wingBase, wingGrid}
-use Rattle.rule.specs.Ranges.{amongFive, rangeBy, rangeGrid, standardRange, rangeOf}
-use Rattle.rule.specs.Ends.{fifthAbove, halfEnd, lowEnd, highEnd, reachOf}
+use Rattle.rule.specs.Grids.{oneDollar, fiveDollars, fiveFifty}
+use Rattle.rule.specs.Ranges.{lowPrice, amongFive, rangeBy, rangeGrid, standardRange, rangeOf}
+use Rattle.rule.specs.Ends.{fifthAbove, halfEnd, lowEnd, highEnd, lastDollar, reachOf}
 use Rattle.rule.proofs.Five.{five, five-half-dollars}
 use Rattle.rule.proofs.Steps.{standard-five, fives-standard, Wing, wing-stepped}
 
@@ -46,7 +48,7 @@ module _ (s : Setting) where
   dollar = isDollarClass (s .class)
 
   abbrev fifth : ℕ
-  fifth = fifthAbove (isNear s && dollar) dollar (p / 50)
+  fifth = fifthAbove (isNear s && dollar) dollar (inHalves p)
 
   -- where a strike in range stands
   pub record Ranged (h : ℕ) : Type 0 where
@@ -54,9 +56,9 @@ module _ (s : Setting) where
     pub high : h ≤ highestStrike → h ≤ highEnd s
 
   pub standard-ranged : (h : ℕ) → standardRange s h ≡ true → Ranged h
-  standard-ranged h = go (ltb 2000 p) refl
+  standard-ranged h = go (ltb lowPrice p) refl
     where
-      go : (t : Bool) → ltb 2000 p ≡ t →
+      go : (t : Bool) → ltb lowPrice p ≡ t →
           cond t (leb p (2 * cents h) && leb (2 * cents h) (3 * p))
           (leb (cents h) (2 * p) || amongFive (rangeGrid s) p h)
           ≡ true →
@@ -80,14 +82,14 @@ module _ (s : Setting) where
 
           among : T (amongFive (rangeGrid s) p h) → h ≤ max (p / 25) fifth
           among a =
-              let b : T (ltb (p / 50) h && leb h fifth && rangeGrid s (cents h)) =
-              subst T (five s h (ltb-false 2000 p q)) a in
+              let b : T (ltb (inHalves p) h && leb h fifth && rangeGrid s (cents h)) =
+              subst T (five s h (ltb-false lowPrice p q)) a in
               omega (arith, leb→le h fifth (search ands))
 
   pub ranged-standard : (h : ℕ) → rangeGrid s (cents h) ≡ true → lowEnd p ≤ h → h ≤ highEnd s → standardRange s h ≡ true
-  ranged-standard h on = go (ltb 2000 p) refl (leb (cents h) (2 * p)) refl
+  ranged-standard h on = go (ltb lowPrice p) refl (leb (cents h) (2 * p)) refl
     where
-      go : (t : Bool) → ltb 2000 p ≡ t → (u : Bool) → leb (cents h) (2 * p) ≡ u →
+      go : (t : Bool) → ltb lowPrice p ≡ t → (u : Bool) → leb (cents h) (2 * p) ≡ u →
           cond {A = ℕ} t ((p + 99) / 100) 0 ≤ h →
           h ≤ cond {A = ℕ} t (min (3 * p / 100) highestStrike) (max (p / 25) fifth) →
           cond t (leb p (2 * cents h) && leb (2 * cents h) (3 * p))
@@ -97,7 +99,7 @@ module _ (s : Setting) where
       go false q true a low high = rw a
       go false q false a low high =
           let above : 2 * p < cents h = leb-false (cents h) (2 * p) a in
-          rw (a, five s h (ltb-false 2000 p q), on, lt-ltb (p / 50) h (omega arith), le-leb h fifth (omega arith))
+          rw (a, five s h (ltb-false lowPrice p q), on, lt-ltb (inHalves p) h (omega arith), le-leb h fifth (omega arith))
 
   -- on the range grid the ends tell the range
   range-ends : (h : ℕ) → rangeGrid s (cents h) ≡ true → h ≤ highestStrike →
@@ -119,8 +121,8 @@ module _ (s : Setting) where
   standard-range-grid h e = go (isNear s && dollar) refl
     where
       go : (t : Bool) → (isNear s && dollar) ≡ t →
-          cond t (multiple 100 (cents h)) (standardGrid (s .class) (cents h)) ≡ true
-      go true q = eq-eqb (cents h % 100) 0 (omega (arith, standard-five (s .class) h (search parts) e))
+          cond t (multiple oneDollar (cents h)) (standardGrid (s .class) (cents h)) ≡ true
+      go true q = eq-eqb (cents h % oneDollar) 0 (omega (arith, standard-five (s .class) h (search parts) e))
       go false q = e
 
   pub standard-ends : (h : ℕ) → standardGrid (s .class) (cents h) ≡ true → h ≤ highestStrike →
@@ -132,18 +134,18 @@ module _ (s : Setting) where
       standardRange s h ≡ (leb (lowEnd p) h && leb h (highEnd s))
   dollar-ends h e most =
       let near : (isNear s && dollar) ≡ true = search parts in
-      let whole : multiple 100 (cents h) ≡ true = search parts in
+      let whole : multiple oneDollar (cents h) ≡ true = search parts in
       range-ends h (rw (near, whole)) most
 
   -- the L of a wing and the strike $5 above it are Standard strikes
   pub wing-ends : (h : ℕ) → wingGrid s (cents h) ≡ true →
-      rangeOf s 3 h ≡ (leb (lowEnd p) (wingBase (cents h) / 50) && leb (wingBase (cents h) / 50 + 10) (highEnd s))
+      rangeOf s 3 h ≡ (leb (lowEnd p) (inHalves (wingBase (cents h))) && leb (inHalves (wingBase (cents h)) + 10) (highEnd s))
   wing-ends h e = same-bool (rangeOf s 3 h) (leb (lowEnd p) l && leb (l + 10) (highEnd s)) to from
     where
       l : ℕ
-      l = wingBase (cents h) / 50
+      l = inHalves (wingBase (cents h))
 
-      in-range : (n : ℕ) → n % 10 ≡ 0 → n ≤ 100 → lowEnd p ≤ n → n ≤ highEnd s → standardRange s n ≡ true
+      in-range : (n : ℕ) → n % 10 ≡ 0 → n ≤ lastDollar → lowEnd p ≤ n → n ≤ highEnd s → standardRange s n ≡ true
       in-range n m k =
           ranged-standard n (standard-range-grid n (fives-standard (s .class) n m (λ j. absurd (omega arith))))
 
@@ -159,7 +161,7 @@ module _ (s : Setting) where
           let w : Wing s h = wing-stepped s h e in
           let low : lowEnd p ≤ l = leb→le (lowEnd p) l (search ands) in
           let high : l + 10 ≤ highEnd s = leb→le (l + 10) (highEnd s) (search ands) in
-          let m : l % 10 ≡ 0 = times 10 l (cents h / 500) (omega arith) in
+          let m : l % 10 ≡ 0 = times 10 l (cents h / fiveDollars) (omega arith) in
           rw (
             in-range l m (omega (arith, w .most)) low (omega arith),
             in-range (l + 10) (omega arith) (omega (arith, w .most)) (omega arith) high,
@@ -167,36 +169,36 @@ module _ (s : Setting) where
           tt
 
   pub high-strike : highEnd s ≤ highestStrike
-  high-strike = go (ltb 2000 p) refl
+  high-strike = go (ltb lowPrice p) refl
     where
-      go : (t : Bool) → ltb 2000 p ≡ t →
+      go : (t : Bool) → ltb lowPrice p ≡ t →
           cond {A = ℕ} t (min (3 * p / 100) highestStrike) (max (p / 25) fifth) ≤ highestStrike
       go true q = omega arith
       go false q =
-          let cheap : p ≤ 2000 = ltb-false 2000 p q in
-          omega (arith, fifth-most (isNear s && dollar) dollar (p / 50) (omega arith))
+          let cheap : p ≤ lowPrice = ltb-false lowPrice p q in
+          omega (arith, fifth-most (isNear s && dollar) dollar (inHalves p) (omega arith))
 
   abbrev halfAsked : Bool
-  halfAsked = isNear s && isHalfClass (s .class) && leb p 500 && leb 1000 (s .class .volume)
+  halfAsked = isNear s && isHalfClass (s .class) && leb p halfPrice && leb halfVolume (s .class .volume)
 
-  half-price : halfAsked ≡ true → p ≤ 500
-  half-price a = leb-true p 500 (search parts)
+  half-price : halfAsked ≡ true → p ≤ halfPrice
+  half-price a = leb-true p halfPrice (search parts)
 
   pub half-within : halfEnd s ≤ highEnd s
   half-within = go halfAsked refl
     where
-      go : (t : Bool) → halfAsked ≡ t → cond {A = ℕ} t (min (max (p / 25) (p / 50 + 5)) 11) 0 ≤ highEnd s
+      go : (t : Bool) → halfAsked ≡ t → cond {A = ℕ} t (min (max (p / 25) (inHalves p + 5)) (inHalves fiveFifty)) 0 ≤ highEnd s
       go true a =
-          let l : p ≤ 500 = half-price a in
-          rw (le-ltb 2000 p (omega arith))
-          (omega (arith, fifth-least (isNear s && dollar) dollar (p / 50) (omega arith)))
+          let l : p ≤ halfPrice = half-price a in
+          rw (le-ltb lowPrice p (omega arith))
+          (omega (arith, fifth-least (isNear s && dollar) dollar (inHalves p) (omega arith)))
       go false a = omega arith
 
   -- on the grid of Half the price sets no lowest strike
   pub half-low : (h : ℕ) → halfGrid s (cents h) ≡ true → lowEnd p ≡ 0
   half-low h grid =
-      let cheap : p ≤ 500 = half-price (search parts) in
-      rw (le-ltb 2000 p (omega arith))
+      let cheap : p ≤ halfPrice = half-price (search parts) in
+      rw (le-ltb lowPrice p (omega arith))
 
   -- Half gives strikes in near expirations only
   pub half-reach : 1 ≤ halfEnd s → reachOf s ≤ 1
@@ -204,8 +206,8 @@ module _ (s : Setting) where
     where
       go : (long : Bool) →
           1
-          ≤ cond {A = ℕ} (not long && isHalfClass (s .class) && leb p 500 && leb 1000 (s .class .volume))
-          (min (max (p / 25) (p / 50 + 5)) 11)
+          ≤ cond {A = ℕ} (not long && isHalfClass (s .class) && leb p halfPrice && leb halfVolume (s .class .volume))
+          (min (max (p / 25) (inHalves p + 5)) (inHalves fiveFifty))
           0 →
           cond {A = ℕ} long 2 1 ≤ 1
       go true l = absurd (omega arith)
@@ -214,42 +216,42 @@ module _ (s : Setting) where
   pub half-ranged : (h : ℕ) → halfGrid s (cents h) ≡ true → rangeBy halfDollars p h ≡ true → h ≤ halfEnd s
   half-ranged h grid range =
       let a : halfAsked ≡ true = search parts in
-      let l : p ≤ 500 = half-price a in
-      let most : cents h ≤ 550 = leb-true (cents h) 550 (search parts) in
+      let l : p ≤ halfPrice = half-price a in
+      let most : cents h ≤ fiveFifty = leb-true (cents h) fiveFifty (search parts) in
       let within : (leb (cents h) (2 * p) || amongFive halfDollars p h) ≡ true =
-      rw (le-ltb 2000 p (omega arith)) at range in
-      let near : h ≤ max (p / 25) (p / 50 + 5) =
+      rw (le-ltb lowPrice p (omega arith)) at range in
+      let near : h ≤ max (p / 25) (inHalves p + 5) =
       ⊎-elim double among (or-cases (leb (cents h) (2 * p)) (amongFive halfDollars p h) (true-T _ within)) in
       rw a (omega arith)
     where
-      double : T (leb (cents h) (2 * p)) → h ≤ max (p / 25) (p / 50 + 5)
+      double : T (leb (cents h) (2 * p)) → h ≤ max (p / 25) (inHalves p + 5)
       double b = omega (arith, leb→le (cents h) (2 * p) b)
 
-      among : T (amongFive halfDollars p h) → h ≤ max (p / 25) (p / 50 + 5)
+      among : T (amongFive halfDollars p h) → h ≤ max (p / 25) (inHalves p + 5)
       among b =
-          let c : T (ltb (p / 50) h && leb h (p / 50 + 5) && halfDollars (cents h)) =
+          let c : T (ltb (inHalves p) h && leb h (inHalves p + 5) && halfDollars (cents h)) =
           subst T (five-half-dollars p h) b in
-          omega (arith, leb→le h (p / 50 + 5) (search ands))
+          omega (arith, leb→le h (inHalves p + 5) (search ands))
 
-  half-near : (h : ℕ) → halfAsked ≡ true → h ≤ min (max (p / 25) (p / 50 + 5)) 11 →
+  half-near : (h : ℕ) → halfAsked ≡ true → h ≤ min (max (p / 25) (inHalves p + 5)) (inHalves fiveFifty) →
       (halfGrid s (cents h) ≡ true) × (rangeBy halfDollars p h ≡ true)
   half-near h a m =
-      let cheap : p ≤ 500 = half-price a in
+      let cheap : p ≤ halfPrice = half-price a in
       let on : halfDollars (cents h) ≡ true =
-      rw (eq-eqb (cents h % 50) 0 (omega arith), le-leb (cents h) 550 (omega arith)) in
-      (rw (a, on), rw (le-ltb 2000 p (omega arith)) (near (leb (cents h) (2 * p)) refl on))
+      rw (eq-eqb (cents h % halfDollar) 0 (omega arith), le-leb (cents h) fiveFifty (omega arith)) in
+      (rw (a, on), rw (le-ltb lowPrice p (omega arith)) (near (leb (cents h) (2 * p)) refl on))
     where
       near : (u : Bool) → leb (cents h) (2 * p) ≡ u → halfDollars (cents h) ≡ true →
           (leb (cents h) (2 * p) || amongFive halfDollars p h) ≡ true
       near true q on = rw q
       near false q on =
           let above : 2 * p < cents h = leb-false (cents h) (2 * p) q in
-          rw (q, five-half-dollars p h, on, lt-ltb (p / 50) h (omega arith), le-leb h (p / 50 + 5) (omega arith))
+          rw (q, five-half-dollars p h, on, lt-ltb (inHalves p) h (omega arith), le-leb h (inHalves p + 5) (omega arith))
 
   pub half-each : (h : ℕ) → 1 ≤ h → h ≤ halfEnd s → (halfGrid s (cents h) ≡ true) × (rangeBy halfDollars p h ≡ true)
   half-each h l = go halfAsked refl
     where
-      go : (t : Bool) → halfAsked ≡ t → h ≤ cond {A = ℕ} t (min (max (p / 25) (p / 50 + 5)) 11) 0 →
+      go : (t : Bool) → halfAsked ≡ t → h ≤ cond {A = ℕ} t (min (max (p / 25) (inHalves p + 5)) (inHalves fiveFifty)) 0 →
           (halfGrid s (cents h) ≡ true) × (rangeBy halfDollars p h ≡ true)
       go true a m = half-near h a m
       go false a m = absurd (omega arith)

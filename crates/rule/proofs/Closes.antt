@@ -1,4 +1,5 @@
--- Document 01, "Closes at the edges": T1 to T10 as one list of cases, each computed up to the end of the range and so shown for all strikes. Assumes nothing.
+-- Document 01, "Closes at the edges": T1 to T10 as one list of cases, each computed up to the end of the range and so
+-- shown for all strikes. Assumes nothing.
 use mathlib.Core.Path.{_≡_, refl, _∙_}
 use mathlib.Core.Bool.{Bool, true, false}
 use mathlib.Core.List.{List, [], _∷_, _++_, map}
@@ -28,12 +29,17 @@ pub data Case : Type 0 where
 abbrev pub seenFrom : ℕ → ℕ → ClassRecord → Setting
 seenFrom now month c = record { class = c; current = now; month = month }
 
+-- an expiration that `L` may list in, and of which the test holds
+abbrev OfTerm : (Setting → Bool) → ℕ → ℕ → Type 0
+OfTerm test now month =
+    (c : ClassRecord) → (isOutside (seenFrom now month c) ≡ false) × (test (seenFrom now month c) ≡ true)
+
 abbrev pub Holds : Case → Type 0
 Holds (permits s standing strikes) = permitted s standing ≡ strikes
 Holds (answers s standing h answer) = judgement s standing h ≡ answer
 Holds (refused now month) = (c : ClassRecord) → isOutside (seenFrom now month c) ≡ true
-Holds (near now month) = (c : ClassRecord) → (isOutside (seenFrom now month c) ≡ false) × (isNear (seenFrom now month c) ≡ true)
-Holds (long now month) = (c : ClassRecord) → (isOutside (seenFrom now month c) ≡ false) × (isLong (seenFrom now month c) ≡ true)
+Holds (near now month) = OfTerm isNear now month
+Holds (long now month) = OfTerm isLong now month
 
 abbrev pub All : List Case → Type 0
 All [] = Unit {0}

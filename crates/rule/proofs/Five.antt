@@ -12,9 +12,9 @@ use Rattle.rule.specs.declared.terms.Setting.{Setting}
 use Rattle.logic.specs.Lists.{every, some, upFrom}
 use Rattle.logic.proofs.Tests.{ands, and-middle, and-implied, same-leb}
 use Rattle.logic.proofs.Numbers.{every-number}
-use Rattle.rule.specs.Terms.{cents, isDollarClass, isNear, price}
-use Rattle.rule.specs.Grids.{multiple, ladder, halfDollars}
-use Rattle.rule.specs.Ranges.{lowest, amongFive, rangeGrid}
+use Rattle.rule.specs.Terms.{cents, inHalves, isDollarClass, isNear, price}
+use Rattle.rule.specs.Grids.{oneDollar, fiveDollars, fiveFifty, fiftyDollars, multiple, ladder, halfDollars}
+use Rattle.rule.specs.Ranges.{lowPrice, rangeCount, lowest, amongFive, rangeGrid}
 use Rattle.rule.specs.Ends.{fifthAbove}
 
 -- the strike past the last one that `lowest` looks at
@@ -109,80 +109,80 @@ among test (suc left) (suc n) a h = go (test a) refl (among test left n (suc a) 
 
 -- where the walk ends that looks for the five lowest strikes above the strike q
 endAbove : (ℕ → Bool) → ℕ → ℕ
-endAbove grid q = endOf (λ x. ltb q x && grid (cents x)) highestStrike 5 1
+endAbove grid q = endOf (λ x. ltb q x && grid (cents x)) highestStrike rangeCount 1
 
 -- a strike is above a price when it is above the highest strike at or below the price
-above : (p h : ℕ) → ltb p (cents h) ≡ ltb (p / 50) h
-above p h = same-leb (suc p) (cents h) (suc (p / 50)) h (λ l. omega arith) (λ l. omega arith)
+above : (p h : ℕ) → ltb p (cents h) ≡ ltb (inHalves p) h
+above p h = same-leb (suc p) (cents h) (suc (inHalves p)) h (λ l. omega arith) (λ l. omega arith)
 
 among-above : (grid : ℕ → Bool) (p h : ℕ) →
-    amongFive grid p h ≡ (ltb (p / 50) h && ltb h (endAbove grid (p / 50)) && grid (cents h))
+    amongFive grid p h ≡ (ltb (inHalves p) h && ltb h (endAbove grid (inHalves p)) && grid (cents h))
 unfolding amongFive endAbove
 among-above grid p h =
-    ap (λ (test : ℕ → Bool). some (eqb h) (lowest test highestStrike 5 1))
+    ap (λ (test : ℕ → Bool). some (eqb h) (lowest test highestStrike rangeCount 1))
     (fun-ext (λ x. ap (λ (t : Bool). t && grid (cents x)) (above p x)))
-    ∙ among (λ x. ltb (p / 50) x && grid (cents x)) highestStrike 5 1 h
-    ∙ and-implied (leb 1 h) (ltb h (endAbove grid (p / 50))) (ltb (p / 50) h) (grid (cents h))
-    (λ t. le→leb 1 h (omega (arith, ltb→lt (p / 50) h t)))
+    ∙ among (λ x. ltb (inHalves p) x && grid (cents x)) highestStrike rangeCount 1 h
+    ∙ and-implied (leb 1 h) (ltb h (endAbove grid (inHalves p))) (ltb (inHalves p) h) (grid (cents h))
+    (λ t. le→leb 1 h (omega (arith, ltb→lt (inHalves p) h t)))
 
 -- the range grid of Standard and Dollar, by what it asks of the class and the expiration
 abbrev gridBy : Bool → Bool → ℕ → Bool
-gridBy whole dollar k = cond whole (multiple 100 k) (ladder k && not (dollar && ltb k 5000 && not (multiple 500 k)))
+gridBy whole dollar k = cond whole (multiple oneDollar k) (ladder k && not (dollar && ltb k fiftyDollars && not (multiple fiveDollars k)))
 
 -- the closed form is right for each strike q of at most $20
 endTest : Bool → Bool → ℕ → Bool
 endTest whole dollar q = eqb (endAbove (gridBy whole dollar) q) (suc (fifthAbove whole dollar q))
 
-ends : (whole dollar : Bool) → T (every (endTest whole dollar) (upFrom 41 0))
+ends : (whole dollar : Bool) → T (every (endTest whole dollar) (upFrom (inHalves lowPrice + 1) 0))
 unfolding endTest endAbove endOf
 ends true true = tt
 ends true false = tt
 ends false true = tt
 ends false false = tt
 
-five-by : (whole dollar : Bool) (p h : ℕ) → p ≤ 2000 →
+five-by : (whole dollar : Bool) (p h : ℕ) → p ≤ lowPrice →
     amongFive (gridBy whole dollar) p h
-    ≡ (ltb (p / 50) h && leb h (fifthAbove whole dollar (p / 50)) && gridBy whole dollar (cents h))
+    ≡ (ltb (inHalves p) h && leb h (fifthAbove whole dollar (inHalves p)) && gridBy whole dollar (cents h))
 unfolding endTest
 five-by whole dollar p h cheap =
-    let fifth : ℕ = fifthAbove whole dollar (p / 50) in
-    let end : endAbove (gridBy whole dollar) (p / 50) ≡ suc fifth =
-    eqb→eq _ _ (every-number (endTest whole dollar) 41 0 (ends whole dollar) (p / 50) (omega arith) (omega arith)) in
+    let fifth : ℕ = fifthAbove whole dollar (inHalves p) in
+    let end : endAbove (gridBy whole dollar) (inHalves p) ≡ suc fifth =
+    eqb→eq _ _ (every-number (endTest whole dollar) (inHalves lowPrice + 1) 0 (ends whole dollar) (inHalves p) (omega arith) (omega arith)) in
     among-above (gridBy whole dollar) p h
-    ∙ ap (λ (t : Bool). ltb (p / 50) h && t && gridBy whole dollar (cents h)) (ap (ltb h) end ∙ leb·suc-suc h fifth)
+    ∙ ap (λ (t : Bool). ltb (inHalves p) h && t && gridBy whole dollar (cents h)) (ap (ltb h) end ∙ leb·suc-suc h fifth)
 
-pub five : (s : Setting) (h : ℕ) → price s ≤ 2000 →
+pub five : (s : Setting) (h : ℕ) → price s ≤ lowPrice →
     amongFive (rangeGrid s) (price s) h
-    ≡ (ltb (price s / 50) h
-    && leb h (fifthAbove (isNear s && isDollarClass (s .class)) (isDollarClass (s .class)) (price s / 50))
+    ≡ (ltb (inHalves (price s)) h
+    && leb h (fifthAbove (isNear s && isDollarClass (s .class)) (isDollarClass (s .class)) (inHalves (price s)))
     && rangeGrid s (cents h))
 five s h cheap = five-by (isNear s && isDollarClass (s .class)) (isDollarClass (s .class)) (price s) h cheap
 
 -- from $3.50 up the half dollars to $5.50 are fewer than five: the walk then goes on to the highest strike
 halfEndTest : ℕ → Bool
-halfEndTest q = eqb (endAbove halfDollars q) (cond (ltb q 7) (q + 6) 20000)
+halfEndTest q = eqb (endAbove halfDollars q) (cond (ltb q 7) (q + 6) (highestStrike + 1))
 
-half-ends : T (every halfEndTest (upFrom 11 0))
+half-ends : T (every halfEndTest (upFrom (inHalves fiveFifty) 0))
 unfolding halfEndTest endAbove endOf
 half-ends = tt
 
-half-end : (q h : ℕ) → q < h → h ≤ 11 → ltb h (endAbove halfDollars q) ≡ leb h (q + 5)
+half-end : (q h : ℕ) → q < h → h ≤ inHalves fiveFifty → ltb h (endAbove halfDollars q) ≡ leb h (q + 5)
 unfolding halfEndTest
 half-end q h low high =
-    go (ltb q 7) refl (eqb→eq _ _ (every-number halfEndTest 11 0 half-ends q (omega arith) (omega arith)))
+    go (ltb q 7) refl (eqb→eq _ _ (every-number halfEndTest (inHalves fiveFifty) 0 half-ends q (omega arith) (omega arith)))
   where
-    go : (t : Bool) → ltb q 7 ≡ t → endAbove halfDollars q ≡ cond t (q + 6) 20000 →
+    go : (t : Bool) → ltb q 7 ≡ t → endAbove halfDollars q ≡ cond t (q + 6) (highestStrike + 1) →
         ltb h (endAbove halfDollars q) ≡ leb h (q + 5)
     go true e end = same-leb (suc h) (endAbove halfDollars q) h (q + 5) (λ l. omega arith) (λ l. omega arith)
     go false e end =
         lt-ltb h (endAbove halfDollars q) (omega arith) ∙ sym (le-leb h (q + 5) (omega (arith, ltb-false q 7 e)))
 
 pub five-half-dollars : (p h : ℕ) →
-    amongFive halfDollars p h ≡ (ltb (p / 50) h && leb h (p / 50 + 5) && halfDollars (cents h))
+    amongFive halfDollars p h ≡ (ltb (inHalves p) h && leb h (inHalves p + 5) && halfDollars (cents h))
 five-half-dollars p h =
     among-above halfDollars p h
-    ∙ and-middle (ltb (p / 50) h) (ltb h (endAbove halfDollars (p / 50))) (leb h (p / 50 + 5)) (halfDollars (cents h))
-    (λ low on. half-end (p / 50) h (ltb→lt (p / 50) h low) (high on))
+    ∙ and-middle (ltb (inHalves p) h) (ltb h (endAbove halfDollars (inHalves p))) (leb h (inHalves p + 5)) (halfDollars (cents h))
+    (λ low on. half-end (inHalves p) h (ltb→lt (inHalves p) h low) (high on))
   where
-    high : T (halfDollars (cents h)) → h ≤ 11
-    high on = omega (arith, leb→le (cents h) 550 (search ands))
+    high : T (halfDollars (cents h)) → h ≤ inHalves fiveFifty
+    high on = omega (arith, leb→le (cents h) fiveFifty (search ands))

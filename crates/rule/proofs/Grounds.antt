@@ -3,8 +3,8 @@ use mathlib.Core.Path.{_≡_}
 use mathlib.Core.Logic.{_⊎_, inl, inr}
 use Prim.Native.Nat.{ℕ, _+_, _%_}
 use native.Mathlib.Omega.{arith}
-use Rattle.rule.specs.Grids.{wingBase}
+use Rattle.rule.specs.Grids.{twoDollars, threeDollars, fiveDollars, wingBase}
 
-pub wing-base : (l k : ℕ) → l % 500 ≡ 0 → (k ≡ l + 200) ⊎ (k ≡ l + 300) → wingBase k ≡ l
+pub wing-base : (l k : ℕ) → l % fiveDollars ≡ 0 → (k ≡ l + twoDollars) ⊎ (k ≡ l + threeDollars) → wingBase k ≡ l
 wing-base l k e (inl two) = omega arith
 wing-base l k e (inr three) = omega arith

@@ -1,7 +1,7 @@
 -- Only the standing strikes within reach of a strike bear on it, $1 in a long expiration and else $0.50: it clears each
 -- that is farther on any ground, so that a test of all is one of those between. Of strikes that rise, one that is clear
--- of the next below it and the next above has no other within reach, so that a judgement beside these is one beside all.
--- Assumes nothing.
+-- of the next below it and the next above has no other within reach, so that a judgement beside these is one beside
+-- all. Assumes nothing.
 use mathlib.Core.Path.{_≡_, refl, sym, ap, ap₂, _∙_, fun-ext, subst}
 use mathlib.Core.Bool.{Bool, true, false, not, cond, _&&_, _||_, and-false}
 use mathlib.Core.List.{List, [], _∷_, _++_, map, map-append}
@@ -17,9 +17,9 @@ use Rattle.logic.proofs.Tests.{ands, true-T, or-left, or-right, or-cases}
 use Rattle.logic.proofs.Lists.{not-some, every-at, every-places, every-mapped, rising-at}
 use Rattle.logic.proofs.Splits.{every-between, every-failed, parted}
 use Rattle.rule.specs.declared.terms.Setting.{Setting}
-use Rattle.rule.specs.Terms.{cents, isLong}
+use Rattle.rule.specs.Terms.{halfDollar, cents, isLong}
 use Rattle.rule.specs.Ends.{reachOf}
-use Rattle.rule.specs.Grids.{grounds, gridOf}
+use Rattle.rule.specs.Grids.{oneDollar, grounds, gridOf}
 use Rattle.rule.specs.Ranges.{rangeOf}
 use Rattle.rule.specs.Spacing.{Standing, standingOf, apart, crowds, clears, spacingOf}
 use Rattle.word.specs.Answers.{isAccepted}
@@ -55,24 +55,24 @@ module _ (s : Setting) (h : ℕ) where
       go : (long : Bool) → cond {A = ℕ} long 2 1 < apart h (t .strike) →
           (not (eqb g 1 && eqb (t .ground) 0 && crowds h (t .strike))
           && not (eqb g 0 && eqb (t .ground) 1 && crowds (t .strike) h)
-          && not (long && leb (apart (cents h) (cents (t .strike))) 100))
+          && not (long && leb (apart (cents h) (cents (t .strike))) oneDollar))
           ≡ true
       go true far =
           let there : ℕ = apart (cents h) (cents (t .strike)) in
           let back : ℕ = apart (cents (t .strike)) (cents h) in
-          simp (lt-leb there 50 (omega arith), lt-leb back 50 (omega arith), lt-leb there 100 (omega arith), and-false)
+          simp (lt-leb there halfDollar (omega arith), lt-leb back halfDollar (omega arith), lt-leb there oneDollar (omega arith), and-false)
       go false far =
           let there : ℕ = apart (cents h) (cents (t .strike)) in
           let back : ℕ = apart (cents (t .strike)) (cents h) in
-          simp (lt-leb there 50 (omega arith), lt-leb back 50 (omega arith), and-false)
+          simp (lt-leb there halfDollar (omega arith), lt-leb back halfDollar (omega arith), and-false)
 
   -- a strike that h clears on some ground is no nearer than the reach
   clears-apart : (g : ℕ) (t : Standing) → T (clears s g h t) → 0 < apart h (t .strike) → reachOf s ≤ apart h (t .strike)
   clears-apart g t u other = go (isLong s) (search ands)
     where
-      go : (long : Bool) → T (not (long && leb (apart (cents h) (cents (t .strike))) 100)) →
+      go : (long : Bool) → T (not (long && leb (apart (cents h) (cents (t .strike))) oneDollar)) →
           cond {A = ℕ} long 2 1 ≤ apart h (t .strike)
-      go true q = omega (arith, nleb→lt (apart (cents h) (cents (t .strike))) 100 q)
+      go true q = omega (arith, nleb→lt (apart (cents h) (cents (t .strike))) oneDollar q)
       go false q = omega arith
 
   -- where the spacing is the same, so is the judgement
@@ -83,7 +83,8 @@ module _ (s : Setting) (h : ℕ) where
       (fun-ext spaced)
 
   -- those before and behind are out of reach
-  module _ (before near behind : List Standing) (b : T (every (isFar s h) before)) (a : T (every (isFar s h) behind)) where
+  module _ (before near behind : List Standing)
+      (b : T (every (isFar s h) before)) (a : T (every (isFar s h) behind)) where
     -- the spacing beside all is the one beside those between
     near-spaced : (g : ℕ) → spacingOf s (before ++ (near ++ behind)) g h ≡ spacingOf s near g h
     near-spaced g = every-between (clears s g h) (isFar s h) (far-clears g) before near behind b a
@@ -202,7 +203,8 @@ module _ (s : Setting) {h : ℕ} {ws : List ℕ} {k from to : ℕ} (n : Nearest 
         below = λ i l.
             let last : ℕ = k - 1 in
             let a = n .under last (omega arith) in
-            let b = rising-at (λ w. standingOf w .strike) 0 ws (n .rising) i last (omega arith) (omega (arith, n .within)) in
+            let b =
+            rising-at (λ w. standingOf w .strike) 0 ws (n .rising) i last (omega arith) (omega (arith, n .within)) in
             let before : last < to = omega (arith, n .within, n .stop) in
             omega (arith, reached g clear last (n .start) before (omega (arith, n .within)) (omega arith));
         above = λ i l m.

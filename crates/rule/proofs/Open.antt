@@ -14,9 +14,10 @@ use Rattle.logic.specs.Lists.{some}
 use Rattle.logic.proofs.Tests.{ands, parts, and-intro, true-T, T-true, or-left, or-right, refuted}
 use Rattle.logic.proofs.Lists.{some-cases, some-imply}
 use Rattle.logic.proofs.Multiples.{times}
-use Rattle.rule.specs.Terms.{cents, isDollarClass, isNear, price}
+use Rattle.word.specs.Programs.{dollarPrice}
+use Rattle.rule.specs.Terms.{cents, inHalves, isDollarClass, isNear, price}
 use Rattle.rule.specs.Grids.{multiple, standardGrid, dollarGrid, halfDollars, halfGrid, wingBase, wingGrid}
-use Rattle.rule.specs.Grids.{gridOf, grounds}
+use Rattle.rule.specs.Grids.{oneDollar, fiftyDollars, gridOf, grounds}
 use Rattle.rule.specs.Ranges.{rangeBy, standardRange, rangeOf}
 use Rattle.rule.specs.declared.bounds.Rung.{Rung}
 use Rattle.rule.specs.Ends.{isProgramClass, halfEnd, lowEnd, highEnd, rungs, rungAt, isOpenStrike, Multiples, Fit, Climbs}
@@ -93,7 +94,7 @@ module _ (s : Setting) (h : ℕ) where
 
   wing-given : wingGrid s (cents h) ≡ true → rangeOf s 3 h ≡ true → Given
   wing-given a b =
-      let l : ℕ = wingBase (cents h) / 50 in
+      let l : ℕ = inHalves (wingBase (cents h)) in
       let w : Wing s h = wing-stepped s h a in
       let r : Ranged s l = standard-ranged s l (search parts) in
       let t : Ranged s (l + 10) = standard-ranged s (l + 10) (search parts) in
@@ -123,10 +124,10 @@ module _ (s : Setting) (h : ℕ) where
       lowEnd (price s) ≤ h → h ≤ highEnd s → isOpenStrike s h ≡ true
   dollar-open near program m l k low high =
       let dollar : isDollarClass (s .class) ≡ true = search parts in
-      let cheap : ltb (price s) 5000 ≡ true = search parts in
-      let whole : multiple 100 (cents h) ≡ true = eq-eqb (cents h % 100) 0 (omega arith) in
+      let cheap : ltb (price s) dollarPrice ≡ true = search parts in
+      let whole : multiple oneDollar (cents h) ≡ true = eq-eqb (cents h % oneDollar) 0 (omega arith) in
       let grid : dollarGrid s (cents h) ≡ true =
-      rw (near, dollar, cheap, whole, le-leb 100 (cents h) (omega arith), le-leb (cents h) 5000 (omega arith)) in
+      rw (near, dollar, cheap, whole, le-leb oneDollar (cents h) (omega arith), le-leb (cents h) fiftyDollars (omega arith)) in
       let range : standardRange s h ≡ true = ranged-standard s h (rw (near, dollar, whole)) low high in
       given-by 1 tt (rw (grid, range))
 

@@ -72,7 +72,8 @@ accepted-from v e g (row ∷ rows) = go (passes row) (accepted-from v e (g + 1) 
 
 -- a strike is accepted exactly when some ground passes
 pub accepted-passes : (rows : List (List Bool)) → isAccepted (decided rows) ≡ some passes rows
-accepted-passes rows = accepted-from (Refused (refusalOf rows)) (go (some passesRange rows) (some passesGrid rows)) 0 rows
+accepted-passes rows =
+    accepted-from (Refused (refusalOf rows)) (go (some passesRange rows) (some passesGrid rows)) 0 rows
   where
     go : (t u : Bool) → isAccepted (Refused (cond t TooClose (cond u OutOfRange OffGrid))) ≡ false
     go true u = refl

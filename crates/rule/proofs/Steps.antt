@@ -10,9 +10,12 @@ use lib.Dec.{T, leb, ltb, eqb, leb→le, eqb→eq}
 use borrow.Author.Tests.{ltb-false, leb-true, leb-false, eqb-true, le-leb, lt-ltb, eq-eqb}
 use Rattle.logic.proofs.Tests.{ands, parts, true-T, or-cases}
 use Rattle.logic.proofs.Multiples.{times}
+use Rattle.word.specs.Programs.{dollarPrice}
 use Rattle.word.specs.declared.class.ClassRecord.{ClassRecord}
 use Rattle.rule.specs.declared.terms.Setting.{Setting}
 use Rattle.rule.specs.Terms.{cents, isDollarClass, isLong, isNear, price}
+use Rattle.rule.specs.Grids.{oneDollar, twoDollars, twoFifty, threeDollars, fiveDollars, tenDollars}
+use Rattle.rule.specs.Grids.{twentyFiveDollars, fortyFiveDollars, fiftyDollars, twoHundredDollars}
 use Rattle.rule.specs.Grids.{multiple, ladder, standardGrid, dollarGrid, wingBase, wingAt, wingGrid}
 use Rattle.rule.specs.declared.bounds.Rung.{Rung}
 use Rattle.rule.specs.Ends.{isProgramClass, halfEnd, dollarEnd, ladderEnd, rungs, lastDollar, lastTwoFifty, lastFive}
@@ -26,13 +29,13 @@ pub record Stepped (h : ℕ) : Type 0 where
 
 -- the three parts of the ladder
 abbrev toTwentyFive : ℕ → Bool
-toTwentyFive k = leb k 2500 && multiple 250 k
+toTwentyFive k = leb k twentyFiveDollars && multiple twoFifty k
 
 abbrev toTwoHundred : ℕ → Bool
-toTwoHundred k = ltb 2500 k && leb k 20000 && multiple 500 k
+toTwoHundred k = ltb twentyFiveDollars k && leb k twoHundredDollars && multiple fiveDollars k
 
 abbrev pastTwoHundred : ℕ → Bool
-pastTwoHundred k = ltb 20000 k && multiple 1000 k
+pastTwoHundred k = ltb twoHundredDollars k && multiple tenDollars k
 
 ladder-stepped : (h : ℕ) → ladder (cents h) ≡ true → Stepped h
 ladder-stepped h e =
@@ -43,51 +46,51 @@ ladder-stepped h e =
   where
     to-25 : T (toTwentyFive (cents h)) → Stepped h
     to-25 a =
-        let most : cents h ≤ 2500 = leb→le (cents h) 2500 (search ands) in
-        let m : cents h % 250 ≡ 0 = eqb→eq (cents h % 250) 0 (search ands) in
+        let most : cents h ≤ twentyFiveDollars = leb→le (cents h) twentyFiveDollars (search ands) in
+        let m : cents h % twoFifty ≡ 0 = eqb→eq (cents h % twoFifty) 0 (search ands) in
         record {
-          fine = λ l. times 5 h (cents h / 250) (omega arith);
+          fine = λ l. times 5 h (cents h / twoFifty) (omega arith);
           fives = λ l. absurd (omega arith);
           tens = λ l. absurd (omega arith);
         }
 
     to-200 : T (toTwoHundred (cents h)) → Stepped h
     to-200 a =
-        let most : cents h ≤ 20000 = leb→le (cents h) 20000 (search ands) in
-        let m : cents h % 500 ≡ 0 = eqb→eq (cents h % 500) 0 (search ands) in
+        let most : cents h ≤ twoHundredDollars = leb→le (cents h) twoHundredDollars (search ands) in
+        let m : cents h % fiveDollars ≡ 0 = eqb→eq (cents h % fiveDollars) 0 (search ands) in
         record {
-          fine = λ l. times 5 h (2 * (cents h / 500)) (omega arith);
-          fives = λ l. times 10 h (cents h / 500) (omega arith);
+          fine = λ l. times 5 h (2 * (cents h / fiveDollars)) (omega arith);
+          fives = λ l. times 10 h (cents h / fiveDollars) (omega arith);
           tens = λ l. absurd (omega arith);
         }
 
     past-200 : T (pastTwoHundred (cents h)) → Stepped h
     past-200 a =
-        let m : cents h % 1000 ≡ 0 = eqb→eq (cents h % 1000) 0 (search ands) in
+        let m : cents h % tenDollars ≡ 0 = eqb→eq (cents h % tenDollars) 0 (search ands) in
         record {
-          fine = λ l. times 5 h (4 * (cents h / 1000)) (omega arith);
-          fives = λ l. times 10 h (2 * (cents h / 1000)) (omega arith);
-          tens = λ l. times 20 h (cents h / 1000) (omega arith);
+          fine = λ l. times 5 h (4 * (cents h / tenDollars)) (omega arith);
+          fives = λ l. times 10 h (2 * (cents h / tenDollars)) (omega arith);
+          tens = λ l. times 20 h (cents h / tenDollars) (omega arith);
         }
 
 stepped-ladder : (h : ℕ) → Stepped h → ladder (cents h) ≡ true
-stepped-ladder h r = go (leb (cents h) 2500) refl (leb (cents h) 20000) refl
+stepped-ladder h r = go (leb (cents h) twentyFiveDollars) refl (leb (cents h) twoHundredDollars) refl
   where
-    go : (t : Bool) → leb (cents h) 2500 ≡ t → (u : Bool) → leb (cents h) 20000 ≡ u → ladder (cents h) ≡ true
+    go : (t : Bool) → leb (cents h) twentyFiveDollars ≡ t → (u : Bool) → leb (cents h) twoHundredDollars ≡ u → ladder (cents h) ≡ true
     go true a u b =
-        let l : h ≤ lastTwoFifty = omega (arith, leb-true (cents h) 2500 a) in
-        rw (a, eq-eqb (cents h % 250) 0 (omega (arith, r .fine l)))
+        let l : h ≤ lastTwoFifty = omega (arith, leb-true (cents h) twentyFiveDollars a) in
+        rw (a, eq-eqb (cents h % twoFifty) 0 (omega (arith, r .fine l)))
     go false a true b =
-        let l : lastTwoFifty < h = omega (arith, leb-false (cents h) 2500 a) in
-        rw (a, b, lt-ltb 2500 (cents h) (omega arith), eq-eqb (cents h % 500) 0 (omega (arith, r .fives l)))
+        let l : lastTwoFifty < h = omega (arith, leb-false (cents h) twentyFiveDollars a) in
+        rw (a, b, lt-ltb twentyFiveDollars (cents h) (omega arith), eq-eqb (cents h % fiveDollars) 0 (omega (arith, r .fives l)))
     go false a false b =
-        let l : lastFive < h = omega (arith, leb-false (cents h) 20000 b) in
+        let l : lastFive < h = omega (arith, leb-false (cents h) twoHundredDollars b) in
         rw (
           a,
           b,
-          lt-ltb 2500 (cents h) (omega arith),
-          lt-ltb 20000 (cents h) (omega arith),
-          eq-eqb (cents h % 1000) 0 (omega (arith, r .tens l)),
+          lt-ltb twentyFiveDollars (cents h) (omega arith),
+          lt-ltb twoHundredDollars (cents h) (omega arith),
+          eq-eqb (cents h % tenDollars) 0 (omega (arith, r .tens l)),
         )
 
 module _ (c : ClassRecord) (h : ℕ) where
@@ -97,24 +100,24 @@ module _ (c : ClassRecord) (h : ℕ) where
   -- in a $1 class Standard is the multiples of $5 on the ladder
   pub standard-five : isDollarClass c ≡ true → standardGrid c (cents h) ≡ true → h % 10 ≡ 0
   standard-five d e =
-      go (ltb (cents h) 5000) refl (multiple 500 (cents h)) refl
+      go (ltb (cents h) fiftyDollars) refl (multiple fiveDollars (cents h)) refl
       (ap less (sym d) ∙ search parts)
     where
       less : Bool → Bool
-      less t = not (t && ltb (cents h) 5000 && not (multiple 500 (cents h)))
+      less t = not (t && ltb (cents h) fiftyDollars && not (multiple fiveDollars (cents h)))
 
-      go : (t : Bool) → ltb (cents h) 5000 ≡ t → (u : Bool) → multiple 500 (cents h) ≡ u →
+      go : (t : Bool) → ltb (cents h) fiftyDollars ≡ t → (u : Bool) → multiple fiveDollars (cents h) ≡ u →
           not (true && t && not u) ≡ true → h % 10 ≡ 0
-      go true a true b n = times 10 h (cents h / 500) (omega (arith, eqb-true (cents h % 500) 0 b))
+      go true a true b n = times 10 h (cents h / fiveDollars) (omega (arith, eqb-true (cents h % fiveDollars) 0 b))
       go true a false b n = absurd (true≢false (sym n))
       go false a u b n =
-          ladder-stepped h (search parts) .fives (omega (arith, ltb-false (cents h) 5000 a))
+          ladder-stepped h (search parts) .fives (omega (arith, ltb-false (cents h) fiftyDollars a))
 
   pub standard-of : (isDollarClass c ≡ true → h % 10 ≡ 0) → Stepped h → standardGrid c (cents h) ≡ true
   standard-of five r = go (isDollarClass c) refl
     where
       go : (d : Bool) → isDollarClass c ≡ d → standardGrid c (cents h) ≡ true
-      go true d = rw (stepped-ladder h r, d, eq-eqb (cents h % 500) 0 (omega (arith, five d)), and-false)
+      go true d = rw (stepped-ladder h r, d, eq-eqb (cents h % fiveDollars) 0 (omega (arith, five d)), and-false)
       go false d = rw (stepped-ladder h r, d)
 
   -- each multiple of $5 on the ladder is a Standard strike
@@ -190,28 +193,28 @@ module _ (s : Setting) (h : ℕ) where
       go false q = rw (q, le-leb h (dollarEnd c) reached) (w .whole)
 
   -- the last two of the three conditions of Dollar and of Wing
-  program : (term : Bool) → (term && isDollarClass c && ltb (price s) 5000) ≡ true → isProgramClass c ≡ true
+  program : (term : Bool) → (term && isDollarClass c && ltb (price s) dollarPrice) ≡ true → isProgramClass c ≡ true
   program term e =
       let dollar : isDollarClass c ≡ true = search parts in
-      let cheap : ltb (price s) 5000 ≡ true = search parts in
+      let cheap : ltb (price s) dollarPrice ≡ true = search parts in
       rw (dollar, cheap)
 
   pub dollar-whole : dollarGrid s (cents h) ≡ true → Whole
   dollar-whole e =
       record {
         program = program (isNear s) (search parts);
-        whole = times 2 h (cents h / 100) (omega (arith, eqb-true (cents h % 100) 0 (search parts)));
-        most = omega (arith, leb-true (cents h) 5000 (search parts));
+        whole = times 2 h (cents h / oneDollar) (omega (arith, eqb-true (cents h % oneDollar) 0 (search parts)));
+        most = omega (arith, leb-true (cents h) fiftyDollars (search parts));
       }
 
   abbrev base : ℕ
   base = wingBase (cents h)
 
   abbrev at-2 : Bool
-  at-2 = eqb (cents h) (base + 200)
+  at-2 = eqb (cents h) (base + twoDollars)
 
   abbrev at-3 : Bool
-  at-3 = eqb (cents h) (base + 300)
+  at-3 = eqb (cents h) (base + threeDollars)
 
   -- a wing stands $2 or $3 above a multiple of $5
   wing-whole : wingAt (price s) base (cents h) ≡ true → h % 2 ≡ 0
@@ -219,26 +222,26 @@ module _ (s : Setting) (h : ℕ) where
       ⊎-elim
       (λ d.
       ⊎-elim (λ a. two (search ands)) (λ a. three (search ands))
-      (or-cases (at-2 && leb (price s) base) (at-3 && leb (base + 500) (price s)) d))
+      (or-cases (at-2 && leb (price s) base) (at-3 && leb (base + fiveDollars) (price s)) d))
       (λ a. two (search ands))
-      (or-cases (at-2 && leb (price s) base || at-3 && leb (base + 500) (price s))
-      (at-2 && (ltb base (price s) && leb (price s) (base + 500))) (true-T _ e))
+      (or-cases (at-2 && leb (price s) base || at-3 && leb (base + fiveDollars) (price s))
+      (at-2 && (ltb base (price s) && leb (price s) (base + fiveDollars))) (true-T _ e))
     where
       two : T at-2 → h % 2 ≡ 0
-      two a = times 2 h (5 * (cents h / 500) + 2) (omega (arith, eqb→eq (cents h) (base + 200) a))
+      two a = times 2 h (5 * (cents h / fiveDollars) + 2) (omega (arith, eqb→eq (cents h) (base + twoDollars) a))
 
       three : T at-3 → h % 2 ≡ 0
-      three a = times 2 h (5 * (cents h / 500) + 3) (omega (arith, eqb→eq (cents h) (base + 300) a))
+      three a = times 2 h (5 * (cents h / fiveDollars) + 3) (omega (arith, eqb→eq (cents h) (base + threeDollars) a))
 
   -- what the grid of Wing says of the strike, and of its L
   pub record Wing : Type 0 where
     pub whole : Whole
-    pub least : 500 ≤ base
-    pub most : base ≤ 4500
+    pub least : fiveDollars ≤ base
+    pub most : base ≤ fortyFiveDollars
 
   pub wing-stepped : wingGrid s (cents h) ≡ true → Wing
   wing-stepped e =
-      let most : base ≤ 4500 = leb-true base 4500 (search parts) in
+      let most : base ≤ fortyFiveDollars = leb-true base fortyFiveDollars (search parts) in
       record {
         whole =
             record {
@@ -246,6 +249,6 @@ module _ (s : Setting) (h : ℕ) where
               whole = wing-whole (search parts);
               most = omega arith;
             };
-        least = leb-true 500 base (search parts);
+        least = leb-true fiveDollars base (search parts);
         most = most;
       }

@@ -10,7 +10,11 @@ use Rattle.word.specs.Limits.{highestStrike}
 use Rattle.word.specs.declared.class.ClassRecord.{ClassRecord}
 use Rattle.rule.specs.declared.terms.Setting.{Setting}
 use Rattle.rule.specs.declared.bounds.Rung.{Rung}
-use Rattle.rule.specs.Terms.{isDollarClass, isHalfClass, isLong, isNear}
+use Rattle.word.specs.Programs.{dollarPrice, halfPrice, halfVolume}
+use Rattle.rule.specs.Terms.{halfDollar, inHalves, isDollarClass, isHalfClass, isLong, isNear}
+use Rattle.rule.specs.Grids.{oneDollar, twoFifty, fiveDollars, fiveFifty, tenDollars, twentyFiveDollars}
+use Rattle.rule.specs.Grids.{fiftyDollars, twoHundredDollars}
+use Rattle.rule.specs.Ranges.{lowPrice}
 use Rattle.word.specs.Answers.{isAccepted}
 use Rattle.rule.specs.Judgement.{judgement}
 
@@ -22,36 +26,37 @@ fifthAbove whole dollar q =
 
 -- a $1 class whose close allows strikes of $1
 abbrev pub isProgramClass : ClassRecord → Bool
-isProgramClass c = isDollarClass c && ltb (c .close) 5000
+isProgramClass c = isDollarClass c && ltb (c .close) dollarPrice
 
 -- the last strike that Half gives, 0 where it gives none
 abbrev pub halfEnd : Setting → ℕ
 halfEnd s =
-    cond {A = ℕ} (isNear s && isHalfClass (s .class) && leb (s .class .close) 500 && leb 1000 (s .class .volume))
-    (min (max (s .class .close / 25) (s .class .close / 50 + 5)) 11)
+    cond {A = ℕ}
+    (isNear s && isHalfClass (s .class) && leb (s .class .close) halfPrice && leb halfVolume (s .class .volume))
+    (min (max (s .class .close / 25) (inHalves (s .class .close) + 5)) (inHalves fiveFifty))
     0
 
 -- the lowest strike in range on the other grounds at the price p; one of at most $20 sets none
 abbrev pub lowEnd : ℕ → ℕ
-lowEnd p = cond {A = ℕ} (ltb 2000 p) ((p + 99) / 100) 0
+lowEnd p = cond {A = ℕ} (ltb lowPrice p) ((p + 99) / 100) 0
 
 -- the highest strike in range on the other grounds, of those on their grids
 abbrev pub highEnd : Setting → ℕ
 highEnd s =
-    cond {A = ℕ} (ltb 2000 (s .class .close)) (min (3 * s .class .close / 100) highestStrike)
+    cond {A = ℕ} (ltb lowPrice (s .class .close)) (min (3 * s .class .close / 100) highestStrike)
     (max (s .class .close / 25)
-    (fifthAbove (isNear s && isDollarClass (s .class)) (isDollarClass (s .class)) (s .class .close / 50)))
+    (fifthAbove (isNear s && isDollarClass (s .class)) (isDollarClass (s .class)) (inHalves (s .class .close))))
 
 -- the last strikes of these, in half dollars: "whole dollars from $1 to $50"; "multiples of $2.50 to $25, of $5 above
 -- $25 to $200"
 abbrev pub lastDollar : ℕ
-lastDollar = 100
+lastDollar = inHalves fiftyDollars
 
 abbrev pub lastTwoFifty : ℕ
-lastTwoFifty = 50
+lastTwoFifty = inHalves twentyFiveDollars
 
 abbrev pub lastFive : ℕ
-lastFive = 400
+lastFive = inHalves twoHundredDollars
 
 -- the last strike that whole dollars reach, 0 where the class has none
 abbrev pub dollarEnd : ClassRecord → ℕ
@@ -69,10 +74,10 @@ rung to step all = record { to = to; step = step; all = all }
 abbrev pub rungs : Setting → List Rung
 rungs s =
     rung (halfEnd s) 1 true ∷
-    rung (dollarEnd (s .class)) 2 (isNear s) ∷
-    rung (ladderEnd (s .class)) 5 true ∷
-    rung lastFive 10 true ∷
-    rung highestStrike 20 true ∷ []
+    rung (dollarEnd (s .class)) (inHalves oneDollar) (isNear s) ∷
+    rung (ladderEnd (s .class)) (inHalves twoFifty) true ∷
+    rung lastFive (inHalves fiveDollars) true ∷
+    rung highestStrike (inHalves tenDollars) true ∷ []
 
 -- how many strikes are open at most: all that Half gives, and half of those above, rounded up on each rung
 abbrev pub mostOpen : Setting → ℕ
@@ -86,7 +91,7 @@ rungAt (r ∷ q ∷ rs) h = cond {A = Rung} (leb h (r .to)) r (rungAt (q ∷ rs)
 
 -- how many half dollars away a standing strike can bear on a new one: $1 in a long expiration, else $0.50
 abbrev pub reachOf : Setting → ℕ
-reachOf s = cond {A = ℕ} (isLong s) 2 1
+reachOf s = cond {A = ℕ} (isLong s) (inHalves oneDollar) (inHalves halfDollar)
 
 -- the rules accept the strike where none stands
 abbrev pub isOpenStrike : Setting → ℕ → Bool

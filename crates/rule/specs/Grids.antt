@@ -5,48 +5,91 @@ use mathlib.Core.List.{List, [], _∷_}
 use lib.Dec.{leb, ltb, eqb}
 use Rattle.word.specs.declared.class.ClassRecord.{ClassRecord}
 use Rattle.rule.specs.declared.terms.Setting.{Setting}
-use Rattle.rule.specs.Terms.{cents, isDollarClass, isHalfClass, isLong, isNear, price}
+use Rattle.word.specs.Programs.{dollarPrice, halfPrice, halfVolume}
+use Rattle.rule.specs.Terms.{halfDollar, cents, isDollarClass, isHalfClass, isLong, isNear, price}
 
 abbrev pub multiple : ℕ → ℕ → Bool
 multiple n k = eqb (k % n) 0
 
+-- "multiples of $2.50 to $25, of $5 above $25 to $200, of $10 above $200", in cents
+abbrev pub twoFifty : ℕ
+twoFifty = 250
+
+abbrev pub twentyFiveDollars : ℕ
+twentyFiveDollars = 2500
+
+abbrev pub fiveDollars : ℕ
+fiveDollars = 500
+
+abbrev pub twoHundredDollars : ℕ
+twoHundredDollars = 20000
+
+abbrev pub tenDollars : ℕ
+tenDollars = 1000
+
 -- document 01's term: "The *ladder*: multiples of $2.50 to $25, of $5 above $25 to $200, of $10 above $200."
 abbrev pub ladder : ℕ → Bool
 ladder k =
-    leb k 2500 && multiple 250 k || ltb 2500 k && leb k 20000 && multiple 500 k || ltb 20000 k && multiple 1000 k
+    leb k twentyFiveDollars && multiple twoFifty k
+    || ltb twentyFiveDollars k && leb k twoHundredDollars && multiple fiveDollars k
+    || ltb twoHundredDollars k && multiple tenDollars k
+
+-- "every strike below $50"; "whole dollars from $1 to $50"
+abbrev pub oneDollar : ℕ
+oneDollar = 100
+
+abbrev pub fiftyDollars : ℕ
+fiftyDollars = 5000
 
 -- "Standard: the ladder, less every strike below $50 that isn't a multiple of $5 if the class is a $1 class."
 abbrev pub standardGrid : ClassRecord → ℕ → Bool
-standardGrid c k = ladder k && not (isDollarClass c && ltb k 5000 && not (multiple 500 k))
+standardGrid c k = ladder k && not (isDollarClass c && ltb k fiftyDollars && not (multiple fiveDollars k))
 
 -- "Dollar: near, $1 class, P below 5,000; whole dollars from $1 to $50."
 abbrev pub dollarGrid : Setting → ℕ → Bool
 dollarGrid s k =
-    isNear s && isDollarClass (s .class) && ltb (price s) 5000 && (multiple 100 k && leb 100 k && leb k 5000)
+    isNear s && isDollarClass (s .class) && ltb (price s) dollarPrice
+    && (multiple oneDollar k && leb oneDollar k && leb k fiftyDollars)
 
 -- "multiples of $0.50 to $5.50"
+abbrev pub fiveFifty : ℕ
+fiveFifty = 550
+
 abbrev pub halfDollars : ℕ → Bool
-halfDollars k = multiple 50 k && leb k 550
+halfDollars k = multiple halfDollar k && leb k fiveFifty
 
 -- "Half: near, half class, P at most 500, volume at least 1,000; multiples of $0.50 to $5.50."
 abbrev pub halfGrid : Setting → ℕ → Bool
-halfGrid s k = isNear s && isHalfClass (s .class) && leb (price s) 500 && leb 1000 (s .class .volume) && halfDollars k
+halfGrid s k =
+    isNear s && isHalfClass (s .class) && leb (price s) halfPrice && leb halfVolume (s .class .volume) && halfDollars k
 
 -- the L of a wing, which stands $2 or $3 above it: the multiple of $5 at or below it
 abbrev pub wingBase : ℕ → ℕ
-wingBase k = k / 500 * 500
+wingBase k = k / fiveDollars * fiveDollars
+
+-- "For L a multiple of $5 from $5 to $45 its wings are: L + $2 .. L + $3"
+abbrev pub fortyFiveDollars : ℕ
+fortyFiveDollars = 4500
+
+abbrev pub twoDollars : ℕ
+twoDollars = 200
+
+abbrev pub threeDollars : ℕ
+threeDollars = 300
 
 -- "L + $2 if L is at or above P; L + $3 if L + $5 is at or below P; and L + $2 if L is the largest multiple of $5
 -- strictly below P."
 abbrev pub wingAt : ℕ → ℕ → ℕ → Bool
 wingAt p l k =
-    eqb k (l + 200) && leb p l || eqb k (l + 300) && leb (l + 500) p || eqb k (l + 200) && (ltb l p && leb p (l + 500))
+    eqb k (l + twoDollars) && leb p l
+    || eqb k (l + threeDollars) && leb (l + fiveDollars) p
+    || eqb k (l + twoDollars) && (ltb l p && leb p (l + fiveDollars))
 
 -- "Wing: long, $1 class, P below 5,000. For L a multiple of $5 from $5 to $45"
 abbrev pub wingGrid : Setting → ℕ → Bool
 wingGrid s k =
-    isLong s && isDollarClass (s .class) && ltb (price s) 5000
-    && (leb 500 (wingBase k) && leb (wingBase k) 4500 && wingAt (price s) (wingBase k) k)
+    isLong s && isDollarClass (s .class) && ltb (price s) dollarPrice
+    && (leb fiveDollars (wingBase k) && leb (wingBase k) fortyFiveDollars && wingAt (price s) (wingBase k) k)
 
 -- "Four grounds, each with its own grid"
 abbrev pub grounds : List ℕ

@@ -6,8 +6,8 @@ use lib.Dec.{leb, ltb, eqb}
 use Rattle.word.specs.Limits.{highestStrike}
 use Rattle.rule.specs.declared.terms.Setting.{Setting}
 use Rattle.logic.specs.Lists.{some}
-use Rattle.rule.specs.Terms.{cents, isDollarClass, isNear, price}
-use Rattle.rule.specs.Grids.{multiple, standardGrid, halfDollars, wingBase}
+use Rattle.rule.specs.Terms.{cents, inHalves, isDollarClass, isNear, price}
+use Rattle.rule.specs.Grids.{oneDollar, fiveDollars, multiple, standardGrid, halfDollars, wingBase}
 
 -- the n lowest strikes that pass the test, of the `left` strikes from h up
 unfoldable pub lowest : (ℕ → Bool) → ℕ → ℕ → ℕ → List ℕ
@@ -16,22 +16,30 @@ lowest test (suc left) zero h = []
 lowest test (suc left) (suc n) h =
     elim (test h) [ true ↦ h ∷ lowest test left n (suc h) | false ↦ lowest test left (suc n) (suc h) ]
 
+-- "the five lowest strikes above P"
+abbrev pub rangeCount : ℕ
+rangeCount = 5
+
 -- "K is among the five lowest strikes above P of the *range grid*": of all strikes from 1 to 19,999
 unfoldable pub amongFive : (ℕ → Bool) → ℕ → ℕ → Bool
-amongFive grid p h = some (eqb h) (lowest (λ x. ltb p (cents x) && grid (cents x)) highestStrike 5 1)
+amongFive grid p h = some (eqb h) (lowest (λ x. ltb p (cents x) && grid (cents x)) highestStrike rangeCount 1)
+
+-- "At P above 2,000"; "At P of 2,000 or less"
+abbrev pub lowPrice : ℕ
+lowPrice = 2000
 
 -- "At P above 2,000, K is in range when P ≤ 2K ≤ 3P. At P of 2,000 or less, K is in range when K ≤ 2P, or when K is
 -- among the five"
 abbrev pub rangeBy : (ℕ → Bool) → ℕ → ℕ → Bool
 rangeBy grid p h =
-    cond (ltb 2000 p)
+    cond (ltb lowPrice p)
     (leb p (2 * cents h) && leb (2 * cents h) (3 * p))
     (leb (cents h) (2 * p) || amongFive grid p h)
 
 -- document 01's term: "That grid is: whole dollars for Standard and Dollar in a near $1 class; the Standard grid
 -- otherwise for Standard"
 abbrev pub rangeGrid : Setting → ℕ → Bool
-rangeGrid s k = cond (isNear s && isDollarClass (s .class)) (multiple 100 k) (standardGrid (s .class) k)
+rangeGrid s k = cond (isNear s && isDollarClass (s .class)) (multiple oneDollar k) (standardGrid (s .class) k)
 
 abbrev pub standardRange : Setting → ℕ → Bool
 standardRange s h = rangeBy (rangeGrid s) (price s) h
@@ -42,4 +50,5 @@ rangeOf s zero h = standardRange s h
 rangeOf s (suc zero) h = standardRange s h
 rangeOf s (suc (suc zero)) h = rangeBy halfDollars (price s) h
 rangeOf s (suc (suc (suc g))) h =
-    standardRange s (wingBase (cents h) / 50) && standardRange s (wingBase (cents h) / 50 + 10)
+    standardRange s (inHalves (wingBase (cents h)))
+    && standardRange s (inHalves (wingBase (cents h)) + inHalves fiveDollars)

@@ -7,7 +7,8 @@ use Rattle.word.specs.Field.{field}
 use Rattle.word.specs.Kinds.{keyOf, strikeKind, groundField}
 use Rattle.rule.specs.declared.terms.Setting.{Setting}
 use Rattle.logic.specs.Lists.{every}
-use Rattle.rule.specs.Terms.{cents, isLong}
+use Rattle.rule.specs.Terms.{halfDollar, cents, isLong}
+use Rattle.rule.specs.Grids.{oneDollar, twoFifty, fiveDollars}
 
 -- a strike that stands, in half dollars, and its ground
 pub record Standing : Type 0 where
@@ -24,7 +25,8 @@ apart a b = (a - b) + (b - a)
 -- "a Dollar strike and a Standard strike at an odd multiple of $2.50 stay more than $0.50 from each other": here they
 -- don't
 abbrev pub crowds : ℕ → ℕ → Bool
-crowds dollar standard = eqb (cents standard % 500) 250 && leb (apart (cents dollar) (cents standard)) 50
+crowds dollar standard =
+    eqb (cents standard % fiveDollars) twoFifty && leb (apart (cents dollar) (cents standard)) halfDollar
 
 -- the new strike h on ground g may stand beside t: "whichever came first"; "In a long expiration a new strike stays
 -- more than $1 from every standing one, on any ground."
@@ -32,7 +34,7 @@ abbrev pub clears : Setting → ℕ → ℕ → Standing → Bool
 clears s g h t =
     not (eqb g 1 && eqb (t .ground) 0 && crowds h (t .strike))
     && not (eqb g 0 && eqb (t .ground) 1 && crowds (t .strike) h)
-    && not (isLong s && leb (apart (cents h) (cents (t .strike))) 100)
+    && not (isLong s && leb (apart (cents h) (cents (t .strike))) oneDollar)
 
 abbrev pub spacingOf : Setting → List Standing → ℕ → ℕ → Bool
 spacingOf s standing g h = every (clears s g h) standing

@@ -1,6 +1,6 @@
 -- Document 01, "Grids", its first sentences, and the months of "Who draws which number": the terms in which the rules
 -- speak of a class and an expiration. Assumes nothing.
-use Prim.Native.Nat.{ℕ, _+_, _*_}
+use Prim.Native.Nat.{ℕ, _+_, _*_, _/_}
 use mathlib.Core.Bool.{Bool, not, _||_}
 use lib.Dec.{leb, ltb, eqb}
 use Rattle.word.specs.Class.{designation}
@@ -8,8 +8,15 @@ use Rattle.word.specs.declared.class.ClassRecord.{ClassRecord}
 use Rattle.rule.specs.declared.terms.Setting.{Setting}
 
 -- "K = 50 × h is the same strike in cents"
+abbrev pub halfDollar : ℕ
+halfDollar = 50
+
 abbrev pub cents : ℕ → ℕ
-cents h = 50 * h
+cents h = halfDollar * h
+
+-- an amount of cents in half dollars, rounded down
+abbrev pub inHalves : ℕ → ℕ
+inHalves k = k / halfDollar
 
 abbrev pub isDesignated : ℕ → Bool
 isDesignated d = eqb d 1 || eqb d 2
@@ -23,8 +30,11 @@ abbrev pub isHalfClass : ClassRecord → Bool
 isHalfClass c = isDesignated (designation 2 c)
 
 -- document 01's terms: "An expiration m is *long* when m − `now` is 9 or more, else *near*."
+abbrev pub longFrom : ℕ
+longFrom = 9
+
 abbrev pub isLong : Setting → Bool
-isLong s = leb (s .current + 9) (s .month)
+isLong s = leb (s .current + longFrom) (s .month)
 
 abbrev pub isNear : Setting → Bool
 isNear s = not (isLong s)
@@ -34,5 +44,8 @@ abbrev pub price : Setting → ℕ
 price s = s .class .close
 
 -- "5 .. m at or below `now` or above `now` + 39"
+abbrev pub farthestAhead : ℕ
+farthestAhead = 39
+
 abbrev pub isOutside : Setting → Bool
-isOutside s = leb (s .month) (s .current) || ltb (s .current + 39) (s .month)
+isOutside s = leb (s .month) (s .current) || ltb (s .current + farthestAhead) (s .month)

@@ -4,17 +4,39 @@ ghost use mathlib.Core.Path.{_≡_};
 ghost use Prim.Native.Nat.{_^_, _<_, _≤_, min, max};
 ghost use Rattle.rule.specs.Ends.{fifthAbove, isProgramClass, halfEnd, lowEnd, highEnd, dollarEnd, ladderEnd};
 ghost use Rattle.rule.specs.Ends.{rungs, mostOpen};
+use crate::amounts::FIVE_DOLLARS;
+use crate::amounts::HALF_DOLLAR;
+use crate::amounts::ONE_DOLLAR;
+use crate::amounts::TEN_DOLLARS;
+use crate::amounts::TWENTY_FIVE_DOLLARS;
+use crate::amounts::TWO_FIFTY;
+use crate::amounts::TWO_HUNDRED_DOLLARS;
 use crate::terms::Setting;
 use crate::terms::is_dollar_class;
 use crate::terms::is_half_class;
 use crate::terms::is_long;
 use word::class::ClassRecord;
+use word::programs::DOLLAR_PRICE;
+use word::programs::HALF_PRICE;
+use word::programs::HALF_VOLUME;
 use word::strike::Strike;
 
-// Where multiples of $2.50 end on the ladder, and those of $5.
-const TWENTY_FIVE_DOLLARS: Strike = Strike(50);
+// A price of at most $20 sets no lowest strike.
+const LOW_PRICE: u32 = 2000;
 
-const TWO_HUNDRED_DOLLARS: Strike = Strike(400);
+// Where multiples of $2.50 end on the ladder, and those of $5.
+const LAST_TWO_FIFTY: Strike = Strike(TWENTY_FIVE_DOLLARS / HALF_DOLLAR);
+
+const LAST_FIVE: Strike = Strike(TWO_HUNDRED_DOLLARS / HALF_DOLLAR);
+
+// The steps of the ladder and of whole dollars, in half dollars.
+const BY_ONE_DOLLAR: u32 = ONE_DOLLAR / HALF_DOLLAR;
+
+const BY_TWO_FIFTY: u32 = TWO_FIFTY / HALF_DOLLAR;
+
+pub const BY_FIVE_DOLLARS: u32 = FIVE_DOLLARS / HALF_DOLLAR;
+
+const BY_TEN_DOLLARS: u32 = TEN_DOLLARS / HALF_DOLLAR;
 
 pub fn lower_of(a: u32, b: u32) -> u32
     ensures { λ r. ⌜ r ≡ min a b ⌝ }
@@ -50,7 +72,7 @@ fn fifth_above(whole: bool, dollar: bool, q: u32) -> u32
 fn is_program_class(class: ClassRecord) -> bool
     ensures { λ r. ⌜ r ≡ isProgramClass class ⌝ }
 {
-    is_dollar_class(class) & (class.close < 5000)
+    is_dollar_class(class) & (class.close < DOLLAR_PRICE)
 }
 
 // The last strike that Half gives, 0 where it gives none.
@@ -60,10 +82,10 @@ pub fn half_end(s: Setting) -> u32
 {
     let class = s.class;
     let p = class.close;
-    if is_long(s) | !is_half_class(class) | (500 < p) | (class.volume < 1000) {
+    if is_long(s) | !is_half_class(class) | (HALF_PRICE < p) | (class.volume < HALF_VOLUME) {
         return 0;
     }
-    lower_of(higher_of(p / 25, p / 50 + 5), Strike::FIVE_FIFTY.0)
+    lower_of(higher_of(p / 25, p / HALF_DOLLAR + 5), Strike::FIVE_FIFTY.0)
 }
 
 // The lowest strike in range on the other grounds; a price of at most $20 sets none.
@@ -71,7 +93,7 @@ pub fn low_end(p: u32) -> u32
     requires { ⌜ p ≤ 999999 ⌝ }
     ensures { λ r. ⌜ r ≡ lowEnd p ⌝ }
 {
-    if 2000 < p { (p + 99) / 100 } else { 0 }
+    if LOW_PRICE < p { (p + 99) / 100 } else { 0 }
 }
 
 // The highest.
@@ -80,11 +102,14 @@ pub fn high_end(s: Setting) -> u32
     ensures { λ r. ⌜ r ≡ highEnd s ⌝ }
 {
     let p = s.class.close;
-    if 2000 < p {
+    if LOW_PRICE < p {
         return lower_of(3 * p / 100, Strike::HIGHEST.0);
     }
     let dollar = is_dollar_class(s.class);
-    higher_of(p / 25, fifth_above(!is_long(s) & dollar, dollar, p / 50))
+    higher_of(
+        p / 25,
+        fifth_above(!is_long(s) & dollar, dollar, p / HALF_DOLLAR),
+    )
 }
 
 // Up to the strike `to`, from the rung before on, the open strikes are multiples of `step`. `all` says that each such
@@ -113,7 +138,7 @@ fn ladder_end(class: ClassRecord) -> u32
     if is_dollar_class(class) {
         0
     } else {
-        TWENTY_FIVE_DOLLARS.0
+        LAST_TWO_FIFTY.0
     }
 }
 
@@ -136,22 +161,22 @@ pub fn rungs_of(s: Setting) -> Rungs
         },
         Rung {
             to: dollar_end(s.class),
-            step: 2,
+            step: BY_ONE_DOLLAR,
             all: !is_long(s),
         },
         Rung {
             to: ladder_end(s.class),
-            step: 5,
+            step: BY_TWO_FIFTY,
             all: true,
         },
         Rung {
-            to: TWO_HUNDRED_DOLLARS.0,
-            step: 10,
+            to: LAST_FIVE.0,
+            step: BY_FIVE_DOLLARS,
             all: true,
         },
         Rung {
             to: Strike::HIGHEST.0,
-            step: 20,
+            step: BY_TEN_DOLLARS,
             all: true,
         },
     ]

@@ -1,26 +1,42 @@
 // The grids of the four grounds, over strikes in cents.
 ghost use mathlib.Core.Path.{_≡_};
-ghost use Prim.Native.Nat.{_<_, _≤_};
+ghost use Prim.Native.Nat.{_≤_};
+ghost use Rattle.word.specs.Limits.{highestStrike};
+ghost use Rattle.rule.specs.Terms.{cents};
 ghost use Rattle.rule.specs.Grids.{ladder, standardGrid, dollarGrid, halfDollars, halfGrid, wingAt, wingGrid};
+use crate::amounts::FIFTY_DOLLARS;
+use crate::amounts::FIVE_DOLLARS;
+use crate::amounts::FORTY_FIVE_DOLLARS;
+use crate::amounts::HALF_DOLLAR;
+use crate::amounts::ONE_DOLLAR;
+use crate::amounts::TEN_DOLLARS;
+use crate::amounts::THREE_DOLLARS;
+use crate::amounts::TWENTY_FIVE_DOLLARS;
+use crate::amounts::TWO_DOLLARS;
+use crate::amounts::TWO_FIFTY;
+use crate::amounts::TWO_HUNDRED_DOLLARS;
 use crate::terms::Setting;
 use crate::terms::is_dollar_class;
 use crate::terms::is_half_class;
 use crate::terms::is_long;
 use word::class::ClassRecord;
+use word::programs::DOLLAR_PRICE;
+use word::programs::HALF_PRICE;
+use word::programs::HALF_VOLUME;
 use word::strike::Strike;
 
 fn on_ladder(k: u32) -> bool
     ensures { λ r. ⌜ r ≡ ladder k ⌝ }
 {
-    (k <= 2500) & (k % 250 == 0)
-        | (2500 < k) & (k <= 20000) & (k % 500 == 0)
-        | (20000 < k) & (k % 1000 == 0)
+    (k <= TWENTY_FIVE_DOLLARS) & (k % TWO_FIFTY == 0)
+        | (TWENTY_FIVE_DOLLARS < k) & (k <= TWO_HUNDRED_DOLLARS) & (k % FIVE_DOLLARS == 0)
+        | (TWO_HUNDRED_DOLLARS < k) & (k % TEN_DOLLARS == 0)
 }
 
 pub fn on_standard(class: ClassRecord, k: u32) -> bool
     ensures { λ r. ⌜ r ≡ standardGrid class k ⌝ }
 {
-    on_ladder(k) & !(is_dollar_class(class) & (k < 5000) & !(k % 500 == 0))
+    on_ladder(k) & !(is_dollar_class(class) & (k < FIFTY_DOLLARS) & !(k % FIVE_DOLLARS == 0))
 }
 
 pub fn on_dollar(s: Setting, k: u32) -> bool
@@ -30,14 +46,14 @@ pub fn on_dollar(s: Setting, k: u32) -> bool
     let class = s.class;
     !is_long(s)
         & is_dollar_class(class)
-        & (class.close < 5000)
-        & ((k % 100 == 0) & (100 <= k) & (k <= Strike::FIFTY_DOLLARS.cents()))
+        & (class.close < DOLLAR_PRICE)
+        & ((k % ONE_DOLLAR == 0) & (ONE_DOLLAR <= k) & (k <= Strike::FIFTY_DOLLARS.cents()))
 }
 
 fn on_half_dollars(k: u32) -> bool
     ensures { λ r. ⌜ r ≡ halfDollars k ⌝ }
 {
-    (k % 50 == 0) & (k <= Strike::FIVE_FIFTY.cents())
+    (k % HALF_DOLLAR == 0) & (k <= Strike::FIVE_FIFTY.cents())
 }
 
 pub fn on_half(s: Setting, k: u32) -> bool
@@ -47,29 +63,29 @@ pub fn on_half(s: Setting, k: u32) -> bool
     let class = s.class;
     !is_long(s)
         & is_half_class(class)
-        & (class.close <= 500)
-        & (1000 <= class.volume)
+        & (class.close <= HALF_PRICE)
+        & (HALF_VOLUME <= class.volume)
         & on_half_dollars(k)
 }
 
 // Whether the strike k is a wing at the multiple of $5 `l`, at the price p.
 fn is_wing_at(p: u32, l: u32, k: u32) -> bool
-    requires { ⌜ l < 2000000 ⌝ }
+    requires { ⌜ l ≤ cents highestStrike ⌝ }
     ensures { λ r. ⌜ r ≡ wingAt p l k ⌝ }
 {
-    (k == l + 200) & (p <= l)
-        | (k == l + 300) & (l + 500 <= p)
-        | (k == l + 200) & ((l < p) & (p <= l + 500))
+    (k == l + TWO_DOLLARS) & (p <= l)
+        | (k == l + THREE_DOLLARS) & (l + FIVE_DOLLARS <= p)
+        | (k == l + TWO_DOLLARS) & ((l < p) & (p <= l + FIVE_DOLLARS))
 }
 
 pub fn on_wing(s: Setting, k: u32) -> bool
-    requires { ⌜ (s .current ≤ 1023) × (k < 2000000) ⌝ }
+    requires { ⌜ (s .current ≤ 1023) × (k ≤ cents highestStrike) ⌝ }
     ensures { λ r. ⌜ r ≡ wingGrid s k ⌝ }
 {
     let class = s.class;
-    let l = k / 500 * 500;
+    let l = k / FIVE_DOLLARS * FIVE_DOLLARS;
     is_long(s)
         & is_dollar_class(class)
-        & (class.close < 5000)
-        & ((500 <= l) & (l <= 4500) & is_wing_at(class.close, l, k))
+        & (class.close < DOLLAR_PRICE)
+        & ((FIVE_DOLLARS <= l) & (l <= FORTY_FIVE_DOLLARS) & is_wing_at(class.close, l, k))
 }

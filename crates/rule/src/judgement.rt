@@ -6,6 +6,8 @@ ghost use Rattle.rule.specs.Grids.{grounds};
 ghost use Rattle.rule.specs.Spacing.{standingOf};
 ghost use Rattle.word.specs.Answers.{isAccepted};
 ghost use Rattle.rule.specs.Judgement.{Judged, decided, judgement, firstGround, foundRows};
+use crate::amounts::FIVE_DOLLARS;
+use crate::bounds::BY_FIVE_DOLLARS;
 use crate::bounds::half_end;
 use crate::bounds::high_end;
 use crate::bounds::low_end;
@@ -69,12 +71,16 @@ fn rows_of(s: Setting, strike: Strike) -> Rows
     let standard = on_standard(s.class, k);
     if is_long(s) {
         let wing = on_wing(s, k);
-        let base = k / 500 * 10;
+        let base = k / FIVE_DOLLARS * BY_FIVE_DOLLARS;
         return [
             [standard, standard & ranged, false],
             [false, false, false],
             [false, false, false],
-            [wing, wing & (low <= base) & (base + 10 <= high), false],
+            [
+                wing,
+                wing & (low <= base) & (base + BY_FIVE_DOLLARS <= high),
+                false,
+            ],
         ];
     }
     let dollar = on_dollar(s, k);

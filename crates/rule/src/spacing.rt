@@ -3,6 +3,10 @@ ghost use mathlib.Core.Path.{_≡_};
 ghost use Prim.Native.Nat.{_<_};
 ghost use Rattle.rule.specs.Spacing.{apart, crowds, clears, standingOf};
 ghost use Rattle.rule.specs.Judgement.{Judged};
+use crate::amounts::FIVE_DOLLARS;
+use crate::amounts::HALF_DOLLAR;
+use crate::amounts::ONE_DOLLAR;
+use crate::amounts::TWO_FIFTY;
 use crate::terms::Setting;
 use crate::terms::is_long;
 use word::field::field_of;
@@ -27,7 +31,7 @@ fn is_crowded(dollar: Strike, standard: Strike) -> bool
 {
     let d = dollar.cents();
     let k = standard.cents();
-    (k % 500 == 250) & (distance(d, k) <= 50)
+    (k % FIVE_DOLLARS == TWO_FIFTY) & (distance(d, k) <= HALF_DOLLAR)
 }
 
 // Whether the strike, on the ground g, may stand beside the strike of the word w.
@@ -39,5 +43,5 @@ pub fn is_clear(s: Setting, g: u32, strike: Strike, w: u32) -> bool
     let ground = field_of(w, GROUND);
     !((g == 1) & (ground == 0) & is_crowded(strike, other))
         & !((g == 0) & (ground == 1) & is_crowded(other, strike))
-        & !(is_long(s) & (distance(strike.cents(), other.cents()) <= 100))
+        & !(is_long(s) & (distance(strike.cents(), other.cents()) <= ONE_DOLLAR))
 }

@@ -6,6 +6,11 @@ use word::class::ClassRecord;
 use word::programs::DOLLAR;
 use word::programs::HALF;
 
+// An expiration is long so many months ahead of the current one, and strikes can be listed up to so many ahead.
+const LONG_FROM: u32 = 9;
+
+const FARTHEST_AHEAD: u32 = 39;
+
 // A class and an expiration of it, seen from the current month, document 01's `now`.
 pub struct Setting {
     pub class: ClassRecord,
@@ -37,7 +42,7 @@ pub fn is_long(s: Setting) -> bool
     requires { ⌜ s .current ≤ 1023 ⌝ }
     ensures { λ r. ⌜ r ≡ isLong s ⌝ }
 {
-    s.current + 9 <= s.month
+    s.current + LONG_FROM <= s.month
 }
 
 // Whether nothing can be listed in the expiration's month.
@@ -45,5 +50,5 @@ pub fn is_outside(s: Setting) -> bool
     requires { ⌜ s .current ≤ 1023 ⌝ }
     ensures { λ r. ⌜ r ≡ isOutside s ⌝ }
 {
-    (s.month <= s.current) | (s.current + 39 < s.month)
+    (s.month <= s.current) | (s.current + FARTHEST_AHEAD < s.month)
 }

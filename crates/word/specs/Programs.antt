@@ -25,8 +25,17 @@ pub record Program : Type 0 where
 abbrev pub designationWidth : ℕ
 designationWidth = 2
 
--- "1 for $1"; "$1 designation in 14–15"; "at most 150 classes with $1 designation 1"; "A new d of 1 needs a close below
--- 5,000 for $1"
+-- "A new d of 1 needs a close below 5,000 for $1, or a close of at most 500 and a volume of at least 1,000 for $0.50."
+abbrev pub dollarPrice : ℕ
+dollarPrice = 5000
+
+abbrev pub halfPrice : ℕ
+halfPrice = 500
+
+abbrev pub halfVolume : ℕ
+halfVolume = 1000
+
+-- "1 for $1"; "$1 designation in 14–15"; "at most 150 classes with $1 designation 1"
 abbrev pub dollarProgram : Program
 dollarProgram =
     record {
@@ -34,11 +43,10 @@ dollarProgram =
       bits = record { low = 14; width = designationWidth };
       cap = 150;
       needsClose = true;
-      qualifies = λ r. ltb (r .close) 5000;
+      qualifies = λ r. ltb (r .close) dollarPrice;
     }
 
--- "2 for $0.50"; "$0.50 designation in 16–17"; "at most 20 with $0.50 designation 1"; "or a close of at most 500 and a
--- volume of at least 1,000 for $0.50"
+-- "2 for $0.50"; "$0.50 designation in 16–17"; "at most 20 with $0.50 designation 1"
 abbrev pub halfProgram : Program
 halfProgram =
     record {
@@ -46,7 +54,7 @@ halfProgram =
       bits = record { low = 16; width = designationWidth };
       cap = 20;
       needsClose = true;
-      qualifies = λ r. leb (r .close) 500 && leb 1000 (r .volume);
+      qualifies = λ r. leb (r .close) halfPrice && leb halfVolume (r .volume);
     }
 
 -- by number, from 1 on

@@ -25,6 +25,14 @@ pub const HALF_BITS: Field = Field {
 
 const DESIGNATION_WIDTH: u32 = 2;
 
+// What a new designation 1 needs: a close below this for $1, a close of at most this and a volume of at least this for
+// $0.50.
+pub const DOLLAR_PRICE: u32 = 5000;
+
+pub const HALF_PRICE: u32 = 500;
+
+pub const HALF_VOLUME: u32 = 1000;
+
 pub fn is_program(p: u32) -> bool
     ensures { λ r. ⌜ r ≡ isProgram p ⌝ }
 {
@@ -37,7 +45,7 @@ pub fn is_qualified(figures: ClassRecord, p: u32) -> bool
     ensures { λ r. ⌜ r ≡ program p .qualifies figures ⌝ }
 {
     if p == DOLLAR {
-        return figures.close < 5000;
+        return figures.close < DOLLAR_PRICE;
     }
-    (figures.close <= 500) & (1000 <= figures.volume)
+    (figures.close <= HALF_PRICE) & (HALF_VOLUME <= figures.volume)
 }

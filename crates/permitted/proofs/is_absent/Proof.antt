@@ -1,4 +1,5 @@
--- `is_absent` answers whether no word has the strike: the words before this one have others (`Cleared`). Assumes nothing.
+-- `is_absent` answers whether no word has the strike: the words before this one have others (`Cleared`). Assumes
+-- nothing.
 use mathlib.Core.Path.{_∙_, sym}
 use mathlib.Core.Bool.{not}
 use Prim.Native.Nat.{_-_}
@@ -18,6 +19,15 @@ Inv-loop near h i₀ i = Cleared (λ w. not (eqb (strikeIn w) h)) near i
 abbrev μ-loop : tie.MeasureT-loop
 μ-loop near h i₀ i = length near - i
 
+-- ---- places
+
+abbrev start : tie.At-loop Inv-loop μ-loop → tie.Start Inv-loop μ-loop
+start p = p .before .before
+
+-- a turn of the loop
+abbrev turn : tie.After-field-of Inv-loop μ-loop → tie.In-loop Inv-loop μ-loop
+turn p = p .before .before
+
 loop-holds : tie.Need-loop-holds Inv-loop μ-loop
 loop-holds c = cleared-none _ _
 
@@ -32,11 +42,12 @@ field-of-requires c κs = search needs
 
 returns : tie.Need-returns Inv-loop μ-loop
 returns c =
-    let l = c .before .before .before in
-    let args = l .before .before .before .args in
+    let l = turn (c .before) in
+    let args = start (l .before) .args in
     sym
     (absent-words (args .near .now) (args .h)
-    ∙ cleared-not 0 (l .before .loop .inv) (l .loop-test .taken) (rw (← c .before .field-of .ensures, eq-eqb _ _ (c .if1 .taken))))
+    ∙ cleared-not 0 (l .before .loop .inv) (l .loop-test .taken)
+    (rw (← c .before .field-of .ensures, eq-eqb _ _ (c .if1 .taken))))
 
 add-i : tie.Need-add-i Inv-loop μ-loop
 add-i c = search needs
@@ -46,12 +57,13 @@ loop-less c = search needs
 
 loop-again : tie.Need-loop-again Inv-loop μ-loop
 loop-again c =
-    let l = c .before .before .before in
-    cleared-next 0 (l .before .loop .inv) (l .loop-test .taken) (rw (← c .before .field-of .ensures, ne-eqb _ _ (c .if1 .left)))
+    let l = turn (c .before) in
+    cleared-next 0 (l .before .loop .inv) (l .loop-test .taken)
+    (rw (← c .before .field-of .ensures, ne-eqb _ _ (c .if1 .left)))
 
 returns-2 : tie.Need-returns-2 Inv-loop μ-loop
 returns-2 c =
-    let args = c .before .before .before .args in
+    let args = start (c .before) .args in
     sym (absent-words (args .near .now) (args .h) ∙ cleared-all 0 (c .before .loop .inv) (c .loop-test .left))
 
 pub is-absent-spec : {M : Type 1} → statement M

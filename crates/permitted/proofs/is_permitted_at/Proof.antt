@@ -1,4 +1,5 @@
--- `is_permitted_at` meets its contract: only the words near the strike bear on it, which the search parts from the rest. Assumes nothing.
+-- `is_permitted_at` meets its contract: only the words near the strike bear on it, which the search parts from the rest.
+-- Assumes nothing.
 use mathlib.Core.Path.{_∙_, sym}
 use borrow.Author.Needs.{needs}
 use Rattle.permitted.proofs.Strikes.{ahead-found, near-permits}
@@ -34,7 +35,8 @@ returns c =
     let found = c .before .before .before .before in
     let absent = sym (c .before .before .is-absent .ensures) ∙ c .before .if1 .taken in
     let triable = found .before .before .pre in
-    c .is-accepted .ensures ∙ (rw absent at (near-permits triable (ahead-found triable _ (found .strike-from .ensures))))
+    c .is-accepted .ensures
+    ∙ (rw absent at (near-permits triable (ahead-found triable _ (found .strike-from .ensures))))
 
 returns-2 : tie.Need-returns-2
 returns-2 c =

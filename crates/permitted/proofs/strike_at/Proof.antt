@@ -1,4 +1,5 @@
--- `strike_at` meets its contract: it tests whether the index is within the words as the definition does. Assumes nothing.
+-- `strike_at` meets its contract: it tests whether the index is within the words as the definition does. Assumes
+-- nothing.
 use borrow.Author.Needs.{needs}
 use borrow.Author.Tests.{lt-ltb, le-ltb}
 use Rattle.permitted.proofs.strike_at.Statement.{statement}

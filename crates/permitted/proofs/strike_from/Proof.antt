@@ -1,4 +1,5 @@
--- `strike_from` finds the first index: no word from the first one on to this one has a strike as high (`Passed`). Assumes nothing.
+-- `strike_from` finds the first index: no word from the first one on to this one has a strike as high (`Passed`).
+-- Assumes nothing.
 use Prim.Native.Nat.{_-_}
 use lib.Dec.{leb}
 use lib.ListN.{length, getD}
@@ -15,6 +16,12 @@ Inv-loop standing at low i₀ i = Passed (λ j. leb low (strikeIn (getD standing
 abbrev μ-loop : tie.MeasureT-loop
 μ-loop standing at low i₀ i = length standing - i
 
+-- ---- places
+
+-- a turn of the loop
+abbrev turn : tie.After-field-of Inv-loop μ-loop → tie.In-loop Inv-loop μ-loop
+turn p = p .before .before
+
 loop-holds : tie.Need-loop-holds Inv-loop μ-loop
 loop-holds c = passed-none _ _ _ (c .before .pre)
 
@@ -29,8 +36,9 @@ field-of-requires c κs = search needs
 
 returns : tie.Need-returns Inv-loop μ-loop
 returns c =
-    let l = c .before .before .before in
-    passed-here (l .before .loop .inv) (l .loop-test .taken) (rw (← c .before .field-of .ensures) (le-leb _ _ (c .if1 .taken)))
+    let l = turn (c .before) in
+    passed-here (l .before .loop .inv) (l .loop-test .taken)
+    (rw (← c .before .field-of .ensures) (le-leb _ _ (c .if1 .taken)))
 
 add-i : tie.Need-add-i Inv-loop μ-loop
 add-i c = search needs
@@ -40,8 +48,9 @@ loop-less c = search needs
 
 loop-again : tie.Need-loop-again Inv-loop μ-loop
 loop-again c =
-    let l = c .before .before .before in
-    passed-next (l .before .loop .inv) (l .loop-test .taken) (rw (← c .before .field-of .ensures) (lt-leb _ _ (c .if1 .left)))
+    let l = turn (c .before) in
+    passed-next (l .before .loop .inv) (l .loop-test .taken)
+    (rw (← c .before .field-of .ensures) (lt-leb _ _ (c .if1 .left)))
 
 returns-2 : tie.Need-returns-2 Inv-loop μ-loop
 returns-2 c = passed-all (c .before .loop .inv) (c .loop-test .left)

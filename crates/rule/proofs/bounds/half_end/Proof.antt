@@ -1,6 +1,8 @@
--- `half_end` answers the closed form: what it asks first is that one of the four conditions of Half fails. Assumes nothing.
+-- `half_end` answers the closed form: what it asks first is that one of the four conditions of Half fails. Assumes
+-- nothing.
 use borrow.Author.Needs.{needs}
 use Rattle.logic.proofs.Tests.{at-most, none-fails}
+use Rattle.word.specs.Programs.{halfPrice, halfVolume}
 use Rattle.rule.proofs.bounds.half_end.Statement.{statement}
 use Rattle.rule.proofs.bounds.half_end.Tie as tie
 
@@ -16,8 +18,8 @@ returns c =
     rw (
       ← half .before .is-long .ensures,
       ← half .is-half-class .ensures,
-      at-most _ 500,
-      at-most 1000 _,
+      at-most _ halfPrice,
+      at-most halfVolume _,
       none-fails,
       c .if1 .taken,
     )
@@ -38,8 +40,8 @@ returns-2 c =
     rw (
       ← half .before .is-long .ensures,
       ← half .is-half-class .ensures,
-      at-most _ 500,
-      at-most 1000 _,
+      at-most _ halfPrice,
+      at-most halfVolume _,
       none-fails,
       first .if1 .left,
       ← c .before .higher-of .ensures,

@@ -1,6 +1,7 @@
 -- `high_end` answers the closed form: each branch is one of its cases. Assumes nothing.
 use borrow.Author.Tests.{lt-ltb, le-ltb}
 use borrow.Author.Needs.{needs}
+use Rattle.rule.specs.Ranges.{lowPrice}
 use Rattle.rule.proofs.bounds.high_end.Statement.{statement}
 use Rattle.rule.proofs.bounds.high_end.Tie as tie
 
@@ -11,7 +12,7 @@ lower-of-requires : tie.Need-lower-of-requires
 lower-of-requires c κs = search needs
 
 returns : tie.Need-returns
-returns c = rw (lt-ltb 2000 _ (c .before .if1 .taken)) (c .lower-of .ensures)
+returns c = rw (lt-ltb lowPrice _ (c .before .if1 .taken)) (c .lower-of .ensures)
 
 is-dollar-class-requires : tie.Need-is-dollar-class-requires
 is-dollar-class-requires c κs = search needs
@@ -33,7 +34,7 @@ returns-2 c =
       c .before .fifth-above .ensures,
       long .is-long .ensures,
       long .before .is-dollar-class .ensures,
-      le-ltb 2000 _ (long .before .before .if1 .left),
+      le-ltb lowPrice _ (long .before .before .if1 .left),
     )
 
 pub high-end-spec : {M : Type 1} → statement M

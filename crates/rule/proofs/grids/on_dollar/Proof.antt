@@ -13,7 +13,10 @@ cents-requires : tie.Need-cents-requires
 cents-requires c κs = search needs
 
 returns : tie.Need-returns
-returns c = rw (c .cents .ensures, c .before .before .is-dollar-class .ensures, c .before .before .before .is-long .ensures)
+returns c =
+    let class = c .before .before in
+    let long = class .before in
+    rw (c .cents .ensures, class .is-dollar-class .ensures, long .is-long .ensures)
 
 pub on-dollar-spec : {M : Type 1} → statement M
 on-dollar-spec =

@@ -13,7 +13,10 @@ on-half-dollars-requires : tie.Need-on-half-dollars-requires
 on-half-dollars-requires c κs = search needs
 
 returns : tie.Need-returns
-returns c = rw (c .on-half-dollars .ensures, c .before .before .before .is-half-class .ensures, c .before .before .before .before .is-long .ensures)
+returns c =
+    let class = c .before .before .before in
+    let long = class .before in
+    rw (c .on-half-dollars .ensures, class .is-half-class .ensures, long .is-long .ensures)
 
 pub on-half-spec : {M : Type 1} → statement M
 on-half-spec =

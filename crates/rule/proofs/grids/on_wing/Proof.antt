@@ -16,7 +16,10 @@ is-wing-at-requires : tie.Need-is-wing-at-requires
 is-wing-at-requires c κs = search needs
 
 returns : tie.Need-returns
-returns c = rw (c .is-wing-at .ensures, c .before .before .is-dollar-class .ensures, c .before .before .before .is-long .ensures)
+returns c =
+    let class = c .before .before in
+    let long = class .before in
+    rw (c .is-wing-at .ensures, class .is-dollar-class .ensures, long .is-long .ensures)
 
 pub on-wing-spec : {M : Type 1} → statement M
 on-wing-spec =

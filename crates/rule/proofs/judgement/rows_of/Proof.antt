@@ -10,7 +10,7 @@ use borrow.Author.Needs.{needs}
 use Rattle.logic.proofs.Tests.{T-true, and-where}
 use Rattle.word.specs.Limits.{highestStrike}
 use Rattle.rule.specs.declared.terms.Setting.{Setting}
-use Rattle.rule.specs.Terms.{cents, isLong, price}
+use Rattle.rule.specs.Terms.{cents, inHalves, isLong, price}
 use Rattle.rule.specs.Grids.{gridOf, wingBase}
 use Rattle.rule.specs.Ranges.{rangeOf}
 use Rattle.rule.specs.Ends.{halfEnd, lowEnd, highEnd}
@@ -33,7 +33,7 @@ module _ (s : Setting) (h : ℕ) where
   half-row : (gridOf s 2 h && leb h (halfEnd s)) ≡ (gridOf s 2 h && rangeOf s 2 h)
   half-row = and-where (gridOf s 2 h) (leb h (halfEnd s)) (rangeOf s 2 h) (λ t. sym (half-ends s h (T-true _ t)))
 
-  wing-row : {base : ℕ} → base ≡ wingBase (cents h) / 50 →
+  wing-row : {base : ℕ} → base ≡ inHalves (wingBase (cents h)) →
       (gridOf s 3 h && leb (lowEnd (price s)) base && leb (base + 10) (highEnd s)) ≡ (gridOf s 3 h && rangeOf s 3 h)
   wing-row {base} e =
       let low : Bool = leb (lowEnd (price s)) base in
@@ -42,7 +42,7 @@ module _ (s : Setting) (h : ℕ) where
       ∙ and-where (gridOf s 3 h) (low && high) (rangeOf s 3 h) (λ t. sym (wing-ends s h (T-true _ t) ∙ rw e))
 
   -- where the expiration is long Dollar and Half are empty
-  long-rows : {base : ℕ} → isLong s ≡ true → h ≤ highestStrike → base ≡ wingBase (cents h) / 50 →
+  long-rows : {base : ℕ} → isLong s ≡ true → h ≤ highestStrike → base ≡ inHalves (wingBase (cents h)) →
       (gridOf s 0 h ∷ (gridOf s 0 h && between) ∷ false ∷ []) ∷ (false ∷ false ∷ false ∷ [])
       ∷ (false ∷ false ∷ false ∷ [])
       ∷ (gridOf s 3 h ∷ (gridOf s 3 h && leb (lowEnd (price s)) base && leb (base + 10) (highEnd s)) ∷ false ∷ []) ∷ []
@@ -80,9 +80,8 @@ returns c =
     let high = standard .before in
     let low = high .before in
     let cents = low .before in
-    let s = cents .before .args .s in
-    let h = cents .before .args .strike .0 in
-    let pre = cents .before .pre in
+    let start = cents .before in
+    let args = start .args in
     rw (
       c .on-wing .ensures,
       standard .on-standard .ensures,
@@ -90,7 +89,8 @@ returns c =
       low .low-end .ensures,
       cents .cents .ensures,
     )
-    (long-rows s h (sym (long .is-long .ensures) ∙ c .before .if1 .taken) (pre .strike) (omega arith))
+    (long-rows (args .s) (args .strike .0) (sym (long .is-long .ensures) ∙ c .before .if1 .taken) (start .pre .strike)
+    (omega arith))
 
 on-dollar-requires : tie.Need-on-dollar-requires
 on-dollar-requires c κs = search needs
@@ -110,9 +110,9 @@ returns-2 c =
     let high = standard .before in
     let low = high .before in
     let cents = low .before in
-    let s = cents .before .args .s in
-    let h = cents .before .args .strike .0 in
-    let pre = cents .before .pre in
+    let start = cents .before in
+    let args = start .args in
+    let most = start .pre .strike in
     rw (
       c .half-end .ensures,
       half .on-half .ensures,
@@ -121,9 +121,9 @@ returns-2 c =
       high .high-end .ensures,
       low .low-end .ensures,
       cents .cents .ensures,
-      standard-row s h (pre .strike),
-      dollar-row s h (pre .strike),
-      half-row s h,
+      standard-row (args .s) (args .strike .0) most,
+      dollar-row (args .s) (args .strike .0) most,
+      half-row (args .s) (args .strike .0),
       sym (long .is-long .ensures) ∙ dollar .before .if1 .left,
     )
 

@@ -31,16 +31,19 @@ distance-requires c κs = search needs
 returns : tie.Need-returns
 returns c =
     let long = c .before .before .before in
-    let crowded = long .before .before in
+    let standard = long .before in
+    let dollar = standard .before in
+    let ground = dollar .before in
+    let strike = ground .before in
     rw (
       c .distance .ensures,
       c .before .cents2 .ensures,
       c .before .before .cents .ensures,
       long .is-long .ensures,
-      long .before .is-crowded2 .ensures,
-      crowded .is-crowded .ensures,
-      crowded .before .field-of .ensures,
-      crowded .before .before .key-of .ensures,
+      standard .is-crowded2 .ensures,
+      dollar .is-crowded .ensures,
+      ground .field-of .ensures,
+      strike .key-of .ensures,
     )
 
 pub is-clear-spec : {M : Type 1} → statement M
