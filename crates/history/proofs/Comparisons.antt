@@ -20,10 +20,10 @@ use Rattle.history.specs.declared.Comparison.{Comparison}
 use Rattle.history.specs.declared.Comparison.the-variants.{Equal, Different, BadLength}
 use Rattle.history.specs.Turns.{Whole}
 use Rattle.history.specs.Records.{callsOf}
-use Rattle.history.specs.Runs.{Ran}
+use Rattle.history.specs.ExecutedLists.{Ran}
 use Rattle.history.specs.Comparisons.{areLengths, Compared}
-use Rattle.history.proofs.Lists.{whole-words, two-lists, two-lists-same, run-whole}
-use Rattle.history.proofs.Runs.{next-word, done-good, refused-bad}
+use Rattle.history.proofs.WholeLists.{whole-words, two-lists, two-lists-same, run-whole}
+use Rattle.history.proofs.ExecutedLists.{next-word, done-good, refused-bad}
 
 -- ---- word by word
 
@@ -110,7 +110,10 @@ refused-lengths :
     {left right pool calls others left′ pool′ : List ℕ} → areLengths (length left) (length right) ≡ false → left′ ≡ left
     → pool′ ≡ pool → Compared left right pool calls others BadLength left′ right pool′
 refused-lengths bad kept-left kept-pool =
-    record { refused = λ e. (refl, (kept-left, (refl, kept-pool))); accepted = λ e. absurd (false≢true (sym bad ∙ e)) }
+    record {
+      refused = λ e. record { answer = refl; left-kept = kept-left; right-kept = refl; pool-kept = kept-pool };
+      accepted = λ e. absurd (false≢true (sym bad ∙ e));
+    }
 
 pub other-lengths :
     {left right pool calls others : List ℕ} → (length left ≡ length right → ⊥)

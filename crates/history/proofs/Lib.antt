@@ -1,10 +1,10 @@
-pub mod Made
+pub mod RefusedCalls
 pub mod Lent
-pub mod Lists
+pub mod WholeLists
 pub mod Records
 pub mod RecordExamples
-pub mod Runs
+pub mod ExecutedLists
 pub mod Turns
 pub mod Comparisons
 pub mod Links
-pub mod Added
+pub mod AddedStrikes

@@ -21,7 +21,7 @@ use Rattle.book.proofs.Layouts.{factsOf-layout, book-layout, fresh-well-formed}
 use Rattle.book.proofs.Order.{never-one}
 use Rattle.book.proofs.Followed.{made-book, layout-size}
 use Rattle.history.specs.Turns.{Turns, done, turn, lentIn, answersOf, neverDrawOne, Whole}
-use Rattle.history.proofs.Lists.{whole-begins}
+use Rattle.history.proofs.WholeLists.{whole-begins}
 
 -- ---- one call, on a book
 

@@ -16,7 +16,7 @@ use Rattle.book.specs.Points.{SameFacts}
 use Rattle.history.specs.declared.Comparison.{Comparison}
 use Rattle.history.specs.declared.Comparison.the-variants.{Equal, BadLength}
 use Rattle.history.specs.Records.{callsOf}
-use Rattle.history.specs.Runs.{lentWithin}
+use Rattle.history.specs.ExecutedLists.{lentWithin}
 
 -- "the facts that the plain book reads" from the length and the list alone
 abbrev pub factsOfCalls : ℕ → List ℕ → Facts
@@ -40,10 +40,15 @@ pub record Both (n : ℕ) (pool calls others : List ℕ) (r : Comparison) (left�
 abbrev pub areLengths : ℕ → ℕ → Bool
 areLengths n k = eqb n k && isLength n
 
+-- neither list is run, and every word stays
+pub record NotRun (left right pool : List ℕ) (r : Comparison) (left′ right′ pool′ : List ℕ) : Type 0 where
+  pub answer : r ≡ BadLength
+  pub left-kept : left′ ≡ left
+  pub right-kept : right′ ≡ right
+  pub pool-kept : pool′ ≡ pool
+
 pub record Compared (left right pool calls others : List ℕ) (r : Comparison)
     (left′ right′ pool′ : List ℕ) : Type 0 where
-  pub refused :
-      areLengths (length left) (length right) ≡ false
-      → (r ≡ BadLength) × ((left′ ≡ left) × ((right′ ≡ right) × (pool′ ≡ pool)))
+  pub refused : areLengths (length left) (length right) ≡ false → NotRun left right pool r left′ right′ pool′
   pub accepted :
       areLengths (length left) (length right) ≡ true → Both (length left) pool calls others r left′ right′ pool′

@@ -1,4 +1,4 @@
 pub mod Turns
 pub mod Records
-pub mod Runs
+pub mod ExecutedLists
 pub mod Comparisons

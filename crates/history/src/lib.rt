@@ -1,11 +1,11 @@
 // Whole lists of calls from a fresh book, and two of them compared.
-ghost use Prim.Native.Nat.{_+_, _<_, min};
+ghost use Prim.Native.Nat.{_+_, _≤_, min};
 ghost use mathlib.Core.Path.{_≡_};
 ghost use lib.Dec.{T};
 ghost use lib.ListN.{length};
 ghost use Rattle.book.specs.Books.{isBook, sameWords};
-ghost use Rattle.history.specs.Records.{callAt};
-ghost use Rattle.history.specs.Runs.{Lent, MadeInTurn, Ran};
+ghost use Rattle.history.specs.Records.{recordLength, callAt};
+ghost use Rattle.history.specs.ExecutedLists.{Lent, MadeInTurn, Ran};
 ghost use Rattle.history.specs.Comparisons.{Compared};
 use dispatch::make_call;
 use scan::fresh;
@@ -18,6 +18,21 @@ pub enum Comparison {
     BadLength,
 }
 
+// The words of a record of a list: how many, and where its letter, the count of its numbers, its numbers and the length
+// of the second run that it asks for stand in it.
+const RECORD_LENGTH: usize = 8;
+
+const LETTER_AT: usize = 0;
+
+const COUNT_AT: usize = 1;
+
+const NUMBERS_AT: usize = 2;
+
+const ROOM_AT: usize = 7;
+
+// How many numbers a record holds.
+const NUMBERS_HELD: usize = 5;
+
 // The lower of two lengths.
 fn lower(a: usize, b: usize) -> usize
     ensures { λ r. ⌜ r ≡ min a b ⌝ }
@@ -28,24 +43,22 @@ fn lower(a: usize, b: usize) -> usize
     b
 }
 
-// Makes the call of the record at a place of a list. It is lent as many words of the pool as it asks for, or all.
+// Makes the call of the record at a place of a list. It is lent as many words of the pool as it asks for, or all, and
+// no places.
 fn make_record(run: &mut [u32], pool: &mut [u32], calls: &[u32], at: usize) -> Answer
-    requires { ⌜ T (isBook (now run)) × (at + 7 < length (now calls)) ⌝ }
+    requires { ⌜ T (isBook (now run)) × (at + recordLength ≤ length (now calls)) ⌝ }
     ensures { λ r. ⌜ Lent (callAt at (now (calls .entry))) (now (run .entry)) (now (pool .entry))
         r (now (run .exit)) (now (pool .exit)) ⌝ }
 {
-    let room = lower(calls[at + 7] as usize, pool.len());
+    let room = lower(calls[at + ROOM_AT] as usize, pool.len());
+    let from = at + NUMBERS_AT;
+    let to = from + lower(calls[at + COUNT_AT] as usize, NUMBERS_HELD);
     make_call(
         run,
         &mut pool[0..room],
-        0,
-        calls[at],
-        calls[at + 1] as usize,
-        calls[at + 2],
-        calls[at + 3],
-        calls[at + 4],
-        calls[at + 5],
-        calls[at + 6],
+        &mut [],
+        calls[at + LETTER_AT],
+        &calls[from..to],
     )
 }
 
@@ -56,9 +69,9 @@ fn make_calls(run: &mut [u32], pool: &mut [u32], calls: &[u32])
         (now (run .exit)) (now (pool .exit)) ⌝ }
 {
     let mut i = 0;
-    while 8 <= calls.len() - i {
+    while RECORD_LENGTH <= calls.len() - i {
         make_record(run, pool, calls, i);
-        i += 8;
+        i += RECORD_LENGTH;
     }
 }
 

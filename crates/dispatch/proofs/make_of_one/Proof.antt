@@ -1,5 +1,5 @@
--- `make_of_one` keeps the contract of the call that the letter names: the letter decides the call, whose own contract is the
--- answer. Assumes nothing.
+-- `make_of_one` keeps the contract of the call that the letter names: the letter decides the call, whose own
+-- contract is the answer. Assumes nothing.
 use mathlib.Core.Path.{refl}
 use borrow.Author.Tests.{ne-eqb}
 use Rattle.book.specs.Calls.{callM, on, callO, callR, effectOn}

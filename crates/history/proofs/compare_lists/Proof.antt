@@ -2,7 +2,7 @@
 -- the first run, and the words. Assumes nothing.
 use mathlib.Core.Path.{sym, _∙_}
 use mathlib.Core.Bool.{true, false}
-use Rattle.history.proofs.Runs.{not-done}
+use Rattle.history.proofs.ExecutedLists.{not-done}
 use Rattle.history.proofs.Comparisons.{compared, other-lengths, bad-length}
 use borrow.Author.Needs.{needs}
 use Rattle.history.proofs.compare_lists.Statement.{statement}

@@ -3,7 +3,7 @@
 use Prim.Native.Nat.{_-_}
 use native.Mathlib.Omega.{arith}
 use lib.ListN.{length}
-use Rattle.history.proofs.Runs.{Going, going-start, going-step, going-end}
+use Rattle.history.proofs.ExecutedLists.{Going, going-start, going-step, going-end}
 use borrow.Author.Needs.{needs}
 use Rattle.history.proofs.make_calls.Statement.{statement}
 use Rattle.history.proofs.make_calls.Tie as tie
@@ -14,16 +14,24 @@ Inv-loop run₀ pool₀ calls i₀ run pool i = Going run₀ pool₀ calls run p
 abbrev μ-loop : tie.MeasureT-loop
 μ-loop run₀ pool₀ calls i₀ run pool i = length calls - i
 
+-- where the function is entered
+abbrev entry : tie.After-shared-slice-known Inv-loop μ-loop → tie.Start Inv-loop μ-loop
+entry lent = lent .before .before .before
+
+-- where a record is left, from where its call has been made
+abbrev inside : tie.After-make-record Inv-loop μ-loop → tie.In-loop Inv-loop μ-loop
+inside made = made .before .before .before
+
 loop-holds : tie.Need-loop-holds Inv-loop μ-loop
-loop-holds c = going-start (c .before .before .before .pre)
+loop-holds c = going-start (entry c .pre)
 
 sub-loop : tie.Need-sub-loop Inv-loop μ-loop
 sub-loop c = search needs
 
 make-record-requires : tie.Need-make-record-requires Inv-loop μ-loop
 make-record-requires c κs =
-    let inside = c .before .before in
-    (inside .before .loop .inv .book, omega (arith, inside .loop-test .taken))
+    let more = c .before .before in
+    (more .before .loop .inv .book, omega (arith, more .loop-test .taken))
 
 add-i : tie.Need-add-i Inv-loop μ-loop
 add-i c = search needs
@@ -33,10 +41,10 @@ loop-less c = search needs
 
 loop-again : tie.Need-loop-again Inv-loop μ-loop
 loop-again c =
-    let call = c .before .before .before .before in
-    let inside = call .before .before .before in
-    going-step (inside .before .loop .inv) (omega (arith, inside .loop-test .taken)) (call .make-record .ensures)
-    (call .make-record .kept .1 .0)
+    let made = c .before .before .before .before in
+    let more = inside made in
+    going-step (more .before .loop .inv) (omega (arith, more .loop-test .taken)) (made .make-record .ensures)
+    (made .make-record .kept .1 .0)
 
 same-length : tie.Need-same-length Inv-loop μ-loop
 same-length c = c .before .loop .inv .size

@@ -1,9 +1,13 @@
 -- `run_calls` makes a fresh book and then the calls of the list: its two ways out by the answer of `fresh`. Assumes
 -- nothing.
-use Rattle.history.proofs.Runs.{not-done, begun-book, ran-done, ran-refused}
+use Rattle.history.proofs.ExecutedLists.{not-done, begun-book, ran-done, ran-refused}
 use borrow.Author.Needs.{needs}
 use Rattle.history.proofs.run_calls.Statement.{statement}
 use Rattle.history.proofs.run_calls.Tie as tie
+
+-- where a fresh book was asked for, from where its answer is told
+abbrev beginning : tie.After-enum-told → tie.After-fresh
+beginning told = told .before .before .before .before
 
 fresh-requires : tie.Need-fresh-requires
 fresh-requires c κs = search needs
@@ -14,7 +18,7 @@ enum-told c = search needs
 make-calls-requires : tie.Need-make-calls-requires
 make-calls-requires c κs =
     let told = c .before .before in
-    begun-book (told .before .before .before .before .fresh .ensures) (told .enum-told .given .1)
+    begun-book (beginning told .fresh .ensures) (told .enum-told .given .1)
 
 same-length : tie.Need-same-length
 same-length c = search needs
@@ -26,7 +30,7 @@ returns : tie.Need-returns
 returns c =
     let made = c .before .before .before .before in
     let told = made .before .before .before in
-    ran-done (told .before .before .before .before .fresh .ensures) (told .enum-told .given .1)
+    ran-done (beginning told .fresh .ensures) (told .enum-told .given .1)
     (made .make-calls .ensures)
 
 same-length-3 : tie.Need-same-length-3

@@ -1,5 +1,5 @@
 -- A list of calls run from its words: what the rest of the list makes of the book and the pool so far is what the whole
--- list makes of the first ones, eight words a turn. Assumes nothing.
+-- list makes of the first ones, a record a turn. Assumes nothing.
 use Prim.Native.Nat.{ℕ, suc, _+_, _<_, _≤_, zero-le}
 use mathlib.Core.Path.{_≡_, refl, sym, _∙_}
 use mathlib.Core.Bool.{Bool, true, false, cond}
@@ -25,18 +25,22 @@ use Rattle.book.specs.CallLists.{callsAlone, secondAfter}
 use Rattle.logic.proofs.Tests.{true-T}
 use Rattle.book.proofs.Layouts.{factsOf-layout, book-layout, book-facts, fresh-well-formed}
 use Rattle.book.proofs.Followed.{next-book, layout-size}
-use Rattle.history.specs.Records.{callAt, callsOf}
-use Rattle.history.specs.Runs.{lentWithin, Lent, MadeInTurn, Ran}
+use Rattle.history.specs.Records.{recordLength, letterAt, callAt, callsOf}
+use Rattle.history.specs.ExecutedLists.{lentWithin, Lent, MadeInTurn, Ran}
 
 -- ---- the records of a list
 
 pub next-word : (l : List ℕ) (i k : ℕ) → i + 1 ≡ k → i < length l → drop i l ≡ getD l i 0 ∷ drop k l
 next-word l i k e h = rw (← e, add-one) (drop-cons l i 0 h)
 
-next-record : (l : List ℕ) (i : ℕ) → i + 7 < length l → callsOf (drop i l) ≡ callAt i l ∷ callsOf (drop (i + 8) l)
+next-record :
+    (l : List ℕ) (i : ℕ) → i + recordLength ≤ length l
+    → callsOf (drop i l) ≡ callAt i l ∷ callsOf (drop (i + recordLength) l)
 unfolding callsOf
 next-record l i h =
+    let first : i + letterAt ≡ i = omega arith in
     rw (
+      first,
       next-word l i (i + 1) refl (omega arith),
       next-word l (i + 1) (i + 2) (omega arith) (omega arith),
       next-word l (i + 2) (i + 3) (omega arith) (omega arith),
@@ -44,10 +48,10 @@ next-record l i h =
       next-word l (i + 4) (i + 5) (omega arith) (omega arith),
       next-word l (i + 5) (i + 6) (omega arith) (omega arith),
       next-word l (i + 6) (i + 7) (omega arith) (omega arith),
-      next-word l (i + 7) (i + 8) (omega arith) h,
+      next-word l (i + 7) (i + 8) (omega arith) (omega arith),
     )
 
-no-record : (l : List ℕ) → length l ≤ 7 → callsOf l ≡ []
+no-record : (l : List ℕ) → length l < recordLength → callsOf l ≡ []
 unfolding callsOf
 no-record [] h = refl
 no-record (letter ∷ []) h = refl
@@ -59,7 +63,7 @@ no-record (letter ∷ count ∷ a ∷ b ∷ c ∷ d ∷ []) h = refl
 no-record (letter ∷ count ∷ a ∷ b ∷ c ∷ d ∷ e ∷ []) h = refl
 no-record (letter ∷ count ∷ a ∷ b ∷ c ∷ d ∷ e ∷ room ∷ rest) h = absurd (none h)
   where
-    none : suc (suc (suc (suc (suc (suc (suc (suc (length rest)))))))) ≤ 7 → ⊥
+    none : suc (suc (suc (suc (suc (suc (suc (suc (length rest)))))))) < recordLength → ⊥
     none p = omega arith
 
 -- ---- the loop
@@ -84,8 +88,8 @@ going-start book =
 
 pub going-step :
     {held start calls run pool run′ pool′ : List ℕ} {i : ℕ} {r : Answer} → Going held start calls run pool i
-    → i + 7 < length calls → Lent (callAt i calls) run pool r run′ pool′ → length pool′ ≡ length pool
-    → Going held start calls run′ pool′ (i + 8)
+    → i + recordLength ≤ length calls → Lent (callAt i calls) run pool r run′ pool′ → length pool′ ≡ length pool
+    → Going held start calls run′ pool′ (i + recordLength)
 unfolding steps secondAfter
 going-step {held} {start} {calls} {run} {pool} {run′} {pool′} {i} g h m long =
     let next = next-book (callAt i calls .call) run (g .book) (m .words) in
@@ -100,7 +104,7 @@ going-step {held} {start} {calls} {run} {pool} {run′} {pool′} {i} g h m long
     }
 
 pub going-end :
-    {held start calls run pool : List ℕ} {i : ℕ} → Going held start calls run pool i → length calls ≤ i + 7
+    {held start calls run pool : List ℕ} {i : ℕ} → Going held start calls run pool i → length calls < i + recordLength
     → MadeInTurn held start calls run pool
 unfolding steps secondAfter
 going-end {held} {start} {calls} {run} {pool} {i} g h =

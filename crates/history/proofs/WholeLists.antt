@@ -23,7 +23,7 @@ use Rattle.book.proofs.SameFacts.{same-facts}
 use Rattle.book.proofs.Followed.{made-words, layout-is-book, layout-size}
 use Rattle.history.specs.Turns.{Turns, done, turn, lentIn, Whole}
 use Rattle.history.specs.Records.{callsOf}
-use Rattle.history.specs.Runs.{Ran}
+use Rattle.history.specs.ExecutedLists.{Ran}
 
 -- ---- calls in turn
 

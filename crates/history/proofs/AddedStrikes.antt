@@ -13,7 +13,7 @@ use Rattle.book.proofs.Layouts.{factsOf-layout}
 use Rattle.book.proofs.Keep.{after-well-formed}
 use Rattle.book.proofs.Added.{stands-exactly}
 use Rattle.history.specs.Turns.{Whole}
-use Rattle.history.proofs.Lists.{whole-words}
+use Rattle.history.proofs.WholeLists.{whole-words}
 
 pub strike-stands-exactly :
     {n : ℕ} {xs : List Call} {w : List ℕ} (g c m h : ℕ) → T (isLength n) → Whole n xs w
