@@ -1,17 +1,21 @@
--- The call that a letter and its numbers name, by how many numbers there are; and what names none is malformed and
--- refused, whatever the second run, by the one condition that applies. Assumes nothing.
-use Prim.Native.Nat.{ℕ}
-use mathlib.Core.Path.{_≡_, refl}
+-- The call that a letter and its numbers name, by how many numbers there are; what names none is malformed and refused,
+-- whatever the second run, by the one condition that applies; and the numbers of a caller who holds a few and counts
+-- them. Assumes nothing.
+use Prim.Native.Nat.{ℕ, _≤_, _<_, min}
+use mathlib.Core.Path.{_≡_, refl, sym}
+use mathlib.Core.Logic.{⊎-elim}
 use mathlib.Core.List.{List, [], _∷_}
 use native.Mathlib.Omega.{arith}
 use lib.Dec.{T}
-use lib.ListN.{length, getD}
+use lib.ListN.{length, getD, take, length-take}
+use lib.Seq.{take-all, take-take}
 use Rattle.word.specs.declared.answer.Answer.the-variants.{Refused}
 use Rattle.word.specs.declared.answer.Refusal.the-variants.{BeyondLimits}
 use Rattle.book.specs.Books.{isBook}
 use Rattle.book.specs.Calls.{malformed, answerTo}
 use Rattle.book.specs.Letters.{callOfOne, callOfTwo, callOfThree, callOfFive, callOf}
 use Rattle.book.specs.Made.{Made}
+use Rattle.logic.proofs.Tests.{lt-or-le}
 use Rattle.book.proofs.Answered.{made-refused}
 
 pub malformed-refused : (w v : List ℕ) → T (isBook w) → Made malformed w v (Refused BeyondLimits) w v
@@ -66,3 +70,16 @@ module _ (letter : ℕ) where
   of-others (a ∷ b ∷ c ∷ d ∷ []) one two three five = refl
   of-others (a ∷ b ∷ c ∷ d ∷ e ∷ []) one two three five = absurd (five refl)
   of-others (a ∷ b ∷ c ∷ d ∷ e ∷ f ∷ more) one two three five = refl
+
+-- ---- the numbers that are held, of which the first `count` are the call's: so many are handed on, or all
+
+pub counted-of : (held count k : ℕ) (l : List ℕ) → k ≡ min count held → take k l ≡ take count (take held l)
+counted-of held count k l e =
+    ⊎-elim
+    (λ (few : count < held).
+    let same : k ≡ count = omega arith in
+    rw same (sym (take-take count held l (omega arith))))
+    (λ (many : held ≤ count).
+    let all : k ≡ held = omega arith in
+    rw all (sym (take-all count (take held l) (simp length-take (omega arith)))))
+    (lt-or-le count held)

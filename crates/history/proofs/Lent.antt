@@ -1,12 +1,10 @@
--- A call that is lent the front of a pool leaves the rest of it, since what it writes fits its room; and the numbers of
--- a record that its call has. Assumes nothing.
-use Prim.Native.Nat.{ℕ, _≤_, _<_, min}
+-- A call that is lent the front of a pool leaves the rest of it, since what it writes fits its room. Assumes nothing.
+use Prim.Native.Nat.{ℕ, _≤_}
 use mathlib.Core.Path.{_≡_, sym, ap, _∙_}
-use mathlib.Core.Logic.{⊎-elim}
 use mathlib.Core.List.{List, _++_, append-assoc}
 use native.Mathlib.Omega.{arith}
 use lib.ListN.{length, take, drop, length-take, take-append-drop}
-use lib.Seq.{drop-append-le, take-all, take-take}
+use lib.Seq.{drop-append-le}
 use lib.Dec.{T}
 use Rattle.word.specs.declared.answer.Answer.{Answer}
 use Rattle.book.specs.Layout.{factsOf}
@@ -14,9 +12,8 @@ use Rattle.book.specs.Books.{isBook}
 use Rattle.book.specs.Calls.{written}
 use Rattle.book.specs.Made.{over, Made}
 use Rattle.book.specs.CallLists.{LentCall}
-use Rattle.logic.proofs.Tests.{T-true, lt-or-le}
+use Rattle.logic.proofs.Tests.{T-true}
 use Rattle.book.proofs.Order.{written-fits}
-use Rattle.history.specs.Records.{numbersHeld}
 use Rattle.history.specs.ExecutedLists.{lentWithin, Lent}
 
 -- the front written over, and then the rest, is the pool written over
@@ -45,18 +42,3 @@ lent-front {w} {pool} x k e book m =
       second =
           ap (λ (l : List ℕ). l ++ drop k pool) (rw (is, long) at (m .second)) ∙ over-front s pool k fits (omega arith);
     }
-
--- ---- the numbers of a record
-
--- as many as are counted, or all that it holds
-pub numbers-counted :
-    (count k : ℕ) (l : List ℕ) → k ≡ min count numbersHeld → take k l ≡ take count (take numbersHeld l)
-numbers-counted count k l e =
-    ⊎-elim
-    (λ (few : count < numbersHeld).
-    let same : k ≡ count = omega arith in
-    rw same (sym (take-take count numbersHeld l (omega arith))))
-    (λ (many : numbersHeld ≤ count).
-    let all : k ≡ numbersHeld = omega arith in
-    rw all (sym (take-all count (take numbersHeld l) (simp length-take (omega arith)))))
-    (lt-or-le count numbersHeld)

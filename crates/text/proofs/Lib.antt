@@ -1,13 +1,13 @@
 -- The laws of the lines and of what is printed, for the functions' proofs and other crates.
 pub mod Complete
 pub mod Sound
-mod Parts
+mod LineParts
 pub mod Limited
 pub mod Lines
-mod Made
+mod CallsRead
 mod Sheets
 mod WholeLines
-mod Replies
+mod LineReplies
 pub mod Readers
 pub mod Pieces
 pub mod Decimals
@@ -15,4 +15,4 @@ mod SpacedNumbers
 mod AnswerTexts
 pub mod RoundTrip
 pub mod Bounds
-mod Examples
+mod SheetExamples

@@ -22,7 +22,7 @@ use Rattle.text.specs.Reading.{capped, zeros, malformedLine, pushOf, emp
 use Rattle.text.specs.Grammar.{Formed, numberIn, isNumeral, firstPart, laterParts, callOfParts, callIn, held, callHeld}
 use Rattle.text.proofs.Complete.{complete}
 use Rattle.text.proofs.Sound.{sound}
-use Rattle.text.proofs.Parts.{between-both, numerals-true, true-numerals, joined, first-formed, later-formed}
+use Rattle.text.proofs.LineParts.{between-both, numerals-true, true-numerals, joined, first-formed, later-formed}
 
 -- ---- the call that a line is
 

@@ -21,7 +21,7 @@ use Rattle.text.specs.WholeLines.{digitsLength, grownBy, numeralLength, 
 use Rattle.logic.proofs.Tests.{equal-test, bool-cases, lt-or-le, eq-or-not, true-T, none-of, or-cases, outside, inside}
 use Rattle.text.proofs.Complete.{Pending, at-zero, in-number, state, feed-space, end-number}
 use Rattle.text.proofs.Sound.{Follows, follows, run-malformed}
-use Rattle.text.proofs.Parts.{between-true, between-both}
+use Rattle.text.proofs.LineParts.{between-true, between-both}
 use Rattle.text.proofs.Lines.{ended}
 use Rattle.text.proofs.Sheets.{end-here, end-later, end-none}
 

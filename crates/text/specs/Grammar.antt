@@ -13,6 +13,7 @@ use Rattle.book.specs.Calls.{Call, malformed}
 use Rattle.book.specs.Letters.{callOf}
 use Rattle.text.specs.declared.line.Phase.the-variants.{Letter}
 use Rattle.text.specs.declared.line.Line.{Line}
+use Rattle.text.specs.Alphabet.{space, zeroDigit, nineDigit, firstLetter, lastLetter, base}
 use Rattle.text.specs.Reading.{capped, zeros}
 
 -- ---- the form, as text
@@ -20,12 +21,12 @@ use Rattle.text.specs.Reading.{capped, zeros}
 -- each byte is a digit
 pub data Digits : List ℕ → Type 0 where
   no-digits : Digits []
-  a-digit : {b : ℕ} {ds : List ℕ} → 48 ≤ b → b ≤ 57 → Digits ds → Digits (b ∷ ds)
+  a-digit : {b : ℕ} {ds : List ℕ} → zeroDigit ≤ b → b ≤ nineDigit → Digits ds → Digits (b ∷ ds)
 
 -- "numbers without leading zeros"
 pub data Numeral : List ℕ → Type 0 where
-  lone-zero : Numeral (48 ∷ [])
-  leading : {b : ℕ} {ds : List ℕ} → 48 < b → b ≤ 57 → Digits ds → Numeral (b ∷ ds)
+  lone-zero : Numeral (zeroDigit ∷ [])
+  leading : {b : ℕ} {ds : List ℕ} → zeroDigit < b → b ≤ nineDigit → Digits ds → Numeral (b ∷ ds)
 
 -- each of them is a numeral
 pub data Numerals : List (List ℕ) → Type 0 where
@@ -35,7 +36,7 @@ pub data Numerals : List (List ℕ) → Type 0 where
 -- "single spaces": one before each numeral
 unfoldable pub spaced : List (List ℕ) → List ℕ
 spaced [] = []
-spaced (t ∷ ts) = 32 ∷ (t ++ spaced ts)
+spaced (t ∷ ts) = space ∷ (t ++ spaced ts)
 
 -- "letter, then numbers"
 abbrev pub lineText : ℕ → List (List ℕ) → List ℕ
@@ -43,15 +44,15 @@ lineText c ts = c ∷ spaced ts
 
 -- a line of the form: the text of a capital letter and numerals
 pub record Formed (s : List ℕ) (c : ℕ) (ts : List (List ℕ)) : Type 0 where
-  pub low : 65 ≤ c
-  pub high : c ≤ 90
+  pub low : firstLetter ≤ c
+  pub high : c ≤ lastLetter
   pub numerals : Numerals ts
   pub same : s ≡ lineText c ts
 
 -- the number that digits write after v, of any size
 unfoldable pub valueFrom : ℕ → List ℕ → ℕ
 valueFrom v [] = v
-valueFrom v (b ∷ ds) = valueFrom (10 * v + (b - 48)) ds
+valueFrom v (b ∷ ds) = valueFrom (base * v + (b - zeroDigit)) ds
 
 -- the number that a numeral writes, of any size
 abbrev pub numberIn : List ℕ → ℕ
@@ -61,28 +62,29 @@ numberIn t = valueFrom 0 t
 
 -- a byte from `0` to `9`
 abbrev pub isDigit : ℕ → Bool
-isDigit b = between 48 57 b
+isDigit b = between zeroDigit nineDigit b
 
 -- "numbers without leading zeros"
 unfoldable pub isNumeral : List ℕ → Bool
 isNumeral [] = false
 isNumeral (b ∷ []) = isDigit b
-isNumeral (b ∷ d ∷ ds) = between 49 57 b && every isDigit (d ∷ ds)
+isNumeral (b ∷ d ∷ ds) = between (zeroDigit + 1) nineDigit b && every isDigit (d ∷ ds)
 
 -- what stands before the first space
 unfoldable pub firstPart : List ℕ → List ℕ
 firstPart [] = []
-firstPart (b ∷ s) = cond (eqb b 32) [] (b ∷ firstPart s)
+firstPart (b ∷ s) = cond (eqb b space) [] (b ∷ firstPart s)
 
 -- what stands after each space, up to the next
 unfoldable pub laterParts : List ℕ → List (List ℕ)
 laterParts [] = []
-laterParts (b ∷ s) = cond (eqb b 32) (firstPart s ∷ laterParts s) (laterParts s)
+laterParts (b ∷ s) = cond (eqb b space) (firstPart s ∷ laterParts s) (laterParts s)
 
 -- the first part is a capital letter, and each later one a numeral
 unfoldable pub callOfParts : List ℕ → List (List ℕ) → Call
 callOfParts [] ts = malformed
-callOfParts (c ∷ []) ts = cond (between 65 90 c && every isNumeral ts) (callOf c (map numberIn ts)) malformed
+callOfParts (c ∷ []) ts =
+    cond (between firstLetter lastLetter c && every isNumeral ts) (callOf c (map numberIn ts)) malformed
 callOfParts (c ∷ d ∷ more) ts = malformed
 
 -- "An empty line, or any other form, is malformed."

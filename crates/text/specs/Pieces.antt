@@ -19,6 +19,7 @@ use Rattle.text.specs.declared.line.Phase.the-variants.{Start, Letter, S
 use Rattle.text.specs.declared.line.Line.{Line}
 use Rattle.text.specs.declared.piece.PieceProgress.{PieceProgress}
 use Rattle.text.specs.declared.piece.Lines.{Lines}
+use Rattle.text.specs.Alphabet.{lineFeed}
 use Rattle.text.specs.Reading.{emptyLine, feedOf, endOf}
 use Rattle.text.specs.Grammar.{callHeld}
 use Rattle.text.specs.Printing.{replyTo}
@@ -49,7 +50,7 @@ callMade n room x r =
 -- one byte more
 unfoldable pub byteRead : ℕ → ℕ → Reader → ℕ → Reader
 byteRead n room r b =
-    cond (eqb b 10) (callMade n room (callEnded r) r)
+    cond (eqb b lineFeed) (callMade n room (callEnded r) r)
     (record { line = feedOf (r .line) b; facts = r .facts; second = r .second; text = r .text })
 
 -- the bytes in turn
@@ -89,16 +90,24 @@ callsMade n room xs r =
 
 -- ---- what is held in the words that are lent
 
+-- the bytes that a strike takes at most: a space, and the digits of a number of 32 bits
+abbrev pub strikeRoom : ℕ
+strikeRoom = 11
+
+-- the bytes for the rest of an answer: its number, any value and the line end
+abbrev pub answerRoom : ℕ
+answerRoom = 32
+
 -- the bytes that the line of one answer takes at most, with a second run of `room` words
 abbrev pub lineRoom : ℕ → ℕ
-lineRoom room = 11 * room + 32
+lineRoom room = strikeRoom * room + answerRoom
 
 -- how many of the bytes are read where `size` bytes can be printed:
 -- up to the first line end whose answer might find no room
 unfoldable pub bytesTaken : ℕ → ℕ → ℕ → Reader → List ℕ → ℕ
 bytesTaken n room size r [] = 0
 bytesTaken n room size r (b ∷ bs) =
-    cond {A = ℕ} (eqb b 10 && ltb size (length (r .text) + lineRoom room)) 0
+    cond {A = ℕ} (eqb b lineFeed && ltb size (length (r .text) + lineRoom room)) 0
     (suc (bytesTaken n room size (byteRead n room r b) bs))
 
 -- of the bytes s, the first k are taken, and then those that are taken from there on

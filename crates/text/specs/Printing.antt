@@ -9,11 +9,12 @@ use Rattle.word.specs.declared.answer.Answer.the-variants.{Done, Ground, Remove
 use Rattle.word.specs.Answers.{answerNumber, refusalValue}
 use Rattle.book.specs.Facts.{Facts}
 use Rattle.book.specs.Calls.{Call, answerTo, written}
+use Rattle.text.specs.Alphabet.{lineFeed, space, zeroDigit, base}
 
 -- the digits of a number, the last f + 1 of them at most
 unfoldable pub decimalBy : ℕ → ℕ → List ℕ
-decimalBy zero v = (48 + v % 10) ∷ []
-decimalBy (suc f) v = cond (ltb v 10) [] (decimalBy f (v / 10)) ++ ((48 + v % 10) ∷ [])
+decimalBy zero v = (zeroDigit + v % base) ∷ []
+decimalBy (suc f) v = cond (ltb v base) [] (decimalBy f (v / base)) ++ ((zeroDigit + v % base) ∷ [])
 
 -- "All figures are written in base ten": the digits of a number, with no zero in front
 unfoldable pub decimal : ℕ → List ℕ
@@ -21,7 +22,7 @@ decimal v = decimalBy v v
 
 -- a number after a space
 abbrev pub spacedNumber : ℕ → List ℕ
-spacedNumber v = 32 ∷ decimal v
+spacedNumber v = space ∷ decimal v
 
 -- each number after a space
 unfoldable pub spacedNumbers : List ℕ → List ℕ
@@ -44,7 +45,7 @@ afterNumber (Refused why) strikes = valueOrNone (refusalValue why)
 
 -- "prints per line the number, then any value, then `A`'s strikes", and the line end
 unfoldable pub answerText : Answer → List ℕ → List ℕ
-answerText a strikes = decimal (answerNumber a) ++ (spacedNumbers (afterNumber a strikes) ++ (10 ∷ []))
+answerText a strikes = decimal (answerNumber a) ++ (spacedNumbers (afterNumber a strikes) ++ (lineFeed ∷ []))
 
 -- the line that is printed for a call on a book of the facts f, in a run of n words and with a second run of `room`
 abbrev pub replyTo : (n room : ℕ) → Call → Facts → List ℕ

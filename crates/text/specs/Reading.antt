@@ -8,10 +8,19 @@ use lib.Dec.{eqb, ltb, leb}
 use Rattle.text.specs.declared.line.Phase.{Phase}
 use Rattle.text.specs.declared.line.Phase.the-variants.{Start, Letter, Space, Zero, Number, Malformed}
 use Rattle.text.specs.declared.line.Line.{Line}
+use Rattle.text.specs.Alphabet.{space, zeroDigit, nineDigit, firstLetter, lastLetter, base}
+
+-- what stands for every number above the largest limit
+abbrev pub numberCap : ℕ
+numberCap = 99999999
 
 -- a number as the program keeps it: all that is above the largest limit is one number
 abbrev pub capped : ℕ → ℕ
-capped v = min v 99999999
+capped v = min v numberCap
+
+-- how many numbers a line keeps: no call has more
+abbrev pub numbersKept : ℕ
+numbersKept = 5
 
 -- no number has ended
 abbrev pub zeros : List ℕ
@@ -25,10 +34,10 @@ emptyLine = record { phase = Start; letter = 0; value = 0; count = 0; numbers = 
 abbrev pub malformedLine : Line
 malformedLine = record { phase = Malformed; letter = 0; value = 0; count = 0; numbers = zeros }
 
--- the number that is being read joins those that have ended, of which there are at most five
+-- the number that is being read joins those that have ended, of which there are at most as many as a line keeps
 abbrev pub pushOf : Line → Phase → Line
 pushOf l p =
-    cond (leb 5 (l .count)) malformedLine
+    cond (leb numbersKept (l .count)) malformedLine
     (record {
       phase = p;
       letter = l .letter;
@@ -40,40 +49,40 @@ pushOf l p =
 -- a line begins with a capital letter
 abbrev pub startOf : ℕ → Line
 startOf b =
-    cond (ltb b 65) malformedLine
-    (cond (ltb 90 b) malformedLine
+    cond (ltb b firstLetter) malformedLine
+    (cond (ltb lastLetter b) malformedLine
     (record { phase = Letter; letter = b; value = 0; count = 0; numbers = zeros }))
 
 -- after the letter comes a space
 abbrev pub letterOf : Line → ℕ → Line
 letterOf l b =
-    cond (eqb b 32)
+    cond (eqb b space)
     (record { phase = Space; letter = l .letter; value = l .value; count = l .count; numbers = l .numbers })
     malformedLine
 
 -- after a space comes a digit
 abbrev pub spaceOf : Line → ℕ → Line
 spaceOf l b =
-    cond (ltb b 48) malformedLine
-    (cond (ltb 57 b) malformedLine
-    (cond (eqb b 48)
+    cond (ltb b zeroDigit) malformedLine
+    (cond (ltb nineDigit b) malformedLine
+    (cond (eqb b zeroDigit)
     (record { phase = Zero; letter = l .letter; value = 0; count = l .count; numbers = l .numbers })
-    (record { phase = Number; letter = l .letter; value = b - 48; count = l .count; numbers = l .numbers })))
+    (record { phase = Number; letter = l .letter; value = b - zeroDigit; count = l .count; numbers = l .numbers })))
 
 -- a number that begins with 0 has no digit more
 abbrev pub zeroOf : Line → ℕ → Line
-zeroOf l b = cond (eqb b 32) (pushOf l Space) malformedLine
+zeroOf l b = cond (eqb b space) (pushOf l Space) malformedLine
 
 -- a number goes on with a digit, or ends with a space
 abbrev pub numberOf : Line → ℕ → Line
 numberOf l b =
-    cond (eqb b 32) (pushOf l Space)
-    (cond (ltb b 48) malformedLine
-    (cond (ltb 57 b) malformedLine
+    cond (eqb b space) (pushOf l Space)
+    (cond (ltb b zeroDigit) malformedLine
+    (cond (ltb nineDigit b) malformedLine
     (record {
       phase = Number;
       letter = l .letter;
-      value = capped (10 * l .value + (b - 48));
+      value = capped (base * l .value + (b - zeroDigit));
       count = l .count;
       numbers = l .numbers;
     })))

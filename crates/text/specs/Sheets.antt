@@ -16,6 +16,7 @@ use Rattle.book.specs.Calls.{Call, steps}
 use Rattle.book.specs.CallLists.{lentEach, answersTo, told, secondAfter}
 use Rattle.book.specs.Made.{Made}
 use Rattle.text.specs.declared.sheet.LineAnswer.{LineAnswer}
+use Rattle.text.specs.Alphabet.{lineFeed}
 use Rattle.text.specs.Grammar.{callIn}
 
 -- a byte more at the front of the first line
@@ -23,15 +24,15 @@ abbrev pub withByte : ℕ → List (List ℕ) → List (List ℕ)
 withByte b [] = (b ∷ []) ∷ []
 withByte b (l ∷ ls) = (b ∷ l) ∷ ls
 
--- the lines of a sheet, which end in the byte 10: "The last line may lack its line end."
+-- the lines of a sheet, which end in a line feed: "The last line may lack its line end."
 unfoldable pub linesOf : List ℕ → List (List ℕ)
 linesOf [] = []
-linesOf (b ∷ s) = cond (eqb b 10) ([] ∷ linesOf s) (withByte b (linesOf s))
+linesOf (b ∷ s) = cond (eqb b lineFeed) ([] ∷ linesOf s) (withByte b (linesOf s))
 
 -- the index of the first line end, or the length
 unfoldable pub lineEnd : List ℕ → ℕ
 lineEnd [] = 0
-lineEnd (b ∷ s) = cond (eqb b 10) 0 (suc (lineEnd s))
+lineEnd (b ∷ s) = cond (eqb b lineFeed) 0 (suc (lineEnd s))
 
 -- the bytes of the line that begins at `from`
 abbrev pub lineAt : List ℕ → ℕ → List ℕ
@@ -58,10 +59,9 @@ wordsAfter w xs = cond (isBook w) (layout (length w) (steps (length w) xs (facts
 abbrev pub secondOver : List ℕ → List Call → List ℕ → List ℕ
 secondOver w xs v = cond (isBook w) (secondAfter (length w) (lentEach (length v) xs) (factsOf w) v) v
 
--- a line begins at `from`, `tested` says whether the words w are a book, and 1,024 places are remembered
-pub record LineBegins (w places : List ℕ) (tested : Bool) (sheet : List ℕ) (from : ℕ) : Type 0 where
+-- a line begins at `from`, and `tested` says whether the words w are a book
+pub record LineBegins (w : List ℕ) (tested : Bool) (sheet : List ℕ) (from : ℕ) : Type 0 where
   pub book : tested ≡ isBook w
-  pub thousand : length places ≡ 1024
   pub inside : from < length sheet
 
 -- the call of the line that begins at `from`, made on any words w, with a second run v, and where the next line begins

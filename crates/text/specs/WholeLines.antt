@@ -9,6 +9,7 @@ use lib.ListN.{length, drop, take}
 use Rattle.text.specs.declared.line.WholeLine.{WholeLine}
 use Rattle.text.specs.declared.line.Phase.the-variants.{Letter}
 use Rattle.text.specs.declared.line.Line.{Line}
+use Rattle.text.specs.Alphabet.{zeroDigit, base}
 use Rattle.text.specs.Reading.{capped, zeros, emptyLine, runOf, endOf}
 use Rattle.text.specs.Grammar.{isDigit}
 use Rattle.text.specs.Sheets.{lineEnd}
@@ -21,19 +22,25 @@ digitsLength (b ∷ bs) = cond {A = ℕ} (isDigit b) (suc (digitsLength bs)) 0
 -- a number with more digits, as the program keeps it
 unfoldable pub grownBy : ℕ → List ℕ → ℕ
 grownBy v [] = v
-grownBy v (b ∷ bs) = grownBy (capped (10 * v + (b - 48))) bs
+grownBy v (b ∷ bs) = grownBy (capped (base * v + (b - zeroDigit))) bs
+
+-- the digits that are read from `from` on in a sheet and go on with the number `first`, and where they end
+pub record DigitsAt (sheet : List ℕ) (from first value end : ℕ) : Type 0 where
+  pub end-is : end ≡ from + digitsLength (drop from sheet)
+  pub within : end ≤ length sheet
+  pub value-is : value ≡ grownBy first (take (digitsLength (drop from sheet)) (drop from sheet))
 
 -- how many bytes at the front write a number without leading zeros
 unfoldable pub numeralLength : List ℕ → ℕ
 numeralLength [] = 0
-numeralLength (b ∷ bs) = cond {A = ℕ} (eqb b 48) 1 (cond {A = ℕ} (isDigit b) (suc (digitsLength bs)) 0)
+numeralLength (b ∷ bs) = cond {A = ℕ} (eqb b zeroDigit) 1 (cond {A = ℕ} (isDigit b) (suc (digitsLength bs)) 0)
 
 -- the number that they write, as the program keeps it
 unfoldable pub numeralValue : List ℕ → ℕ
 numeralValue [] = 0
 numeralValue (b ∷ bs) =
-    cond {A = ℕ} (eqb b 48) 0
-    (cond {A = ℕ} (isDigit b) (grownBy (b - 48) (take (digitsLength bs) bs)) 0)
+    cond {A = ℕ} (eqb b zeroDigit) 0
+    (cond {A = ℕ} (isDigit b) (grownBy (b - zeroDigit) (take (digitsLength bs) bs)) 0)
 
 -- the number that is read from `from` on in a sheet, and where it ends
 pub record NumeralAt (sheet : List ℕ) (from value end : ℕ) : Type 0 where

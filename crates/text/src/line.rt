@@ -2,10 +2,27 @@
 // line is at hand. No line is too long for either.
 ghost use mathlib.Core.Path.{_≡_};
 ghost use Prim.Native.Nat.{_+_, _*_, _<_, _≤_};
-ghost use lib.ListN.{drop, length, take};
+ghost use lib.ListN.{drop, length};
+ghost use Rattle.text.specs.Alphabet.{base};
 ghost use Rattle.text.specs.Sheets.{lineEnd};
-ghost use Rattle.text.specs.WholeLines.{digitsLength, grownBy, letterLine, NumeralAt, EndsAfter, WholeAt};
+ghost use Rattle.text.specs.WholeLines.{letterLine, DigitsAt, NumeralAt, EndsAfter, WholeAt};
 ghost use Rattle.text.specs.Reading.{capped, emptyLine, malformedLine, pushOf, startOf, letterOf, spaceOf, zeroOf, numberOf, feedOf, endOf};
+use crate::ascii::BASE;
+use crate::ascii::FIRST_LETTER;
+use crate::ascii::LAST_LETTER;
+use crate::ascii::LINE_FEED;
+use crate::ascii::NINE;
+use crate::ascii::SPACE;
+use crate::ascii::ZERO;
+
+// How many numbers a line keeps: no call has more.
+pub const NUMBERS_KEPT: usize = 5;
+
+// What stands for every number above the largest limit.
+const NUMBER_CAP: u32 = 99999999;
+
+// With one digit more, numbers from here on are above it.
+const CAPPED_FROM: u32 = 10000000;
 
 // How far a line has been read. A line that has ended well is at Letter.
 pub enum Phase {
@@ -23,7 +40,7 @@ pub struct Line {
     pub letter: u8,
     pub value: u32,
     pub count: usize,
-    pub numbers: [u32; 5],
+    pub numbers: [u32; NUMBERS_KEPT],
 }
 
 // A number that was read: its value, and where it ends.
@@ -38,15 +55,15 @@ pub struct WholeLine {
     pub end: usize,
 }
 
-// A number with one digit more, 99,999,999 where it is more than that.
+// A number with one digit more, or the cap where it is more than that.
 fn grow(value: u32, digit: u32) -> u32
-    requires { ⌜ digit < 10 ⌝ }
-    ensures { λ r. ⌜ r ≡ capped (10 * value + digit) ⌝ }
+    requires { ⌜ digit < base ⌝ }
+    ensures { λ r. ⌜ r ≡ capped (base * value + digit) ⌝ }
 {
-    if value < 10000000 {
-        10 * value + digit
+    if value < CAPPED_FROM {
+        BASE * value + digit
     } else {
-        99999999
+        NUMBER_CAP
     }
 }
 
@@ -59,7 +76,7 @@ pub fn empty() -> Line
         letter: 0,
         value: 0,
         count: 0,
-        numbers: [0; 5],
+        numbers: [0; NUMBERS_KEPT],
     }
 }
 
@@ -71,7 +88,7 @@ fn malformed() -> Line
         letter: 0,
         value: 0,
         count: 0,
-        numbers: [0; 5],
+        numbers: [0; NUMBERS_KEPT],
     }
 }
 
@@ -80,7 +97,7 @@ fn push(line: Line, phase: Phase) -> Line
     ensures { λ r. ⌜ r ≡ pushOf line phase ⌝ }
 {
     let count = line.count;
-    if 5 <= count {
+    if NUMBERS_KEPT <= count {
         return malformed();
     }
     let mut numbers = line.numbers;
@@ -98,10 +115,10 @@ fn push(line: Line, phase: Phase) -> Line
 fn start(byte: u8) -> Line
     ensures { λ r. ⌜ r ≡ startOf byte ⌝ }
 {
-    if byte < 65 {
+    if byte < FIRST_LETTER {
         return malformed();
     }
-    if 90 < byte {
+    if LAST_LETTER < byte {
         return malformed();
     }
     Line {
@@ -109,7 +126,7 @@ fn start(byte: u8) -> Line
         letter: byte,
         value: 0,
         count: 0,
-        numbers: [0; 5],
+        numbers: [0; NUMBERS_KEPT],
     }
 }
 
@@ -117,7 +134,7 @@ fn start(byte: u8) -> Line
 fn after_letter(line: Line, byte: u8) -> Line
     ensures { λ r. ⌜ r ≡ letterOf line byte ⌝ }
 {
-    if byte == 32 {
+    if byte == SPACE {
         let numbers = line.numbers;
         Line {
             phase: Phase::Space,
@@ -135,14 +152,14 @@ fn after_letter(line: Line, byte: u8) -> Line
 fn after_space(line: Line, byte: u8) -> Line
     ensures { λ r. ⌜ r ≡ spaceOf line byte ⌝ }
 {
-    if byte < 48 {
+    if byte < ZERO {
         return malformed();
     }
-    if 57 < byte {
+    if NINE < byte {
         return malformed();
     }
     let numbers = line.numbers;
-    if byte == 48 {
+    if byte == ZERO {
         Line {
             phase: Phase::Zero,
             letter: line.letter,
@@ -154,7 +171,7 @@ fn after_space(line: Line, byte: u8) -> Line
         Line {
             phase: Phase::Number,
             letter: line.letter,
-            value: (byte - 48) as u32,
+            value: (byte - ZERO) as u32,
             count: line.count,
             numbers: numbers,
         }
@@ -165,7 +182,7 @@ fn after_space(line: Line, byte: u8) -> Line
 fn after_zero(line: Line, byte: u8) -> Line
     ensures { λ r. ⌜ r ≡ zeroOf line byte ⌝ }
 {
-    if byte == 32 {
+    if byte == SPACE {
         push(line, Phase::Space)
     } else {
         malformed()
@@ -176,17 +193,17 @@ fn after_zero(line: Line, byte: u8) -> Line
 fn in_number(line: Line, byte: u8) -> Line
     ensures { λ r. ⌜ r ≡ numberOf line byte ⌝ }
 {
-    if byte == 32 {
+    if byte == SPACE {
         return push(line, Phase::Space);
     }
-    if byte < 48 {
+    if byte < ZERO {
         return malformed();
     }
-    if 57 < byte {
+    if NINE < byte {
         return malformed();
     }
     let numbers = line.numbers;
-    let value = grow(line.value, (byte - 48) as u32);
+    let value = grow(line.value, (byte - ZERO) as u32);
     Line {
         phase: Phase::Number,
         letter: line.letter,
@@ -229,19 +246,16 @@ pub fn end(line: Line) -> Line
 // The digits from `from` on go on with a number.
 fn read_digits(sheet: &[u8], from: usize, first: u32) -> NumberRead
     requires { ⌜ from ≤ length (now sheet) ⌝ }
-    ensures { λ r. ⌜ (r .end ≡ from + digitsLength (drop from (now (sheet .entry))))
-        × ((r .end ≤ length (now (sheet .entry)))
-        × (r .value
-        ≡ grownBy first (take (digitsLength (drop from (now (sheet .entry)))) (drop from (now (sheet .entry)))))) ⌝ }
+    ensures { λ r. ⌜ DigitsAt (now (sheet .entry)) from first (r .value) (r .end) ⌝ }
 {
     let mut value = first;
     let mut i = from;
     while i < sheet.len() {
         let byte = sheet[i];
-        if (byte < 48) | (57 < byte) {
+        if (byte < ZERO) | (NINE < byte) {
             return NumberRead { value, end: i };
         }
-        value = grow(value, (byte - 48) as u32);
+        value = grow(value, (byte - ZERO) as u32);
         i += 1;
     }
     NumberRead { value, end: i }
@@ -259,19 +273,19 @@ fn read_number(sheet: &[u8], from: usize) -> NumberRead
         };
     }
     let first = sheet[from];
-    if first == 48 {
+    if first == ZERO {
         return NumberRead {
             value: 0,
             end: from + 1,
         };
     }
-    if (first < 48) | (57 < first) {
+    if (first < ZERO) | (NINE < first) {
         return NumberRead {
             value: 0,
             end: from,
         };
     }
-    read_digits(sheet, from + 1, (first - 48) as u32)
+    read_digits(sheet, from + 1, (first - ZERO) as u32)
 }
 
 // The index of the first line end from `from` on, or the length.
@@ -281,7 +295,7 @@ fn line_end(sheet: &[u8], from: usize) -> usize
 {
     let mut i = from;
     while i < sheet.len() {
-        if sheet[i] == 10 {
+        if sheet[i] == LINE_FEED {
             return i;
         }
         i += 1;
@@ -305,12 +319,12 @@ fn read_numbers(sheet: &[u8], from: usize, letter: u8) -> WholeLine
     requires { ⌜ from ≤ length (now sheet) ⌝ }
     ensures { λ r. ⌜ EndsAfter (letterLine letter) (now (sheet .entry)) from r ⌝ }
 {
-    let mut numbers = [0; 5];
+    let mut numbers = [0; NUMBERS_KEPT];
     let mut count = 0;
     let mut i = from;
     while i < sheet.len() {
         let byte = sheet[i];
-        if byte == 10 {
+        if byte == LINE_FEED {
             return WholeLine {
                 line: Line {
                     phase: Phase::Letter,
@@ -322,7 +336,7 @@ fn read_numbers(sheet: &[u8], from: usize, letter: u8) -> WholeLine
                 end: i,
             };
         }
-        if (byte != 32) | (count == 5) {
+        if (byte != SPACE) | (count == NUMBERS_KEPT) {
             return pass_line(sheet, i);
         }
         let numeral = read_number(sheet, i + 1);
@@ -351,7 +365,7 @@ pub fn read_line(sheet: &[u8], from: usize) -> WholeLine
     ensures { λ r. ⌜ WholeAt (now (sheet .entry)) from r ⌝ }
 {
     let letter = sheet[from];
-    if (letter < 65) | (90 < letter) {
+    if (letter < FIRST_LETTER) | (LAST_LETTER < letter) {
         return pass_line(sheet, from);
     }
     read_numbers(sheet, from + 1, letter)

@@ -9,15 +9,22 @@ ghost use Rattle.book.specs.Books.{isBook};
 ghost use Rattle.text.specs.Reading.{endOf};
 ghost use Rattle.text.specs.Grammar.{callHeld};
 ghost use Rattle.text.specs.Pieces.{lineRoom, Ended, LinesBegin, LinesRead, Pieced};
+use crate::ascii::LINE_FEED;
 use crate::line::Line;
 use crate::line::empty;
 use crate::line::end;
 use crate::line::feed;
 use crate::line::read_line;
 use crate::print::put_answer;
+use crate::sheet::PLACES_REMEMBERED;
 use crate::sheet::make_line;
-use place::lookup::remembered_place;
 use word::answer::Answer;
+
+// The bytes that a strike takes at most: a space, and the digits of a number of 32 bits.
+const STRIKE_ROOM: usize = 11;
+
+// The bytes for the rest of an answer: its number, any value and the line end.
+const ANSWER_ROOM: usize = 32;
 
 // How far a piece has been read, the line that has not ended, and how many bytes were printed.
 pub struct PieceProgress {
@@ -42,12 +49,11 @@ fn strikes_listed(answer: Answer) -> usize
     0
 }
 
-// Makes the call of a line that has ended, whose class is looked for first at `near`, and prints its answer from `at`
-// on.
+// Makes the call of a line that has ended, lends it places, and prints its answer from `at` on.
 fn print_line(
     run: &mut [u32],
     second: &mut [u32],
-    near: usize,
+    places: &mut [u32],
     line: Line,
     out: &mut [u8],
     at: usize,
@@ -56,22 +62,22 @@ fn print_line(
     ensures { λ r. ⌜ Ended (callHeld line) (now (run .entry)) (now (second .entry)) (now (out .entry)) at
         r (now (run .exit)) (now (second .exit)) (now (out .exit)) ⌝ }
 {
-    let answer = make_line(run, second, near, line);
+    let answer = make_line(run, second, places, line);
     let count = strikes_listed(answer);
     put_answer(out, at, answer, &second[0..count])
 }
 
-// Makes the call of a line that ends here, and prints its answer from `at` on.
+// Makes the call of a line that ends here, which is lent no places, and prints its answer from `at` on.
 pub fn end_line(run: &mut [u32], second: &mut [u32], line: Line, out: &mut [u8], at: usize) -> usize
     requires { ⌜ T (isBook (now run)) × (at + lineRoom (length (now second)) ≤ length (now out)) ⌝ }
     ensures { λ r. ⌜ Ended (callHeld (endOf line)) (now (run .entry)) (now (second .entry)) (now (out .entry)) at
         r (now (run .exit)) (now (second .exit)) (now (out .exit)) ⌝ }
 {
-    print_line(run, second, 0, end(line), out, at)
+    print_line(run, second, &mut [], end(line), out, at)
 }
 
 // Reads the lines that begin at `from` or later and end in the piece, as far as `out` has room for their answers.
-// Where the class of a line was found is remembered for the lines after it.
+// The places of classes that were found are remembered for the lines after them.
 fn read_lines(
     run: &mut [u32],
     second: &mut [u32],
@@ -84,18 +90,16 @@ fn read_lines(
     ensures { λ r. ⌜ LinesRead (now (run .entry)) (now (second .entry)) (now (piece .entry)) from (now (out .entry)) at
         r (now (run .exit)) (now (second .exit)) (now (out .exit)) ⌝ }
 {
-    let mut places = [0; 1024];
+    let mut places = [0; PLACES_REMEMBERED];
     let mut put = at;
     let mut read = from;
     while read < piece.len() {
         let whole = read_line(piece, read);
         let end = whole.end;
-        if (end == piece.len()) | (out.len() - put < 11 * second.len() + 32) {
+        if (end == piece.len()) | (out.len() - put < STRIKE_ROOM * second.len() + ANSWER_ROOM) {
             return Lines { read, put };
         }
-        let line = whole.line;
-        let near = remembered_place(run, &mut places, line.numbers[0]);
-        put = print_line(run, second, near, line, out, put);
+        put = print_line(run, second, &mut places, whole.line, out, put);
         read = end + 1;
     }
     Lines { read, put }
@@ -120,8 +124,8 @@ pub fn read_piece(
     let mut read = 0;
     while read < piece.len() {
         let byte = piece[read];
-        if byte == 10 {
-            if out.len() - put < 11 * second.len() + 32 {
+        if byte == LINE_FEED {
+            if out.len() - put < STRIKE_ROOM * second.len() + ANSWER_ROOM {
                 return PieceProgress { line, read, put };
             }
             put = end_line(run, second, line, out, put);

@@ -5,6 +5,10 @@ ghost use Prim.Native.Nat.{_+_, _≤_};
 ghost use lib.ListN.{length};
 ghost use lib.Seq.{sets};
 ghost use Rattle.text.specs.Printing.{decimal, spacedNumber, spacedNumbers, valueOrNone, afterNumber, answerText};
+use crate::ascii::BASE;
+use crate::ascii::LINE_FEED;
+use crate::ascii::SPACE;
+use crate::ascii::ZERO;
 use word::answer::Answer;
 
 // The digits of a number, of any length.
@@ -13,23 +17,23 @@ fn put_digits(out: &mut [u8], at: usize, number: u32) -> usize
     ensures { λ r. ⌜ r ≡ at + length (decimal number) ⌝ }
     ensures { λ _. ⌜ now (out .exit) ≡ sets (now (out .entry)) at (decimal number) ⌝ }
 {
-    if number < 10 {
-        out[at] = 48 + (number % 10) as u8;
+    if number < BASE {
+        out[at] = ZERO + (number % BASE) as u8;
         return at + 1;
     }
-    let last = put_digits(out, at, number / 10);
-    out[last] = 48 + (number % 10) as u8;
+    let last = put_digits(out, at, number / BASE);
+    out[last] = ZERO + (number % BASE) as u8;
     last + 1
 }
 
-// The digits of a number. Most are below 10, and are put without a call.
+// The digits of a number. Most have one, and are put without a call.
 pub fn put_decimal(out: &mut [u8], at: usize, number: u32) -> usize
     requires { ⌜ at + length (decimal number) ≤ length (now out) ⌝ }
     ensures { λ r. ⌜ r ≡ at + length (decimal number) ⌝ }
     ensures { λ _. ⌜ now (out .exit) ≡ sets (now (out .entry)) at (decimal number) ⌝ }
 {
-    if number < 10 {
-        out[at] = 48 + (number % 10) as u8;
+    if number < BASE {
+        out[at] = ZERO + (number % BASE) as u8;
         return at + 1;
     }
     put_digits(out, at, number)
@@ -41,7 +45,7 @@ pub fn put_number(out: &mut [u8], at: usize, number: u32) -> usize
     ensures { λ r. ⌜ r ≡ at + length (spacedNumber number) ⌝ }
     ensures { λ _. ⌜ now (out .exit) ≡ sets (now (out .entry)) at (spacedNumber number) ⌝ }
 {
-    out[at] = 32;
+    out[at] = SPACE;
     put_decimal(out, at + 1, number)
 }
 
@@ -99,6 +103,6 @@ pub fn put_answer(out: &mut [u8], at: usize, answer: Answer, strikes: &[u32]) ->
 {
     let next = put_decimal(out, at, answer.number());
     let last = put_values(out, next, answer, strikes);
-    out[last] = 10;
+    out[last] = LINE_FEED;
     last + 1
 }

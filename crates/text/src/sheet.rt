@@ -1,40 +1,44 @@
 // A whole sheet, read to its end over any lent words.
 ghost use mathlib.Core.Path.{_≡_};
 ghost use mathlib.Core.List.{List, _∷_};
-ghost use Prim.Native.Nat.{ℕ};
+ghost use Prim.Native.Nat.{ℕ, min};
 ghost use lib.Dec.{T};
 ghost use lib.Seq.{sets};
 ghost use Rattle.book.specs.Books.{isBook};
 ghost use Rattle.book.specs.Made.{Made};
 ghost use Rattle.text.specs.Grammar.{callHeld};
+ghost use Rattle.text.specs.Reading.{numbersKept};
 ghost use Rattle.text.specs.Sheets.{LineBegins, LineMade, SheetRun};
 use crate::line::Line;
+use crate::line::NUMBERS_KEPT;
 use crate::line::read_line;
 use dispatch::make_call;
-use place::lookup::remembered_place;
 use scan::is_book;
 use word::answer::Answer;
 use word::answer::Refusal;
 
-// Makes the call of a line that has ended, whose class is looked for first at `near`.
-pub fn make_line(run: &mut [u32], second: &mut [u32], near: usize, line: Line) -> Answer
+// How many places of classes the lines of a sheet remember.
+pub const PLACES_REMEMBERED: usize = 1024;
+
+// How many of the numbers that a line keeps are its own.
+fn numbers_counted(count: usize) -> usize
+    ensures { λ r. ⌜ r ≡ min count numbersKept ⌝ }
+{
+    if count < NUMBERS_KEPT {
+        return count;
+    }
+    NUMBERS_KEPT
+}
+
+// Makes the call of a line that has ended, and lends it places.
+pub fn make_line(run: &mut [u32], second: &mut [u32], places: &mut [u32], line: Line) -> Answer
     requires { ⌜ T (isBook (now run)) ⌝ }
     ensures { λ r. ⌜ Made (callHeld line)
         (now (run .entry)) (now (second .entry)) r (now (run .exit)) (now (second .exit)) ⌝ }
 {
     let numbers = line.numbers;
-    make_call(
-        run,
-        second,
-        near,
-        line.letter as u32,
-        line.count,
-        numbers[0],
-        numbers[1],
-        numbers[2],
-        numbers[3],
-        numbers[4],
-    )
+    let count = numbers_counted(line.count);
+    make_call(run, second, places, line.letter as u32, &numbers[..count])
 }
 
 // The answer to a line, and where the next line begins.
@@ -44,7 +48,7 @@ struct LineAnswer {
 }
 
 // Makes the call of the line that begins at `from`, where `tested` says whether the run is a book.
-// Where its class is found is remembered in `places`.
+// The places of classes that were found are remembered in `places`.
 fn answer_line(
     run: &mut [u32],
     second: &mut [u32],
@@ -53,7 +57,7 @@ fn answer_line(
     sheet: &[u8],
     from: usize,
 ) -> LineAnswer
-    requires { ⌜ LineBegins (now run) (now places) tested (now sheet) from ⌝ }
+    requires { ⌜ LineBegins (now run) tested (now sheet) from ⌝ }
     ensures { λ r. ⌜ LineMade (now (run .entry)) (now (second .entry)) (now (sheet .entry)) from
         r (now (run .exit)) (now (second .exit)) ⌝ }
 {
@@ -70,9 +74,7 @@ fn answer_line(
             next: next,
         };
     }
-    let line = whole.line;
-    let near = remembered_place(run, places, line.numbers[0]);
-    let answer = make_line(run, second, near, line);
+    let answer = make_line(run, second, places, whole.line);
     LineAnswer { answer, next }
 }
 
@@ -95,7 +97,7 @@ pub fn run_sheet(run: &mut [u32], second: &mut [u32], sheet: &[u8], answers: &mu
         r (now (run .exit)) (now (second .exit)) (now (answers .exit)) ⌝ }
 {
     let tested = is_book(run);
-    let mut places = [0; 1024];
+    let mut places = [0; PLACES_REMEMBERED];
     let mut lines = 0;
     let mut at = 0;
     let mut from = 0;

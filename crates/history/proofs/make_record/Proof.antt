@@ -4,8 +4,9 @@ use Prim.Native.Nat.{_+_, _-_}
 use native.Mathlib.Omega.{arith}
 use lib.ListN.{getD, drop}
 use mir.Facts.{fits-widen}
-use Rattle.history.specs.Records.{countAt, numbersAt, callAt}
-use Rattle.history.proofs.Lent.{lent-front, numbers-counted}
+use Rattle.dispatch.proofs.NamedCalls.{counted-of}
+use Rattle.history.specs.Records.{countAt, numbersAt, numbersHeld, callAt}
+use Rattle.history.proofs.Lent.{lent-front}
 use borrow.Author.Needs.{needs}
 use Rattle.history.proofs.make_record.Statement.{statement}
 use Rattle.history.proofs.make_record.Tie as tie
@@ -116,7 +117,7 @@ returns c =
     let count = counted .lower2 .result in
     lent-front (callAt at calls) (lent .lower .result - 0) (omega (arith, lent .lower .ensures)) (start .pre .0)
     (rw
-    (numbers-counted (getD calls (at + countAt) 0) (at + numbersAt + count - (at + numbersAt))
+    (counted-of numbersHeld (getD calls (at + countAt) 0) (at + numbersAt + count - (at + numbersAt))
     (drop (at + numbersAt) calls) (omega (arith, counted .lower2 .ensures)))
     at (made .make-call .ensures))
 

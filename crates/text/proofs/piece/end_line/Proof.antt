@@ -3,6 +3,9 @@ use borrow.Author.Needs.{needs}
 use Rattle.text.proofs.piece.end_line.Statement.{statement}
 use Rattle.text.proofs.piece.end_line.Tie as tie
 
+slice-aggregate-print-line : tie.Need-slice-aggregate-print-line
+slice-aggregate-print-line c = search needs
+
 end-requires : tie.Need-end-requires
 end-requires c κs = search needs
 
@@ -21,10 +24,10 @@ same-length-3 c = search needs
 returns : tie.Need-returns
 returns c =
     let second = c .before .before .before .before in
-    let printed = second .before .before in
+    let printed = second .before .before .before in
     rw (printed .before .before .end .ensures) at (printed .print-line .ensures)
 
 pub end-line-spec : {M : Type 1} → statement M
 end-line-spec =
     tie.close
-    (tie.spec end-requires print-line-requires same-length same-length-2 same-length-3 returns)
+    (tie.spec slice-aggregate-print-line end-requires print-line-requires same-length same-length-2 same-length-3 returns)

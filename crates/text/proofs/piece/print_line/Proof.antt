@@ -2,21 +2,25 @@
 -- Assumes nothing.
 use borrow.Author.Needs.{needs}
 use native.Mathlib.Omega.{arith}
-use Rattle.text.proofs.Replies.{count-fits, reply-fits, line-ended}
+use Rattle.text.proofs.LineReplies.{count-fits, reply-fits, line-ended}
 use Rattle.text.proofs.piece.print_line.Statement.{statement}
 use Rattle.text.proofs.piece.print_line.Tie as tie
 
 -- where the call has been made, from where its strikes are counted
 abbrev making : tie.After-strikes-listed → tie.After-make-line
 making counted =
-    let second = counted .before .before in
+    let second = counted .before .before .before .before in
     second .before .before .before
 
 -- where the function is entered
 abbrev entry : tie.After-make-line → tie.Start
 entry made =
-    let lent = made .before .before in
+    let lent = made .before .before .before .before in
     lent .before .before .before .before
+
+-- where the second run that the call leaves is known to be words
+abbrev left : tie.After-strikes-listed → tie.After-slice-known6
+left counted = counted .before .before .before
 
 make-line-requires : tie.Need-make-line-requires
 make-line-requires c κs = search needs
@@ -44,7 +48,7 @@ put-answer-requires c κs =
       arith,
       made .make-line .kept .1 .0,
       reply-fits (entry made .pre .0) (made .make-line .ensures) (counted .strikes-listed .ensures)
-          _ (made .make-line .ok) (λ k. omega (arith, counted .before .slice-known5 .given k)),
+          _ (made .make-line .ok) (λ k. omega (arith, left counted .slice-known6 .given k)),
     )
 
 same-length : tie.Need-same-length
@@ -56,13 +60,16 @@ same-length-2 c = search needs
 same-length-3 : tie.Need-same-length-3
 same-length-3 c = search needs
 
+same-length-4 : tie.Need-same-length-4
+same-length-4 c = search needs
+
 returns : tie.Need-returns
 returns c =
     let printing = c .before .before in
     let counted = printing .before .before .before .before in
     let made = making counted in
     line-ended (entry made .pre .0) (made .make-line .ensures) (counted .strikes-listed .ensures)
-    _ (made .make-line .ok) (λ k. omega (arith, counted .before .slice-known5 .given k)) (made .make-line .kept .1 .0)
+    _ (made .make-line .ok) (λ k. omega (arith, left counted .slice-known6 .given k)) (made .make-line .kept .1 .0)
     (entry made .pre .1) (printing .put-answer .ensures .1) (printing .put-answer .ensures .0)
 
 pub print-line-spec : {M : Type 1} → statement M
@@ -78,4 +85,5 @@ print-line-spec =
     same-length
     same-length-2
     same-length-3
+    same-length-4
     returns)

@@ -1,7 +1,7 @@
 -- `read_lines` reads whole lines as far as there is room: `Onward` holds at each, and where the loop is left it is what
 -- the contract says. Assumes nothing.
 use Prim.Native.Nat.{_-_}
-use mathlib.Core.Path.{_≡_, _∙_}
+use mathlib.Core.Path.{_≡_, refl, _∙_}
 use native.Mathlib.Omega.{arith}
 use lib.ListN.{length}
 use borrow.Author.Needs.{needs}
@@ -11,7 +11,7 @@ use Rattle.text.proofs.piece.read_lines.Tie as tie
 
 abbrev Inv-loop : tie.InvT-loop
 Inv-loop run₀ second₀ piece from out₀ at places₀ put₀ read₀ run second out places put read =
-    Onward run₀ second₀ piece from out₀ at run second out put read × (length places ≡ 1024)
+    Onward run₀ second₀ piece from out₀ at run second out put read × (length places ≡ length places₀)
 
 abbrev μ-loop : tie.MeasureT-loop
 μ-loop run₀ second₀ piece from out₀ at places₀ put₀ read₀ run second out places put read =
@@ -20,7 +20,7 @@ abbrev μ-loop : tie.MeasureT-loop
 loop-holds : tie.Need-loop-holds Inv-loop μ-loop
 loop-holds c =
     let start = c .before .before .before .before in
-    (onward-start _ _ _ _ _ _ (start .pre .book) (start .pre .inside) (start .pre .fits), search needs)
+    (onward-start _ _ _ _ _ _ (start .pre .book) (start .pre .inside) (start .pre .fits), refl)
 
 read-line-requires : tie.Need-read-line-requires Inv-loop μ-loop
 read-line-requires c κs = omega arith
@@ -46,45 +46,30 @@ same-length-3 c = omega arith
 returns : tie.Need-returns Inv-loop μ-loop
 returns c = c .before .before .before .loop .inv .0 .lines
 
-slice-aggregate-remembered-place : tie.Need-slice-aggregate-remembered-place Inv-loop μ-loop
-slice-aggregate-remembered-place c = search needs
+slice-aggregate-print-line : tie.Need-slice-aggregate-print-line Inv-loop μ-loop
+slice-aggregate-print-line c = search needs
 
-element-copy-out-remembered-place : tie.Need-element-copy-out-remembered-place Inv-loop μ-loop
-element-copy-out-remembered-place c = search needs
-
--- where a line was read whole and its answer has room, from where its class was looked for
-abbrev testing : tie.After-remembered-place Inv-loop μ-loop → tie.Else1 Inv-loop μ-loop
-testing remembered =
-    let line = remembered .before .before .before .before in
-    line .before
-
--- where its class was looked for, from where its answer is printed
-abbrev remembering : tie.After-print-line Inv-loop μ-loop → tie.After-remembered-place Inv-loop μ-loop
-remembering printed =
-    let lent = printed .before .before .before in
-    lent .before .before
+-- where a line was read whole and its answer has room, from where its answer is printed
+abbrev testing : tie.After-print-line Inv-loop μ-loop → tie.Else1 Inv-loop μ-loop
+testing printed =
+    let arguments = printed .before .before .before in
+    arguments .before .before
 
 -- where its answer is printed, from the end of the turn
 abbrev printing : tie.After-slice-known6 Inv-loop μ-loop → tie.After-print-line Inv-loop μ-loop
 printing c =
-    let second = c .before .before .before in
+    let second = c .before .before .before .before in
     second .before .before .before
-
-remembered-place-requires : tie.Need-remembered-place-requires Inv-loop μ-loop
-remembered-place-requires c κs =
-    let whole = c .before .before .before .before in
-    let line = whole .before .before in
-    (line .before .loop .inv .0 .lines .book, search needs)
 
 print-line-requires : tie.Need-print-line-requires Inv-loop μ-loop
 print-line-requires c κs =
-    let tested = testing (c .before .before .before .before) in
+    let tested = c .before .before .before .before in
     let going = tested .before .before .before .loop .inv .0 in
     (going .lines .book, onward-room going (tested .before .read-line .result .end) (tested .if1 .left))
 
 add-read : tie.Need-add-read Inv-loop μ-loop
 add-read c =
-    let whole = testing (remembering (printing c)) .before in
+    let whole = testing (printing c) .before in
     let lent = whole .before .before .before .before in
     omega (arith, whole .read-line .ensures .within, lent .before .before .before .good .1 .1 .0)
 
@@ -94,13 +79,12 @@ loop-less c = omega arith
 loop-again : tie.Need-loop-again Inv-loop μ-loop
 loop-again c =
     let printed = printing c .print-line in
-    let remembered = remembering (printing c) in
-    let tested = testing remembered in
+    let tested = testing (printing c) in
     let whole = tested .before in
     let going = whole .before .before .loop .inv in (
       onward-more (going .0) (whole .read-line .result .end) (tested .if1 .left) (whole .read-line .ensures)
           (printed .ensures) (printed .kept .0) (printed .kept .1 .0) (printed .kept .1 .1 .1 .1 .0),
-      remembered .remembered-place .kept .1 .0 ∙ going .1,
+      printed .kept .1 .1 .0 ∙ going .1,
     )
 
 same-length-4 : tie.Need-same-length-4 Inv-loop μ-loop
@@ -130,9 +114,7 @@ read-lines-spec =
     same-length-2
     same-length-3
     returns
-    slice-aggregate-remembered-place
-    element-copy-out-remembered-place
-    remembered-place-requires
+    slice-aggregate-print-line
     print-line-requires
     add-read
     loop-less

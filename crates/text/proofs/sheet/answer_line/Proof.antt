@@ -10,7 +10,7 @@ use Rattle.book.specs.Books.{isBook}
 use Rattle.logic.proofs.Tests.{true-T}
 use Rattle.book.proofs.Answered.{made-no-book}
 use Rattle.text.specs.Sheets.{lineAt}
-use Rattle.text.proofs.Made.{made-read}
+use Rattle.text.proofs.CallsRead.{made-read}
 use Rattle.text.proofs.sheet.answer_line.Statement.{statement}
 use Rattle.text.proofs.sheet.answer_line.Tie as tie
 
@@ -19,6 +19,12 @@ abbrev entry : tie.After-read-line → tie.Start
 entry read =
     let lent = read .before .before in
     lent .before .before .before
+
+-- where the call has been made, from the end
+abbrev making : tie.After-slice-known6 → tie.After-make-line
+making c =
+    let second = c .before .before .before in
+    second .before .before .before
 
 read-line-requires : tie.Need-read-line-requires
 read-line-requires c κs = search needs
@@ -42,17 +48,8 @@ is-a-book c =
     let start = entry (c .before .before) in
     true-T _ (sym (start .pre .book) ∙ not-false (start .args .tested) (c .if2 .left))
 
-element-copy-out-remembered-place : tie.Need-element-copy-out-remembered-place
-element-copy-out-remembered-place c = search needs
-
-remembered-place-requires : tie.Need-remembered-place-requires
-remembered-place-requires c κs = (is-a-book (c .before .before .before .before), search needs)
-
 make-line-requires : tie.Need-make-line-requires
-make-line-requires c κs =
-    let remembered = c .before .before .before .before in
-    let tested = remembered .before .before .before .before in
-    is-a-book (tested .before)
+make-line-requires c κs = is-a-book (c .before .before .before)
 
 same-length : tie.Need-same-length
 same-length c = search needs
@@ -65,11 +62,8 @@ same-length-3 c = search needs
 
 returns-2 : tie.Need-returns-2
 returns-2 c =
-    let made = c .before .before .before .before in
-    let arguments = made .before .before in
-    let remembered = arguments .before .before .before in
-    let finding = remembered .before .before .before in
-    let tested = finding .before .before in
+    let made = making c in
+    let tested = made .before .before .before .before in
     let read = tested .before .before in
     let start = entry read in
     let whole = read .read-line .ensures in
@@ -86,8 +80,6 @@ answer-line-spec =
     read-line-requires
     add-next
     returns
-    element-copy-out-remembered-place
-    remembered-place-requires
     make-line-requires
     same-length
     same-length-2

@@ -1,38 +1,56 @@
--- `make_line` makes the call of the letter and the numbers that the line holds: its five numbers are those handed on.
--- Assumes nothing.
-use mathlib.Core.Path.{_≡_}
-use lib.ListN.{length}
+-- `make_line` makes the call of the letter and the numbers that the line holds: those that it counts, or all that it
+-- keeps, are handed on. Assumes nothing.
+use Prim.Native.Nat.{_≤_}
+use mathlib.Core.Path.{_≡_, sym, ap, _∙_}
+use native.Mathlib.Omega.{arith}
+use lib.ListN.{length, take}
+use lib.Seq.{take-all, length-take-le}
+use Rattle.dispatch.proofs.NamedCalls.{counted-of}
+use Rattle.text.specs.Reading.{numbersKept}
 use borrow.Author.Needs.{needs}
-use Rattle.text.proofs.Made.{five-numbers}
 use Rattle.text.proofs.sheet.make_line.Statement.{statement}
 use Rattle.text.proofs.sheet.make_line.Tie as tie
 
--- where the function is entered, from where the line is known
-abbrev entry : tie.After-struct-known → tie.Start
-entry known =
-    let numbers = known .before .before .before in
-    numbers .before .before .before
+-- where the numbers are counted, from where the line is known
+abbrev counting : tie.After-struct-known → tie.After-numbers-counted
+counting known = known .before .before .before .before
 
-five : (known : tie.After-struct-known) → length (entry known .args .line .numbers) ≡ 5
-five known = search needs
+-- where the function is entered
+abbrev entry : tie.After-numbers-counted → tie.Start
+entry counted =
+    let numbers = counted .before in
+    numbers .before .before .before .before
+
+kept : (known : tie.After-struct-known) → length (entry (counting known) .args .line .numbers) ≡ numbersKept
+kept known = search needs
+
+fits :
+    (known : tie.After-struct-known)
+    → counting known .numbers-counted .result ≤ length (entry (counting known) .args .line .numbers)
+fits known = omega (arith, kept known, counting known .numbers-counted .ensures)
+
+-- the numbers that are handed on are those that the line counts
+handed :
+    (known : tie.After-struct-known)
+    → let line = entry (counting known) .args .line in
+    take (counting known .numbers-counted .result) (line .numbers) ≡ take (line .count) (line .numbers)
+handed known =
+    let counted = counting known .numbers-counted in
+    let line = entry (counting known) .args .line in
+    counted-of numbersKept (line .count) (counted .result) (line .numbers) (counted .ensures)
+    ∙ ap (take (line .count)) (take-all numbersKept (line .numbers) (omega (arith, kept known)))
+
+numbers-counted-requires : tie.Need-numbers-counted-requires
+numbers-counted-requires c κs = search needs
 
 cast-make-call : tie.Need-cast-make-call
 cast-make-call c = search needs
 
-array-read-make-call : tie.Need-array-read-make-call
-array-read-make-call c = search needs
+array-share-prefix-numbers : tie.Need-array-share-prefix-numbers
+array-share-prefix-numbers c = fits c
 
-array-read-make-call-2 : tie.Need-array-read-make-call-2
-array-read-make-call-2 c = search needs
-
-array-read-make-call-3 : tie.Need-array-read-make-call-3
-array-read-make-call-3 c = search needs
-
-array-read-make-call-4 : tie.Need-array-read-make-call-4
-array-read-make-call-4 c = search needs
-
-array-read-make-call-5 : tie.Need-array-read-make-call-5
-array-read-make-call-5 c = search needs
+slice-aggregate-make-call : tie.Need-slice-aggregate-make-call
+slice-aggregate-make-call c = sym (length-take-le _ _ (fits (c .before)))
 
 make-call-requires : tie.Need-make-call-requires
 make-call-requires c κs = search needs
@@ -43,22 +61,25 @@ same-length c = search needs
 same-length-2 : tie.Need-same-length-2
 same-length-2 c = search needs
 
+same-length-3 : tie.Need-same-length-3
+same-length-3 c = search needs
+
 returns : tie.Need-returns
 returns c =
-    let made = c .before .before .before .before in
-    rw (five-numbers (entry (made .before) .args .line .numbers) (five (made .before))) (made .make-call .ensures)
+    let lent = c .before .before .before in
+    let made = lent .before .before .before in
+    rw (handed (made .before .before)) at (made .make-call .ensures)
 
 pub make-line-spec : {M : Type 1} → statement M
 make-line-spec =
     tie.close
     (tie.spec
+    numbers-counted-requires
     cast-make-call
-    array-read-make-call
-    array-read-make-call-2
-    array-read-make-call-3
-    array-read-make-call-4
-    array-read-make-call-5
+    array-share-prefix-numbers
+    slice-aggregate-make-call
     make-call-requires
     same-length
     same-length-2
+    same-length-3
     returns)

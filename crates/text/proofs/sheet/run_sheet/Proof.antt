@@ -1,7 +1,7 @@
 -- `run_sheet` reads the sheet to its end: what the lines that are left make of the present words is what the whole
 -- sheet makes of the first ones. Assumes nothing.
 use Prim.Native.Nat.{_-_}
-use mathlib.Core.Path.{_≡_, _∙_}
+use mathlib.Core.Path.{_≡_, refl, _∙_}
 use native.Mathlib.Omega.{arith}
 use lib.ListN.{length}
 use borrow.Author.Needs.{needs}
@@ -11,7 +11,7 @@ use Rattle.text.proofs.sheet.run_sheet.Tie as tie
 
 abbrev Inv-loop : tie.InvT-loop
 Inv-loop run₀ second₀ sheet answers₀ tested places₀ lines₀ at₀ from₀ run second answers places lines at from =
-    Reading run₀ second₀ sheet answers₀ tested run second answers lines at from × (length places ≡ 1024)
+    Reading run₀ second₀ sheet answers₀ tested run second answers lines at from × (length places ≡ length places₀)
 
 abbrev μ-loop : tie.MeasureT-loop
 μ-loop run₀ second₀ sheet answers₀ tested places₀ lines₀ at₀ from₀ run second answers places lines at from =
@@ -33,7 +33,7 @@ is-book-requires : tie.Need-is-book-requires Inv-loop μ-loop
 is-book-requires c κs = search needs
 
 loop-holds : tie.Need-loop-holds Inv-loop μ-loop
-loop-holds c = (read-start _ _ _ _ (c .is-book .ensures), search needs)
+loop-holds c = (read-start _ _ _ _ (c .is-book .ensures), refl)
 
 slice-aggregate-answer-line : tie.Need-slice-aggregate-answer-line Inv-loop μ-loop
 slice-aggregate-answer-line c = search needs

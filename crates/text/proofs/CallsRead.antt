@@ -14,17 +14,6 @@ use Rattle.text.specs.Grammar.{callIn, callHeld}
 use Rattle.text.proofs.Limited.{same-answer, same-written, same-step}
 use Rattle.text.proofs.Lines.{call-read}
 
--- an array of five numbers
-pub five-numbers :
-    (ns : List ℕ) → length ns ≡ 5 → ns ≡ getD ns 0 0 ∷ getD ns 1 0 ∷ getD ns 2 0 ∷ getD ns 3 0 ∷ getD ns 4 0 ∷ []
-five-numbers [] e = absurd (omega arith)
-five-numbers (a ∷ []) e = absurd (omega arith)
-five-numbers (a ∷ b ∷ []) e = absurd (omega arith)
-five-numbers (a ∷ b ∷ c ∷ []) e = absurd (omega arith)
-five-numbers (a ∷ b ∷ c ∷ d ∷ []) e = absurd (omega arith)
-five-numbers (a ∷ b ∷ c ∷ d ∷ f ∷ []) e = refl
-five-numbers (a ∷ b ∷ c ∷ d ∷ f ∷ g ∷ more) e = absurd (omega arith)
-
 -- the call of the line l, which has been read in s
 pub made-read :
     (s : List ℕ) {w v w′ v′ : List ℕ} {r : Answer} {l : Line} → l ≡ lineOf s → Made (callHeld l) w v r w′ v′
