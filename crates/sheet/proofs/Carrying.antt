@@ -23,14 +23,14 @@ use Rattle.text.specs.Pieces.{Reader, callMade, bytesRead, hasBegun, lastEnded,
 use Rattle.text.proofs.Readers.{unprinted, bytes-append, bytes-unprinted, last-unprinted, taken-within, taken-some}
 use Rattle.text.proofs.Pieces.{sheet-read}
 use Rattle.sheet.specs.declared.Turn.{Turn}
-use Rattle.sheet.specs.Runs.{Left, Carried, AfterBytes, TurnTaken, AllRead, SheetRead}
+use Rattle.sheet.specs.InputRead.{bookLength, Left, Carried, AfterBytes, TurnTaken, AllRead, SheetRead}
 
--- ---- a fresh book of 4,096 words
+-- ---- a fresh book of the program's length
 
-pub good-length : {n : ℕ} → 4096 ≡ n → T (isLength n)
+pub good-length : {n : ℕ} → bookLength ≡ n → T (isLength n)
 good-length e = subst (λ (n : ℕ). T (isLength n)) e tt
 
-pub fresh-book : {n : ℕ} {w : List ℕ} → 4096 ≡ n → w ≡ layout n fresh → T (isBook w)
+pub fresh-book : {n : ℕ} {w : List ℕ} → bookLength ≡ n → w ≡ layout n fresh → T (isBook w)
 fresh-book {n} e is = rw is (book-layout n fresh (fresh-well-formed n (good-length e)))
 
 -- ---- what is carried does not depend on what was printed
@@ -113,7 +113,8 @@ module _
 
     -- some of it is read, and no more than it has
     pub some-read :
-        {out run′ second′ out′ : List ℕ} {r : PieceProgress} → from < length piece → lineRoom (length second) ≤ length out
+        {out run′ second′ out′ : List ℕ} {r : PieceProgress} → from < length piece
+        → lineRoom (length second) ≤ length out
         → Pieced run second (take (length piece - from) (drop from piece)) out line r run′ second′ out′
         → (0 < r .read) × (from + r .read ≤ length piece)
     some-read {out} h enough p =
@@ -127,7 +128,8 @@ module _
         (omega (arith, is), omega (arith, is, g .within))
 
     pub reading-more :
-        {out run′ second′ out′ : List ℕ} {r : PieceProgress} → from < length piece → lineRoom (length second) ≤ length out
+        {out run′ second′ out′ : List ℕ} {r : PieceProgress} → from < length piece
+        → lineRoom (length second) ≤ length out
         → Pieced run second (take (length piece - from) (drop from piece)) out line r run′ second′ out′
         → length run′ ≡ length run → length second′ ≡ length second
         → Reading w v piece line₀ run′ second′ (r .line) (from + r .read)
@@ -220,7 +222,7 @@ last-made line begins ended = rw begins (record { words = ended .words; second =
 -- ---- the whole sheet
 
 pub sheet-left :
-    {w v w₁ w₂ v₂ w₃ v₃ : List ℕ} {line : Line} → 4096 ≡ length w → w₁ ≡ layout (length w) fresh
+    {w v w₁ w₂ v₂ w₃ v₃ : List ℕ} {line : Line} → bookLength ≡ length w → w₁ ≡ layout (length w) fresh
     → length w₁ ≡ length w → AllRead w₁ v line w₂ v₂ → length w₂ ≡ length w₁ → length v₂ ≡ length v
     → Left (length w₂) (lastEnded (length w₂) (length v₂) (begun w₂ v₂ line)) w₃ v₃ → SheetRead w v w₃ v₃
 sheet-left {w} {v} {w₁} {w₂} {v₂} {w₃} {v₃} {line} e is long all size room left =

@@ -1,2 +1,2 @@
 -- What the sheet program leaves.
-pub mod Runs
+pub mod InputRead

@@ -8,7 +8,7 @@ ghost use Rattle.book.specs.Facts.{fresh};
 ghost use Rattle.book.specs.Layout.{layout};
 ghost use Rattle.book.specs.Books.{isBook};
 ghost use Rattle.text.specs.Pieces.{lineRoom, begun, lastEnded};
-ghost use Rattle.sheet.specs.Runs.{Left, AfterBytes, TurnTaken, AllRead, SheetRead};
+ghost use Rattle.sheet.specs.InputRead.{bookLength, Left, AfterBytes, TurnTaken, AllRead, SheetRead};
 use libc::STDIN_FILENO;
 use libc::STDOUT_FILENO;
 use scan::fresh;
@@ -18,6 +18,11 @@ use text::line::empty;
 use text::piece::end_line;
 use text::piece::read_piece;
 
+// The words of the book, and of the second run.
+const BOOK_LENGTH: usize = 4096;
+
+const SECOND_LENGTH: usize = 512;
+
 // How many bytes were read, none at the end of the input, and the line that has not ended.
 struct Turn {
     count: usize,
@@ -26,7 +31,7 @@ struct Turn {
 
 // Makes a fresh book of the run.
 fn begin(run: &mut [u32])
-    requires { ⌜ 4096 ≡ length (now run) ⌝ }
+    requires { ⌜ bookLength ≡ length (now run) ⌝ }
     ensures { λ _. ⌜ now (run .exit) ≡ layout (length (now (run .entry))) fresh ⌝ }
 {
     fresh(run);
@@ -108,7 +113,7 @@ fn end_last(run: &mut [u32], second: &mut [u32], line: Line, out: &mut [u8])
 
 // The whole sheet, over a fresh book.
 fn run_sheet(run: &mut [u32], second: &mut [u32], input: &mut [u8], out: &mut [u8])
-    requires { ⌜ (4096 ≡ length (now run)) × (lineRoom (length (now second)) ≤ length (now out)) ⌝ }
+    requires { ⌜ (bookLength ≡ length (now run)) × (lineRoom (length (now second)) ≤ length (now out)) ⌝ }
     ensures { λ _. ⌜ SheetRead (now (run .entry)) (now (second .entry)) (now (run .exit)) (now (second .exit)) ⌝ }
 {
     begin(run);
@@ -117,8 +122,8 @@ fn run_sheet(run: &mut [u32], second: &mut [u32], input: &mut [u8], out: &mut [u
 }
 
 fn main() {
-    let mut book = [0u32; 4096];
-    let mut second = [0u32; 512];
+    let mut book = [0u32; BOOK_LENGTH];
+    let mut second = [0u32; SECOND_LENGTH];
     let mut input = io::large_buffer();
     let mut out = io::large_buffer();
     run_sheet(&mut book, &mut second, &mut input, &mut out);

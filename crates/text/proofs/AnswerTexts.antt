@@ -11,6 +11,7 @@ use Rattle.word.specs.declared.answer.Answer.the-variants.{Done, Ground, Remove
 use Rattle.word.specs.declared.answer.Refusal.{Refusal}
 use Rattle.word.specs.Answers.{refusalValue, answerNumber}
 use Rattle.logic.proofs.Stores.{sets-append}
+use Rattle.text.specs.Alphabet.{lineFeed}
 use Rattle.text.specs.Printing.{decimal, spacedNumber, spacedNumbers, valueOrNone, afterNumber, answerText}
 use Rattle.text.proofs.SpacedNumbers.{one-number}
 
@@ -56,4 +57,4 @@ unfolding answerText
 length-whole answer strikes =
     let number : List ℕ = decimal (answerNumber answer) in
     let rest : List ℕ = spacedNumbers (afterNumber answer strikes) in
-    omega (arith, length-append number (rest ++ (10 ∷ [])), length-append rest (10 ∷ []))
+    omega (arith, length-append number (rest ++ (lineFeed ∷ [])), length-append rest (lineFeed ∷ []))

@@ -19,17 +19,25 @@ use Rattle.word.specs.Answers.{refusalNumber, refusalValue, answerNumber, answe
 use Rattle.word.proofs.answer.Answer.{the-type as answer-type}
 use Rattle.word.proofs.answer.Refusal.{the-type as refusal-type}
 use Rattle.text.specs.Printing.{spacedNumber, spacedNumbers, valueOrNone, afterNumber, answerText}
-use Rattle.text.specs.Pieces.{lineRoom}
+use Rattle.text.specs.Pieces.{strikeRoom, lineRoom}
 use Rattle.logic.proofs.Tests.{bool-cases}
 use Rattle.text.proofs.Decimals.{length-decimal}
 use Rattle.text.proofs.SpacedNumbers.{one-number}
 use Rattle.text.proofs.AnswerTexts.{length-whole}
 
--- ---- a value of the type holds a number below 100 and a value of 32 bits
+-- a number of 32 bits is below it
+abbrev pub wordLimit : ℕ
+wordLimit = 4294967296
+
+-- an answer's number is below it
+abbrev numberLimit : ℕ
+numberLimit = 100
+
+-- ---- a value of the type holds a number of two digits and a value of 32 bits
 
 refusal-below :
     (why : Refusal) (vs : List Val) → Is (row refusal-type) why vs
-    → (refusalNumber why < 100) × (refusalValue why < 4294967296)
+    → (refusalNumber why < numberLimit) × (refusalValue why < wordLimit)
 refusal-below NotABook vs ok = (omega arith, omega arith)
 refusal-below BeyondLimits vs ok = (omega arith, omega arith)
 refusal-below AlreadyOpen vs ok = (omega arith, omega arith)
@@ -48,7 +56,7 @@ refusal-below (OutOfWords count) vs ok = (omega arith, omega arith)
 
 answer-below :
     (answer : Answer) (vs : List Val) → Is (row answer-type) answer vs
-    → (answerNumber answer < 100) × (answerValue answer < 4294967296)
+    → (answerNumber answer < numberLimit) × (answerValue answer < wordLimit)
 answer-below Done vs ok = (omega arith, omega arith)
 answer-below (Ground g) vs ok = (omega arith, omega arith)
 answer-below (Removed count) vs ok = (omega arith, omega arith)
@@ -60,10 +68,10 @@ answer-below (Refused why) vs ok =
 -- ---- what is printed of it
 
 -- a number of 32 bits, after a space
-number-bound : (v : ℕ) → v < 4294967296 → length (spacedNumber v) ≤ 11
+number-bound : (v : ℕ) → v < wordLimit → length (spacedNumber v) ≤ strikeRoom
 number-bound v h = omega (arith, length-decimal 9 v (omega arith))
 
-numbers-bound : (vs : List ℕ) → ((k : ℕ) → getD vs k 0 < 4294967296) → length (spacedNumbers vs) ≤ 11 * length vs
+numbers-bound : (vs : List ℕ) → ((k : ℕ) → getD vs k 0 < wordLimit) → length (spacedNumbers vs) ≤ strikeRoom * length vs
 unfolding spacedNumbers
 numbers-bound [] small = omega arith
 numbers-bound (v ∷ vs) small =
@@ -74,7 +82,7 @@ numbers-bound (v ∷ vs) small =
       numbers-bound vs (λ k. small (suc k)),
     )
 
-value-bound : (v : ℕ) → v < 4294967296 → length (spacedNumbers (valueOrNone v)) ≤ 11
+value-bound : (v : ℕ) → v < wordLimit → length (spacedNumbers (valueOrNone v)) ≤ strikeRoom
 unfolding valueOrNone spacedNumbers
 value-bound v h =
     ⊎-elim
@@ -82,10 +90,10 @@ value-bound v h =
     (λ (e : eqb v 0 ≡ false). simp e (omega (arith, ap length (one-number v), number-bound v h)))
     (bool-cases (eqb v 0))
 
-module _ (strikes : List ℕ) (each : (k : ℕ) → getD strikes k 0 < 4294967296) where
+module _ (strikes : List ℕ) (each : (k : ℕ) → getD strikes k 0 < wordLimit) where
   after-bound :
-      (answer : Answer) → answerValue answer < 4294967296
-      → length (spacedNumbers (afterNumber answer strikes)) ≤ 11 + 11 * length strikes
+      (answer : Answer) → answerValue answer < wordLimit
+      → length (spacedNumbers (afterNumber answer strikes)) ≤ strikeRoom + strikeRoom * length strikes
   unfolding afterNumber spacedNumbers
   after-bound Done small = omega arith
   after-bound (Ground g) small = omega (arith, ap length (one-number g), number-bound g small)

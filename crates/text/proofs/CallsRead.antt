@@ -1,10 +1,9 @@
 -- The call of a line that has been read, made on any words: what it makes of them is what the call on the sheet makes,
 -- since the plain book judges both alike. Assumes nothing.
 use Prim.Native.Nat.{ℕ}
-use mathlib.Core.Path.{_≡_, refl}
-use mathlib.Core.List.{List, [], _∷_}
-use native.Mathlib.Omega.{arith}
-use lib.ListN.{length, getD}
+use mathlib.Core.Path.{_≡_}
+use mathlib.Core.List.{List}
+use lib.ListN.{length}
 use Rattle.word.specs.declared.answer.Answer.{Answer}
 use Rattle.book.specs.Layout.{factsOf}
 use Rattle.book.specs.Made.{Made}

@@ -22,7 +22,7 @@ use Rattle.book.proofs.Order.{written-count}
 use Rattle.book.proofs.Followed.{made-words, made-book}
 use Rattle.text.specs.Printing.{answerText, replyTo}
 use Rattle.text.specs.Pieces.{lineRoom, Ended}
-use Rattle.text.proofs.Bounds.{answer-bound}
+use Rattle.text.proofs.Bounds.{wordLimit, answer-bound}
 
 -- the numbers at the front of a list are among its numbers
 each-front : (l : List ℕ) (n : ℕ) {limit : ℕ} → ((k : ℕ) → getD l k 0 < limit) → (k : ℕ) → getD (take n l) k 0 < limit
@@ -64,7 +64,7 @@ module _
         rw (front, answer-said)
 
     pub reply-fits :
-        (vs : List Val) → Is (row the-type) answer vs → ((k : ℕ) → getD v′ k 0 < 4294967296)
+        (vs : List Val) → Is (row the-type) answer vs → ((k : ℕ) → getD v′ k 0 < wordLimit)
         → length (answerText answer (take (count - 0) v′)) ≤ lineRoom (length v′)
     reply-fits vs ok each =
         let front = take (count - 0) v′ in
@@ -76,7 +76,7 @@ module _
 
     pub line-ended :
         {out out′ : List ℕ} {at r : ℕ} (vs : List Val) → Is (row the-type) answer vs
-        → ((k : ℕ) → getD v′ k 0 < 4294967296) → length v′ ≡ length v → at + lineRoom (length v) ≤ length out
+        → ((k : ℕ) → getD v′ k 0 < wordLimit) → length v′ ≡ length v → at + lineRoom (length v) ≤ length out
         → out′ ≡ sets out at (answerText answer (take (count - 0) v′))
         → r ≡ at + length (answerText answer (take (count - 0) v′)) → Ended x w v out at r w′ v′ out′
     line-ended vs ok each size enough printed next =

@@ -18,7 +18,8 @@ use Rattle.book.specs.Letters.{callOf}
 use Rattle.text.specs.declared.line.Phase.{Phase}
 use Rattle.text.specs.declared.line.Phase.the-variants.{Start, Letter, Space, Zero, Number, Malformed}
 use Rattle.text.specs.declared.line.Line.{Line}
-use Rattle.text.specs.Reading.{capped, zeros, malformedLine, pushOf, emptyLine, runOf, endBy, lineOf}
+use Rattle.text.specs.Alphabet.{firstLetter, lastLetter}
+use Rattle.text.specs.Reading.{numbersKept, capped, zeros, malformedLine, pushOf, emptyLine, runOf, endBy, lineOf}
 use Rattle.text.specs.Grammar.{Formed, numberIn, isNumeral, firstPart, laterParts, callOfParts, callIn, held, callHeld}
 use Rattle.text.proofs.Complete.{complete}
 use Rattle.text.proofs.Sound.{sound}
@@ -31,7 +32,7 @@ pub formed-call : {s : List ℕ} {c : ℕ} {ts : List (List ℕ)} → Formed s c
 unfolding callOfParts
 formed-call {s} {c} {ts} f =
     rw (first-formed f, later-formed f)
-    (simp (le-leb 65 c (f .low), le-leb c 90 (f .high), numerals-true (f .numerals)))
+    (simp (le-leb firstLetter c (f .low), le-leb c lastLetter (f .high), numerals-true (f .numerals)))
 
 -- any line is malformed, or it is of the form
 parted :
@@ -40,10 +41,10 @@ parted :
 unfolding callOfParts
 parted s [] e = inl refl
 parted s (c ∷ []) e =
-    let test : Bool = between 65 90 c && every isNumeral (laterParts s) in
+    let test : Bool = between firstLetter lastLetter c && every isNumeral (laterParts s) in
     ⊎-elim
     (λ (h : test ≡ true).
-    let range = between-both 65 90 c (search parts) in
+    let range = between-both firstLetter lastLetter c (search parts) in
     let numerals = true-numerals (laterParts s) (search parts) in
     inr (c, record { low = range .0; high = range .1; numerals = numerals; same = rw e at (joined s) }))
     (λ (h : test ≡ false). inl (rw h))
@@ -56,7 +57,7 @@ formed-or-malformed s = parted s (firstPart s) refl
 -- ---- the call that is read
 
 -- the numbers that a line of the form keeps
-numbers-kept : (ns : List ℕ) → length ns ≤ 5 → take (length ns) (sets zeros 0 ns) ≡ ns
+numbers-kept : (ns : List ℕ) → length ns ≤ numbersKept → take (length ns) (sets zeros 0 ns) ≡ ns
 numbers-kept [] h = refl
 numbers-kept (a ∷ []) h = refl
 numbers-kept (a ∷ b ∷ []) h = refl
@@ -70,7 +71,7 @@ length-held [] = refl
 length-held (t ∷ ts) = ap suc (length-held ts)
 
 -- no call has more than five numbers
-too-many : (c : ℕ) (ts : List (List ℕ)) → 5 < length ts → callOf c (map numberIn ts) ≡ malformed
+too-many : (c : ℕ) (ts : List (List ℕ)) → numbersKept < length ts → callOf c (map numberIn ts) ≡ malformed
 unfolding callOf
 too-many c [] h = refl
 too-many c (a ∷ []) h = absurd (omega arith)
@@ -83,7 +84,7 @@ too-many c (a ∷ b ∷ d ∷ e ∷ f ∷ g ∷ more) h = refl
 -- a line that has ended is at Letter, or is the malformed one
 pushed : (l : Line) → (pushOf l Letter .phase ≡ Letter) ⊎ (pushOf l Letter ≡ malformedLine)
 pushed l =
-    let full = leb 5 (l .count) in
+    let full = leb numbersKept (l .count) in
     ⊎-elim (λ (e : full ≡ true). inr (rw e)) (λ (e : full ≡ false). inl (rw e)) (bool-cases full)
 
 pub ended : (p : Phase) (l : Line) → l .phase ≡ p → (endBy p l .phase ≡ Letter) ⊎ (endBy p l ≡ malformedLine)
@@ -103,7 +104,7 @@ pub record CallRead (s : List ℕ) : Type 0 where
   pub is-held : callHeld (lineOf s) ≡ callOf letter (map capped numbers)
 
 -- a line of the form is read as its call
-formed-read : {s : List ℕ} {c : ℕ} {ts : List (List ℕ)} → Formed s c ts → length ts ≤ 5 → CallRead s
+formed-read : {s : List ℕ} {c : ℕ} {ts : List (List ℕ)} → Formed s c ts → length ts ≤ numbersKept → CallRead s
 formed-read {s} {c} {ts} f few =
     let all : take (length ts) (sets zeros 0 (map held ts)) ≡ map held ts =
     ap (λ (k : ℕ). take k (sets zeros 0 (map held ts))) (sym (length-held ts))
@@ -136,6 +137,6 @@ call-read s =
     ⊎-elim
     (λ many. malformed-read (formed-call (r .1) ∙ too-many (r .0) (laterParts s) many) unread)
     (λ few. formed-read (r .1) few)
-    (lt-or-le 5 (length (laterParts s))))
+    (lt-or-le numbersKept (length (laterParts s))))
     (formed-or-malformed s))
     (ended (read .phase) read refl)

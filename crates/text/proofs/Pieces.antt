@@ -13,6 +13,7 @@ use Rattle.book.specs.Letters.{callOf}
 use Rattle.text.specs.declared.line.Phase.{Phase}
 use Rattle.text.specs.declared.line.Phase.the-variants.{Start, Letter, Space, Zero, Number, Malformed}
 use Rattle.text.specs.declared.line.Line.{Line}
+use Rattle.text.specs.Alphabet.{lineFeed}
 use Rattle.text.specs.Reading.{capped, emptyLine, feedBy, feedOf, endOf, runOf}
 use Rattle.text.specs.Grammar.{callIn, callHeld}
 use Rattle.text.specs.Sheets.{withByte, linesOf, callsIn}
@@ -114,7 +115,7 @@ module _ (n room : ℕ) where
       rw begun (line-made r (c ∷ l) e ∙ made-none (callMade n room x r) refl ∙ made-first x [] r)
   read-from (b ∷ s) r l e =
       ⊎-elim
-      (λ (is : eqb b 10 ≡ true).
+      (λ (is : eqb b lineFeed ≡ true).
       let x : Call = callIn l in
       let made : byteRead n room r b ≡ callMade n room x r = rw is (line-made r l e) in
       let lines : withFront l (linesOf (b ∷ s)) ≡ l ∷ linesOf s = rw is (front-ended l (linesOf s)) in
@@ -122,7 +123,7 @@ module _ (n room : ℕ) where
       ∙ read-from s (callMade n room x r) [] refl
       ∙ made-first x (callsIn s) r
       ∙ ap (λ (ls : List (List ℕ)). callsMade n room (map callIn ls) r) (sym lines))
-      (λ (is : eqb b 10 ≡ false).
+      (λ (is : eqb b lineFeed ≡ false).
       let fed : Reader = record { line = feedOf (r .line) b; facts = r .facts; second = r .second; text = r .text } in
       let made : byteRead n room r b ≡ fed = rw is in
       let lines : withFront l (linesOf (b ∷ s)) ≡ withFront (l ++ (b ∷ [])) (linesOf s) =
@@ -130,7 +131,7 @@ module _ (n room : ℕ) where
       ap (λ (q : Reader). lastEnded n room (bytesRead n room q s)) made
       ∙ read-from s fed (l ++ (b ∷ [])) (ap (λ (k : Line). feedOf k b) e ∙ sym (run-append emptyLine l (b ∷ [])))
       ∙ ap (λ (ls : List (List ℕ)). callsMade n room (map callIn ls) r) (sym lines))
-      (bool-cases (eqb b 10))
+      (bool-cases (eqb b lineFeed))
 
   -- a whole sheet from a line that has not begun, its last line ended with it
   pub sheet-read : (s : List ℕ) (r : Reader) → r .line ≡ emptyLine

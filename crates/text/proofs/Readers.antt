@@ -19,6 +19,7 @@ use Rattle.book.proofs.Keep.{step-keeps}
 use Rattle.book.proofs.Followed.{layout-size}
 use Rattle.text.specs.declared.line.Line.{Line}
 use Rattle.text.specs.declared.piece.Lines.{Lines}
+use Rattle.text.specs.Alphabet.{lineFeed}
 use Rattle.text.specs.Reading.{emptyLine, feedOf, endOf, runOf}
 use Rattle.text.specs.Grammar.{callHeld}
 use Rattle.text.specs.Printing.{replyTo}
@@ -52,7 +53,7 @@ module _ (n room : ℕ) where
   byte-unprinted : (r : Reader) (b : ℕ) → unprinted (byteRead n room r b) ≡ unprinted (byteRead n room (unprinted r) b)
   unfolding byteRead callMade
   byte-unprinted r b =
-      ⊎-elim (λ (e : eqb b 10 ≡ true). rw e) (λ (e : eqb b 10 ≡ false). rw e) (bool-cases (eqb b 10))
+      ⊎-elim (λ (e : eqb b lineFeed ≡ true). rw e) (λ (e : eqb b lineFeed ≡ false). rw e) (bool-cases (eqb b lineFeed))
 
   pub bytes-unprinted :
       (r q : Reader) (s : List ℕ) → unprinted r ≡ unprinted q
@@ -79,9 +80,9 @@ module _ (n room : ℕ) where
 -- ---- the bytes that are taken, where `size` bytes can be printed
 
 -- a byte that ends no line leaves what is printed
-fed-text : (n room : ℕ) (r : Reader) (b : ℕ) → (b ≡ 10 → ⊥) → byteRead n room r b .text ≡ r .text
+fed-text : (n room : ℕ) (r : Reader) (b : ℕ) → (b ≡ lineFeed → ⊥) → byteRead n room r b .text ≡ r .text
 unfolding byteRead
-fed-text n room r b differs = rw (ne-eqb b 10 differs)
+fed-text n room r b differs = rw (ne-eqb b lineFeed differs)
 
 module _ (n room size : ℕ) where
   pub taken-within : (r : Reader) (s : List ℕ) → bytesTaken n room size r s ≤ length s
@@ -89,24 +90,25 @@ module _ (n room size : ℕ) where
   taken-within r [] = zero-le
   taken-within r (b ∷ s) =
       ⊎-elim
-      (λ (e : (eqb b 10 && ltb size (length (r .text) + lineRoom room)) ≡ true). rw e zero-le)
-      (λ (e : (eqb b 10 && ltb size (length (r .text) + lineRoom room)) ≡ false).
+      (λ (e : (eqb b lineFeed && ltb size (length (r .text) + lineRoom room)) ≡ true). rw e zero-le)
+      (λ (e : (eqb b lineFeed && ltb size (length (r .text) + lineRoom room)) ≡ false).
       rw e (omega (arith, taken-within (byteRead n room r b) s)))
-      (bool-cases (eqb b 10 && ltb size (length (r .text) + lineRoom room)))
+      (bool-cases (eqb b lineFeed && ltb size (length (r .text) + lineRoom room)))
 
   first-none : (r : Reader) (s : List ℕ) → FirstTaken n room size r s 0
   unfolding bytesRead
   first-none r s = omega arith
 
   -- a byte that ends no line, or one whose answer finds room
-  first-byte : (r : Reader) (b : ℕ) (s : List ℕ) → (b ≡ 10 → length (r .text) + lineRoom room ≤ size)
+  first-byte : (r : Reader) (b : ℕ) (s : List ℕ) → (b ≡ lineFeed → length (r .text) + lineRoom room ≤ size)
       → FirstTaken n room size r (b ∷ s) 1
   unfolding bytesTaken bytesRead
   first-byte r b s fits =
       ⊎-elim
-      (λ (is : b ≡ 10). rw (eq-eqb b 10 is, le-ltb size (length (r .text) + lineRoom room) (fits is)) (omega arith))
-      (λ differs. rw (ne-eqb b 10 differs) (omega arith))
-      (eq-or-not b 10)
+      (λ (is : b ≡ lineFeed). rw (eq-eqb b lineFeed is, le-ltb size (length (r .text) + lineRoom room) (fits is))
+      (omega arith))
+      (λ differs. rw (ne-eqb b lineFeed differs) (omega arith))
+      (eq-or-not b lineFeed)
 
   -- a line that ends in s, and whose answer finds room
   first-line : (r : Reader) (s : List ℕ) → lineEnd s < length s → length (r .text) + lineRoom room ≤ size
@@ -115,12 +117,12 @@ module _ (n room size : ℕ) where
   first-line r [] ends fits = absurd (omega arith)
   first-line r (b ∷ s) ends fits =
       ⊎-elim
-      (λ (is : b ≡ 10). rw (eq-eqb b 10 is) (rw (eq-eqb b 10 is) at (first-byte r b s (λ _. fits))))
+      (λ (is : b ≡ lineFeed). rw (eq-eqb b lineFeed is) (rw (eq-eqb b lineFeed is) at (first-byte r b s (λ _. fits))))
       (λ differs.
-      let later = rw (ne-eqb b 10 differs) at ends in
+      let later = rw (ne-eqb b lineFeed differs) at ends in
       let same = ap length (fed-text n room r b differs) in
-      rw (ne-eqb b 10 differs) (omega (arith, first-line (byteRead n room r b) s (omega arith) (omega arith))))
-      (eq-or-not b 10)
+      rw (ne-eqb b lineFeed differs) (omega (arith, first-line (byteRead n room r b) s (omega arith) (omega arith))))
+      (eq-or-not b lineFeed)
 
   -- k bytes, and then j more
   first-more : (r : Reader) (s : List ℕ) (k j : ℕ) → FirstTaken n room size r s k
@@ -148,11 +150,11 @@ module _
     (b : ℕ)
   where
     holds-fed :
-        {line′ : Line} → (b ≡ 10 → ⊥) → line′ ≡ feedOf line b
+        {line′ : Line} → (b ≡ lineFeed → ⊥) → line′ ≡ feedOf line b
         → Holds n out₀ (byteRead n room r b) run second out line′ put
     unfolding byteRead
     holds-fed differs fed =
-        rw (ne-eqb b 10 differs)
+        rw (ne-eqb b lineFeed differs)
         (record {
           book = h .book;
           size = h .size;
@@ -166,7 +168,7 @@ module _
         })
 
     holds-ended :
-        {run′ second′ out′ : List ℕ} {line′ : Line} {put′ : ℕ} → length second ≡ room → b ≡ 10
+        {run′ second′ out′ : List ℕ} {line′ : Line} {put′ : ℕ} → length second ≡ room → b ≡ lineFeed
         → Ended (callHeld (endOf line)) run second out put put′ run′ second′ out′ → line′ ≡ emptyLine
         → Holds n out₀ (byteRead n room r b) run′ second′ out′ line′ put′
     unfolding byteRead callMade
@@ -182,7 +184,7 @@ module _
         let reply : List ℕ = replyTo n room x f in
         let next-at = rw (h .size, h .facts-are, long) at (e .next) in
         let printed = rw (h .size, h .facts-are, long) at (e .printed) in
-        rw (eq-eqb b 10 is)
+        rw (eq-eqb b lineFeed is)
         (record {
           book = ended .book;
           size = ap length words ∙ layout-size n (step n x f) next;
@@ -207,12 +209,13 @@ unfolding bytesRead lineEnd runOf
 holds-line room [] h size ends ended = absurd (omega arith)
 holds-line room (b ∷ s) h size ends ended =
     ⊎-elim
-    (λ (is : b ≡ 10). rw (eq-eqb b 10 is) (holds-ended room h b size is (rw (eq-eqb b 10 is) at ended) refl))
+    (λ (is : b ≡ lineFeed). rw (eq-eqb b lineFeed is)
+    (holds-ended room h b size is (rw (eq-eqb b lineFeed is) at ended) refl))
     (λ differs.
-    rw (ne-eqb b 10 differs)
-    (holds-line room s (holds-fed room h b differs refl) size (omega (arith, rw (ne-eqb b 10 differs) at ends))
-    (rw (ne-eqb b 10 differs) at ended)))
-    (eq-or-not b 10)
+    rw (ne-eqb b lineFeed differs)
+    (holds-line room s (holds-fed room h b differs refl) size (omega (arith, rw (ne-eqb b lineFeed differs) at ends))
+    (rw (ne-eqb b lineFeed differs) at ended)))
+    (eq-or-not b lineFeed)
 
 -- ---- the lines from `from` on: those up to the place `read` have been read
 
@@ -350,7 +353,7 @@ module _
 
     -- one byte more
     byte-taken :
-        read < length piece → (getD piece read 0 ≡ 10 → lineRoom (length second) ≤ length out - put)
+        read < length piece → (getD piece read 0 ≡ lineFeed → lineRoom (length second) ≤ length out - put)
         → FirstTaken (length w) (length v) (length out₀) (begun w v line₀) piece (read + 1)
     byte-taken h fits =
         let b = getD piece read 0 in
@@ -360,7 +363,8 @@ module _
         (λ is. omega (arith, fits is, g .holds .put-is, g .holds .fits, g .room, g .long))))
 
     pub feeding-fed :
-        {line′ : Line} → read < length piece → (getD piece read 0 ≡ 10 → ⊥) → line′ ≡ feedOf line (getD piece read 0)
+        {line′ : Line} → read < length piece → (getD piece read 0 ≡ lineFeed → ⊥)
+        → line′ ≡ feedOf line (getD piece read 0)
         → Feeding w v piece out₀ line₀ run second out line′ put (read + 1)
     feeding-fed h differs fed =
         record {
@@ -374,7 +378,7 @@ module _
         }
 
     pub feeding-ended :
-        {run′ second′ out′ : List ℕ} {line′ : Line} {put′ : ℕ} → read < length piece → getD piece read 0 ≡ 10
+        {run′ second′ out′ : List ℕ} {line′ : Line} {put′ : ℕ} → read < length piece → getD piece read 0 ≡ lineFeed
         → lineRoom (length second) ≤ length out - put
         → Ended (callHeld (endOf line)) run second out put put′ run′ second′ out′ → line′ ≡ emptyLine
         → length second′ ≡ length second → length out′ ≡ length out
@@ -417,7 +421,7 @@ module _
 
     -- a line end that finds no room
     pub feeding-full :
-        read < length piece → getD piece read 0 ≡ 10 → length out - put < lineRoom (length second)
+        read < length piece → getD piece read 0 ≡ lineFeed → length out - put < lineRoom (length second)
         → Pieced w v piece out₀ line₀ (record { line = line; read = read; put = put }) run second out
     unfolding bytesTaken
     feeding-full h is full =
@@ -425,7 +429,7 @@ module _
         let none : bytesTaken (length w) (length v) (length out₀) here (drop read piece) ≡ 0 =
         rw (
           drop-cons piece read 0 h,
-          eq-eqb (getD piece read 0) 10 is,
+          eq-eqb (getD piece read 0) lineFeed is,
           much (omega (arith, g .holds .put-is, g .room, g .long)),
         ) in
         record { taken = omega (arith, g .taken); holds = g .holds }

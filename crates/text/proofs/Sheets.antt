@@ -21,6 +21,7 @@ use Rattle.logic.proofs.Tests.{T-true, true-T, bool-cases, lt-or-le}
 use Rattle.book.proofs.Layouts.{book-facts}
 use Rattle.book.proofs.Followed.{made-book}
 use Rattle.text.specs.declared.sheet.LineAnswer.{LineAnswer}
+use Rattle.text.specs.Alphabet.{lineFeed}
 use Rattle.text.specs.Grammar.{callIn}
 use Rattle.text.specs.Sheets.{withByte, linesOf, lineEnd, lineAt, nextLine, callsIn, answersOver, wordsAfter, secondOver, LineMade, SheetRun}
 
@@ -72,12 +73,12 @@ line-first :
     → linesOf (b ∷ s) ≡ take (lineEnd (b ∷ s)) (b ∷ s) ∷ linesOf (drop (suc (lineEnd (b ∷ s))) (b ∷ s))
 unfolding linesOf lineEnd
 line-first b [] =
-    ⊎-elim (λ (e : eqb b 10 ≡ true). rw e) (λ (e : eqb b 10 ≡ false). rw e) (bool-cases (eqb b 10))
+    ⊎-elim (λ (e : eqb b lineFeed ≡ true). rw e) (λ (e : eqb b lineFeed ≡ false). rw e) (bool-cases (eqb b lineFeed))
 line-first b (d ∷ s) =
     ⊎-elim
-    (λ (e : eqb b 10 ≡ true). rw e)
-    (λ (e : eqb b 10 ≡ false). rw e (ap (withByte b) (line-first d s)))
-    (bool-cases (eqb b 10))
+    (λ (e : eqb b lineFeed ≡ true). rw e)
+    (λ (e : eqb b lineFeed ≡ false). rw e (ap (withByte b) (line-first d s)))
+    (bool-cases (eqb b lineFeed))
 
 -- past the end nothing is left
 drop-min : (l : List ℕ) (k : ℕ) → drop (min k (length l)) l ≡ drop k l
@@ -102,13 +103,13 @@ line-next sheet from l =
 
 -- the line end from a place on, by the byte there
 module _ (s : List ℕ) (i : ℕ) where
-  pub end-here : i < length s → getD s i 0 ≡ 10 → lineEnd (drop i s) ≡ 0
+  pub end-here : i < length s → getD s i 0 ≡ lineFeed → lineEnd (drop i s) ≡ 0
   unfolding lineEnd
-  end-here l e = rw (drop-cons s i 0 l, eq-eqb (getD s i 0) 10 e)
+  end-here l e = rw (drop-cons s i 0 l, eq-eqb (getD s i 0) lineFeed e)
 
-  pub end-later : i < length s → (getD s i 0 ≡ 10 → ⊥) → lineEnd (drop i s) ≡ suc (lineEnd (drop (i + 1) s))
+  pub end-later : i < length s → (getD s i 0 ≡ lineFeed → ⊥) → lineEnd (drop i s) ≡ suc (lineEnd (drop (i + 1) s))
   unfolding lineEnd
-  end-later l differs = rw (add-one, drop-cons s i 0 l, ne-eqb (getD s i 0) 10 differs)
+  end-later l differs = rw (add-one, drop-cons s i 0 l, ne-eqb (getD s i 0) lineFeed differs)
 
   pub end-none : length s ≤ i → lineEnd (drop i s) ≡ 0
   unfolding lineEnd

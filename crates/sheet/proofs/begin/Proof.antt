@@ -1,4 +1,4 @@
--- `begin` leaves a fresh book: a run of 4,096 words is of a good length. Assumes nothing.
+-- `begin` leaves a fresh book: a run of the program's length is of a good one. Assumes nothing.
 use Prim.Native.Nat.{ℕ}
 use mathlib.Core.Path.{_≡_}
 use mathlib.Core.List.{List}

@@ -1,4 +1,5 @@
--- `line_end` finds the line end: what is left of the bytes has it, until the byte at the index is it or none is left. Assumes nothing.
+-- `line_end` finds the line end: what is left of the bytes has it, until the byte at the index is it or none is left.
+-- Assumes nothing.
 use Prim.Native.Nat.{_+_, _-_, _≤_}
 use mathlib.Core.Path.{_≡_, refl}
 use native.Mathlib.Omega.{arith}
@@ -24,8 +25,10 @@ shared-slice-read-if1 c = search needs
 returns : tie.Need-returns Inv-loop μ-loop
 returns c =
     let l = c .before .before in
-    let s = l .before .before .args .sheet .now in
-    (omega (arith, end-here s (l .before .loop .i) (l .loop-test .taken) (c .if1 .taken), l .before .loop .inv .1), omega arith)
+    let s = l .before .before .args .sheet .now in (
+      omega (arith, end-here s (l .before .loop .i) (l .loop-test .taken) (c .if1 .taken), l .before .loop .inv .1),
+      omega arith,
+    )
 
 add-i : tie.Need-add-i Inv-loop μ-loop
 add-i c = search needs
@@ -36,8 +39,14 @@ loop-less c = search needs
 loop-again : tie.Need-loop-again Inv-loop μ-loop
 loop-again c =
     let l = c .before .before in
-    let s = l .before .before .args .sheet .now in
-    (omega arith, omega (arith, end-later s (l .before .loop .i) (l .loop-test .taken) (c .if1 .left), l .before .loop .inv .1))
+    let s = l .before .before .args .sheet .now in (
+      omega arith,
+      omega (
+        arith,
+        end-later s (l .before .loop .i) (l .loop-test .taken) (c .if1 .left),
+        l .before .loop .inv .1,
+      ),
+    )
 
 returns-2 : tie.Need-returns-2 Inv-loop μ-loop
 returns-2 c =

@@ -1,4 +1,5 @@
--- `read_line` reads the line by its first byte: a letter and its numbers, or none, and the line is malformed. Assumes nothing.
+-- `read_line` reads the line by its first byte: a letter and its numbers, or none, and the line is malformed. Assumes
+-- nothing.
 use borrow.Author.Needs.{needs}
 use Rattle.text.proofs.WholeLines.{no-letter, a-letter}
 use Rattle.text.proofs.line.read_line.Statement.{statement}

@@ -1,4 +1,5 @@
--- `read_numbers` reads the numbers: `Going` says that the line goes on from the place that is reached as it did from the first, and each way out is one of its laws. Assumes nothing.
+-- `read_numbers` reads the numbers: `Going` says that the line goes on from the place that is reached as it did from
+-- the first, and each way out is one of its laws. Assumes nothing.
 use Prim.Native.Nat.{_-_}
 use borrow.Author.Needs.{needs}
 use lib.ListN.{length}
@@ -29,7 +30,8 @@ pass-line-requires c κs = search needs
 returns-2 : tie.Need-returns-2 Inv-loop μ-loop
 returns-2 c =
     let inside = c .before .before .before .before in
-    going-passed (inside .before .loop .inv) (inside .loop-test .taken) (c .before .before .if1 .left) (c .before .if2 .taken) (c .pass-line .ensures)
+    going-passed (inside .before .loop .inv) (inside .loop-test .taken) (c .before .before .if1 .left)
+    (c .before .if2 .taken) (c .pass-line .ensures)
 
 add-read-number : tie.Need-add-read-number Inv-loop μ-loop
 add-read-number c = search needs
@@ -47,7 +49,8 @@ returns-3 : tie.Need-returns-3 Inv-loop μ-loop
 returns-3 c =
     let read = c .before .before .before in
     let inside = read .before .before .before .before in
-    going-none (inside .before .loop .inv) (inside .loop-test .taken) (read .before .if2 .left) (read .read-number .ensures) (c .before .if3 .taken) (c .pass-line2 .ensures)
+    going-none (inside .before .loop .inv) (inside .loop-test .taken) (read .before .if2 .left)
+    (read .read-number .ensures) (c .before .if3 .taken) (c .pass-line2 .ensures)
 
 mul-numbers : tie.Need-mul-numbers Inv-loop μ-loop
 mul-numbers c = search needs
@@ -68,7 +71,8 @@ loop-again : tie.Need-loop-again Inv-loop μ-loop
 loop-again c =
     let read = c .before .before in
     let inside = read .before .before .before .before in
-    going-more (inside .before .loop .inv) (inside .loop-test .taken) (read .before .if2 .left) (read .read-number .ensures) (c .if3 .left)
+    going-more (inside .before .loop .inv) (inside .loop-test .taken) (read .before .if2 .left)
+    (read .read-number .ensures) (c .if3 .left)
 
 returns-4 : tie.Need-returns-4 Inv-loop μ-loop
 returns-4 c = going-done (c .before .loop .inv) (c .loop-test .left)

@@ -30,4 +30,5 @@ returns c =
 pub end-line-spec : {M : Type 1} → statement M
 end-line-spec =
     tie.close
-    (tie.spec slice-aggregate-print-line end-requires print-line-requires same-length same-length-2 same-length-3 returns)
+    (tie.spec slice-aggregate-print-line end-requires print-line-requires same-length same-length-2 same-length-3
+    returns)

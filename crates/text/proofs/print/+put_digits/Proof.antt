@@ -1,9 +1,11 @@
--- `put_digits` writes the digits: below 10 one, else those of the tenth first, by recursion on the number. Assumes nothing.
+-- `put_digits` writes the digits: below 10 one, else those of the tenth first, by recursion on the number. Assumes
+-- nothing.
 use Prim.Native.Nat.{ℕ, _/_, _<_}
 use borrow.Author.Needs.{needs}
 use native.Mathlib.Omega.{arith}
 use native.Mathlib.Nat.{div-lt-self}
 use Rattle.logic.proofs.Stores.{sets-append}
+use Rattle.text.specs.Alphabet.{base}
 use Rattle.text.proofs.Decimals.{decimal-small, decimal-more, length-small, length-more}
 use borrow.Fn.Kinds.{In}
 use borrow.Fn.PlainCycle.{Measures, is, falls, and}
@@ -66,7 +68,7 @@ put-digits-put-digits-requires : (t : ℕ) → put-digits-lts.Need-put-digits-re
 ) (put-digits-at t) put-digits.Post
 put-digits-put-digits-requires t c κs =
     let at-start = c .before .before .before in
-    let less : at-start .args .number / 10 < at-start .args .number = div-lt-self (omega arith) (omega arith) in
+    let less : at-start .args .number / base < at-start .args .number = div-lt-self (omega arith) (omega arith) in
     (omega arith, omega (arith, length-more _ (c .before .if1 .left)))
 
 put-digits-cast-out-2 : (t : ℕ) → put-digits-lts.Need-cast-out-2 (
@@ -87,7 +89,12 @@ put-digits-slice-write-out-2 : (t : ℕ) → put-digits-lts.Need-slice-write-out
 ) (put-digits-at t) put-digits.Post
 put-digits-slice-write-out-2 t c =
     let at-if1 = c .before .before .before .before in
-    omega (arith, length-more _ (at-if1 .if1 .left), c .before .before .put-digits .kept .0, c .before .before .put-digits .ensures .0)
+    omega (
+      arith,
+      length-more _ (at-if1 .if1 .left),
+      c .before .before .put-digits .kept .0,
+      c .before .before .put-digits .ensures .0,
+    )
 
 put-digits-add-result-2 : (t : ℕ) → put-digits-lts.Need-add-result-2 (
   put-digits-below t,
@@ -109,8 +116,10 @@ put-digits-returns-2 : (t : ℕ) → put-digits-lts.Need-returns-2 (
 ) (put-digits-at t) put-digits.Post
 put-digits-returns-2 t c =
     let at-if1 = c .before .before .before .before in
-    let told = c .before .before .put-digits .ensures in
-    (omega (arith, length-more _ (at-if1 .if1 .left), told .0), rw (told .1, told .0, decimal-more _ (at-if1 .if1 .left), sets-append))
+    let told = c .before .before .put-digits .ensures in (
+      omega (arith, length-more _ (at-if1 .if1 .left), told .0),
+      rw (told .1, told .0, decimal-more _ (at-if1 .if1 .left), sets-append),
+    )
 
 pub +put-digits-spec : {M : Type 1} → statement M
 +put-digits-spec = close μ-put-digits λ t. put-digits-lts.spec (

@@ -8,6 +8,7 @@ use Prim.Native.Nat.{ℕ, _+_}
 use lib.ListN.{length, length-set}
 use lib.Seq.{sets}
 use Rattle.word.specs.Answers.{answerNumber}
+use Rattle.text.specs.Alphabet.{lineFeed}
 use Rattle.text.specs.Printing.{decimal, spacedNumbers, afterNumber, answerText}
 use Rattle.text.proofs.AnswerTexts.{stores-after, length-whole}
 use Rattle.text.proofs.print.put_answer.Statement.{statement}
@@ -82,9 +83,9 @@ returns c =
     first .put-decimal .ensures .1
     ∙ ap (λ (k : ℕ). sets (a .out .now) (a .at) (decimal k)) (first .before .number .ensures) in (
       omega (arith, length-whole (a .answer) (a .strikes .now), number-put first, second .put-values .ensures .0),
-      stores-after (a .out .now) (first .put-decimal .last .0) _ number (values ++ (10 ∷ [])) (a .at)
+      stores-after (a .out .now) (first .put-decimal .last .0) _ number (values ++ (lineFeed ∷ [])) (a .at)
           (first .put-decimal .result) (number-put first) put
-          (stores-after (first .put-decimal .last .0) (second .put-values .last .0) _ values (10 ∷ [])
+          (stores-after (first .put-decimal .last .0) (second .put-values .last .0) _ values (lineFeed ∷ [])
           (first .put-decimal .result) (second .put-values .result)
           (second .put-values .ensures .0) (second .put-values .ensures .1) refl),
     )

@@ -19,7 +19,10 @@ same-length : tie.Need-same-length
 same-length c = omega (arith, simp length-set at (c .before .before .put-decimal .kept .0))
 
 returns : tie.Need-returns
-returns c = (omega (arith, c .before .before .put-decimal .ensures .0), rw add-one at (c .before .before .put-decimal .ensures .1))
+returns c = (
+  omega (arith, c .before .before .put-decimal .ensures .0),
+  rw add-one at (c .before .before .put-decimal .ensures .1),
+)
 
 pub put-number-spec : {M : Type 1} → statement M
 put-number-spec = tie.close (tie.spec slice-write-out add-put-decimal put-decimal-requires same-length returns)

@@ -1,4 +1,5 @@
--- `put_numbers` writes each number in turn: the invariant says that the numbers before `i` are written, and where they end.
+-- `put_numbers` writes each number in turn: the invariant says that the numbers before `i` are written, and where they
+-- end.
 use borrow.Author.Needs.{needs}
 use native.Mathlib.Omega.{arith}
 use Prim.Native.Nat.{_≤_, _<_, _-_, _+_}
@@ -33,7 +34,11 @@ shared-slice-read-put-number c = search needs
 put-number-requires : tie.Need-put-number-requires Inv-loop μ-loop
 put-number-requires c κs =
     let at-loop = c .before .before .before in
-    omega (arith, room-for-number (at-loop .before .before .before .args .numbers .now) (at-loop .loop .i) (search needs))
+    omega (
+      arith,
+      room-for-number (at-loop .before .before .before .args .numbers .now) (at-loop .loop .i)
+          (search needs),
+    )
 
 add-i : tie.Need-add-i Inv-loop μ-loop
 add-i c = search needs
@@ -43,16 +48,18 @@ loop-less c = search needs
 
 loop-again : tie.Need-loop-again Inv-loop μ-loop
 loop-again c =
-    let at-loop = c .before .before .before .before .before .before in
+    let putting = c .before .before in
+    let at-loop = putting .before .before .before .before in
     let start = at-loop .before .before .before in
     let numbers = start .args .numbers .now in
     let i = at-loop .loop .i in
     let h : i < length numbers = search needs in
-    let told = c .before .before .put-number in (
+    let told = putting .put-number in (
       search needs,
       omega (arith, told .ensures .0, length-more-numbers numbers i h),
       omega (arith, told .kept .0),
-      stores-more numbers i h (start .args .out .now) (at-loop .loop .out) (told .last .0) (start .args .at) (at-loop .loop .next) (at-loop .loop .inv .1) (at-loop .loop .inv .3) (told .ensures .1),
+      stores-more numbers i h (start .args .out .now) (at-loop .loop .out) (told .last .0) (start .args .at)
+          (at-loop .loop .next) (at-loop .loop .inv .1) (at-loop .loop .inv .3) (told .ensures .1),
     )
 
 same-length : tie.Need-same-length Inv-loop μ-loop

@@ -16,6 +16,10 @@ use Rattle.text.specs.Sheets.{callsIn}
 use Rattle.text.specs.Pieces.{Reader, bytesRead, begun}
 use Rattle.sheet.specs.declared.Turn.{Turn}
 
+-- "a fresh book of 4,096 words"
+abbrev pub bookLength : ℕ
+bookLength = 4096
+
 -- the words of a book of n words and a second run are what the reader r holds
 pub record Left (n : ℕ) (r : Reader) (w′ v′ : List ℕ) : Type 0 where
   pub words : w′ ≡ layout n (r .facts)
