@@ -5,7 +5,7 @@ ghost use mathlib.Core.Path.{_≡_};
 ghost use Rattle.book.specs.Books.{isBook};
 ghost use Rattle.book.specs.Calls.{callM, on, callO, callC, callV, callD, callL, callJ, callX, callI, callR, callA};
 ghost use Rattle.text.specs.Sheets.{SheetRun};
-ghost use Rattle.export.specs.Answered.{Answered, Carries, Started};
+ghost use Rattle.export.specs.CallReplies.{Answered, Carries, Started};
 use word::answer::Answer;
 
 // The number and the value of an answer, document 01's.

@@ -1,7 +1,7 @@
 // Two lists of calls compared, under a C name. It has an archive of its own: in that of `export` the calls of a sheet
 // would no longer be compiled into the loop over its lines, which makes a sheet slower by about a tenth.
 ghost use mathlib.Core.Path.{_≡_};
-ghost use Rattle.lists.specs.Replies.{Replied, comparisonNumber, comparisonValue};
+ghost use Rattle.lists.specs.ListReplies.{Replied, comparisonNumber, comparisonValue};
 use export::Reply;
 use history::Comparison;
 
