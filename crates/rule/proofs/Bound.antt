@@ -99,7 +99,8 @@ module _ (s : Setting) where
       go false q true a low high = rw a
       go false q false a low high =
           let above : 2 * p < cents h = leb-false (cents h) (2 * p) a in
-          rw (a, five s h (ltb-false lowPrice p q), on, lt-ltb (inHalves p) h (omega arith), le-leb h fifth (omega arith))
+          let over : ltb (inHalves p) h ≡ true = lt-ltb (inHalves p) h (omega arith) in
+          rw (a, five s h (ltb-false lowPrice p q), on, over, le-leb h fifth (omega arith))
 
   -- on the range grid the ends tell the range
   range-ends : (h : ℕ) → rangeGrid s (cents h) ≡ true → h ≤ highestStrike →
@@ -139,7 +140,8 @@ module _ (s : Setting) where
 
   -- the L of a wing and the strike $5 above it are Standard strikes
   pub wing-ends : (h : ℕ) → wingGrid s (cents h) ≡ true →
-      rangeOf s 3 h ≡ (leb (lowEnd p) (inHalves (wingBase (cents h))) && leb (inHalves (wingBase (cents h)) + 10) (highEnd s))
+      let l = inHalves (wingBase (cents h)) in
+      rangeOf s 3 h ≡ (leb (lowEnd p) l && leb (l + 10) (highEnd s))
   wing-ends h e = same-bool (rangeOf s 3 h) (leb (lowEnd p) l && leb (l + 10) (highEnd s)) to from
     where
       l : ℕ
@@ -187,7 +189,8 @@ module _ (s : Setting) where
   pub half-within : halfEnd s ≤ highEnd s
   half-within = go halfAsked refl
     where
-      go : (t : Bool) → halfAsked ≡ t → cond {A = ℕ} t (min (max (p / 25) (inHalves p + 5)) (inHalves fiveFifty)) 0 ≤ highEnd s
+      go : (t : Bool) → halfAsked ≡ t →
+          cond {A = ℕ} t (min (max (p / 25) (inHalves p + 5)) (inHalves fiveFifty)) 0 ≤ highEnd s
       go true a =
           let l : p ≤ halfPrice = half-price a in
           rw (le-ltb lowPrice p (omega arith))
@@ -246,12 +249,14 @@ module _ (s : Setting) where
       near true q on = rw q
       near false q on =
           let above : 2 * p < cents h = leb-false (cents h) (2 * p) q in
-          rw (q, five-half-dollars p h, on, lt-ltb (inHalves p) h (omega arith), le-leb h (inHalves p + 5) (omega arith))
+          let over : ltb (inHalves p) h ≡ true = lt-ltb (inHalves p) h (omega arith) in
+          rw (q, five-half-dollars p h, on, over, le-leb h (inHalves p + 5) (omega arith))
 
   pub half-each : (h : ℕ) → 1 ≤ h → h ≤ halfEnd s → (halfGrid s (cents h) ≡ true) × (rangeBy halfDollars p h ≡ true)
   half-each h l = go halfAsked refl
     where
-      go : (t : Bool) → halfAsked ≡ t → h ≤ cond {A = ℕ} t (min (max (p / 25) (inHalves p + 5)) (inHalves fiveFifty)) 0 →
+      go : (t : Bool) → halfAsked ≡ t →
+          h ≤ cond {A = ℕ} t (min (max (p / 25) (inHalves p + 5)) (inHalves fiveFifty)) 0 →
           (halfGrid s (cents h) ≡ true) × (rangeBy halfDollars p h ≡ true)
       go true a m = half-near h a m
       go false a m = absurd (omega arith)

@@ -127,7 +127,8 @@ among-above grid p h =
 
 -- the range grid of Standard and Dollar, by what it asks of the class and the expiration
 abbrev gridBy : Bool → Bool → ℕ → Bool
-gridBy whole dollar k = cond whole (multiple oneDollar k) (ladder k && not (dollar && ltb k fiftyDollars && not (multiple fiveDollars k)))
+gridBy whole dollar k =
+    cond whole (multiple oneDollar k) (ladder k && not (dollar && ltb k fiftyDollars && not (multiple fiveDollars k)))
 
 -- the closed form is right for each strike q of at most $20
 endTest : Bool → Bool → ℕ → Bool
@@ -147,7 +148,9 @@ unfolding endTest
 five-by whole dollar p h cheap =
     let fifth : ℕ = fifthAbove whole dollar (inHalves p) in
     let end : endAbove (gridBy whole dollar) (inHalves p) ≡ suc fifth =
-    eqb→eq _ _ (every-number (endTest whole dollar) (inHalves lowPrice + 1) 0 (ends whole dollar) (inHalves p) (omega arith) (omega arith)) in
+    eqb→eq _ _
+    (every-number (endTest whole dollar) (inHalves lowPrice + 1) 0 (ends whole dollar) (inHalves p) (omega arith)
+    (omega arith)) in
     among-above (gridBy whole dollar) p h
     ∙ ap (λ (t : Bool). ltb (inHalves p) h && t && gridBy whole dollar (cents h)) (ap (ltb h) end ∙ leb·suc-suc h fifth)
 
@@ -169,7 +172,8 @@ half-ends = tt
 half-end : (q h : ℕ) → q < h → h ≤ inHalves fiveFifty → ltb h (endAbove halfDollars q) ≡ leb h (q + 5)
 unfolding halfEndTest
 half-end q h low high =
-    go (ltb q 7) refl (eqb→eq _ _ (every-number halfEndTest (inHalves fiveFifty) 0 half-ends q (omega arith) (omega arith)))
+    go (ltb q 7) refl
+    (eqb→eq _ _ (every-number halfEndTest (inHalves fiveFifty) 0 half-ends q (omega arith) (omega arith)))
   where
     go : (t : Bool) → ltb q 7 ≡ t → endAbove halfDollars q ≡ cond t (q + 6) (highestStrike + 1) →
         ltb h (endAbove halfDollars q) ≡ leb h (q + 5)
@@ -181,7 +185,8 @@ pub five-half-dollars : (p h : ℕ) →
     amongFive halfDollars p h ≡ (ltb (inHalves p) h && leb h (inHalves p + 5) && halfDollars (cents h))
 five-half-dollars p h =
     among-above halfDollars p h
-    ∙ and-middle (ltb (inHalves p) h) (ltb h (endAbove halfDollars (inHalves p))) (leb h (inHalves p + 5)) (halfDollars (cents h))
+    ∙ and-middle (ltb (inHalves p) h) (ltb h (endAbove halfDollars (inHalves p))) (leb h (inHalves p + 5))
+    (halfDollars (cents h))
     (λ low on. half-end (inHalves p) h (ltb→lt (inHalves p) h low) (high on))
   where
     high : T (halfDollars (cents h)) → h ≤ inHalves fiveFifty

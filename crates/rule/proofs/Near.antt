@@ -60,7 +60,12 @@ module _ (s : Setting) (h : ℕ) where
       go true far =
           let there : ℕ = apart (cents h) (cents (t .strike)) in
           let back : ℕ = apart (cents (t .strike)) (cents h) in
-          simp (lt-leb there halfDollar (omega arith), lt-leb back halfDollar (omega arith), lt-leb there oneDollar (omega arith), and-false)
+          simp (
+            lt-leb there halfDollar (omega arith),
+            lt-leb back halfDollar (omega arith),
+            lt-leb there oneDollar (omega arith),
+            and-false,
+          )
       go false far =
           let there : ℕ = apart (cents h) (cents (t .strike)) in
           let back : ℕ = apart (cents (t .strike)) (cents h) in

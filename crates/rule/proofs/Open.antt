@@ -11,7 +11,7 @@ use borrow.Author.Tests.{le-leb, eq-eqb}
 use Rattle.word.specs.Limits.{highestStrike}
 use Rattle.rule.specs.declared.terms.Setting.{Setting}
 use Rattle.logic.specs.Lists.{some}
-use Rattle.logic.proofs.Tests.{ands, parts, and-intro, true-T, T-true, or-left, or-right, refuted}
+use Rattle.logic.proofs.Tests.{ands, parts, and-intro, true-T, T-true, refuted}
 use Rattle.logic.proofs.Lists.{some-cases, some-imply}
 use Rattle.logic.proofs.Multiples.{times}
 use Rattle.word.specs.Programs.{dollarPrice}
@@ -127,7 +127,14 @@ module _ (s : Setting) (h : ℕ) where
       let cheap : ltb (price s) dollarPrice ≡ true = search parts in
       let whole : multiple oneDollar (cents h) ≡ true = eq-eqb (cents h % oneDollar) 0 (omega arith) in
       let grid : dollarGrid s (cents h) ≡ true =
-      rw (near, dollar, cheap, whole, le-leb oneDollar (cents h) (omega arith), le-leb (cents h) fiftyDollars (omega arith)) in
+      rw (
+        near,
+        dollar,
+        cheap,
+        whole,
+        le-leb oneDollar (cents h) (omega arith),
+        le-leb (cents h) fiftyDollars (omega arith),
+      ) in
       let range : standardRange s h ≡ true = ranged-standard s h (rw (near, dollar, whole)) low high in
       given-by 1 tt (rw (grid, range))
 

@@ -19,7 +19,7 @@ use Rattle.logic.proofs.Walks.{some-step, first-found}
 use Rattle.rule.specs.Grids.{gridOf}
 use Rattle.rule.specs.Ranges.{rangeOf}
 use Rattle.word.specs.Answers.{isAccepted}
-use Rattle.rule.specs.Spacing.{Standing, spacingOf}
+use Rattle.rule.specs.Spacing.{Standing}
 use Rattle.rule.specs.Judgement.{rowOf, rowsOf, passes, passesGrid, passesRange, refusalOf, groundFrom, decided}
 use Rattle.rule.specs.Judgement.{foundRow, foundRows, firstGround, judgement}
 

@@ -76,13 +76,19 @@ ladder-stepped h e =
 stepped-ladder : (h : ℕ) → Stepped h → ladder (cents h) ≡ true
 stepped-ladder h r = go (leb (cents h) twentyFiveDollars) refl (leb (cents h) twoHundredDollars) refl
   where
-    go : (t : Bool) → leb (cents h) twentyFiveDollars ≡ t → (u : Bool) → leb (cents h) twoHundredDollars ≡ u → ladder (cents h) ≡ true
+    go : (t : Bool) → leb (cents h) twentyFiveDollars ≡ t → (u : Bool) → leb (cents h) twoHundredDollars ≡ u →
+        ladder (cents h) ≡ true
     go true a u b =
         let l : h ≤ lastTwoFifty = omega (arith, leb-true (cents h) twentyFiveDollars a) in
         rw (a, eq-eqb (cents h % twoFifty) 0 (omega (arith, r .fine l)))
     go false a true b =
         let l : lastTwoFifty < h = omega (arith, leb-false (cents h) twentyFiveDollars a) in
-        rw (a, b, lt-ltb twentyFiveDollars (cents h) (omega arith), eq-eqb (cents h % fiveDollars) 0 (omega (arith, r .fives l)))
+        rw (
+          a,
+          b,
+          lt-ltb twentyFiveDollars (cents h) (omega arith),
+          eq-eqb (cents h % fiveDollars) 0 (omega (arith, r .fives l)),
+        )
     go false a false b =
         let l : lastFive < h = omega (arith, leb-false (cents h) twoHundredDollars b) in
         rw (

@@ -9,5 +9,4 @@ pub mod Zeros
 pub mod Books
 pub mod FreshBooks
 pub mod OtherBits
-pub mod LowestBits
 pub mod Others

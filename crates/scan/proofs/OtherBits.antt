@@ -1,18 +1,57 @@
--- The bits that tell the others in a stretch of words: by its first word, by its parts, and by its next strikes. Assumes nothing.
+-- The bits that tell the others in a stretch of words, as the digits of its words: by its first word, by its parts, and
+-- by its next strikes. Assumes nothing.
 use Prim.Native.Nat.{ℕ, zero, suc, _+_, _-_, _*_, _/_, _%_, _^_, _<_, _≤_}
-use mathlib.Core.Path.{_≡_, sym, _∙_}
-use mathlib.Core.Logic.{⊎-elim}
-use mathlib.Core.Bool.{Bool, true, false, cond}
-use mathlib.Core.List.{List}
+use mathlib.Core.Path.{_≡_, refl, sym, ap, ap₂, _∙_}
+use mathlib.Core.Bool.{Bool, true, false, cond, not}
+use mathlib.Core.List.{List, [], _∷_}
 use native.Mathlib.Omega.{arith}
-use native.Mathlib.Nat.{pow-succ', mul-assoc, mul-comm, add-comm, mul-div-right, eq-zero-or-pos}
+use native.Mathlib.Nat.{mul-comm, mul-div-right}
 use lib.ListN.{length, drop, getD, take, drop-of-length-le, length-drop}
-use lib.Seq.{drop-cons, take-nil, take-all}
-use lib.Pow.{pow-pos, shr-shr, shl-exact, high}
+use lib.Seq.{drop-cons, drop-drop, getD-drop, take-nil, take-all}
+use lib.Pow.{pow-pos, shr-shr, shl-exact}
 use lib.Bits.{bitOr, or-shifted-r}
+use Rattle.word.specs.Digits.{binary, firstOne}
+use Rattle.word.proofs.Digits.{binary-small, binary-parts, binary-later, digit-more, first-later, first-one}
 use Rattle.word.specs.Strikes.{isNextStrike}
 use Rattle.scan.specs.NextStrikes.{nextLength}
-use Rattle.scan.specs.Ahead.{otherBits}
+use Rattle.scan.specs.Ahead.{others, otherBits}
+
+-- ---- the digits of some words
+
+others-long : (before : ℕ) (ws : List ℕ) → length (others before ws) ≡ length ws
+others-long before [] = refl
+others-long before (w ∷ ws) = ap suc (others-long w ws)
+
+others-take : (k before : ℕ) (ws : List ℕ) → others before (take k ws) ≡ take k (others before ws)
+others-take zero before ws = refl
+others-take (suc k) before [] = refl
+others-take (suc k) before (w ∷ ws) = ap (λ (l : List Bool). not (isNextStrike before w) ∷ l) (others-take k w ws)
+
+others-drop :
+    (k before : ℕ) (ws : List ℕ) → drop k (others before ws) ≡ others (getD (before ∷ ws) k 0) (drop k ws)
+others-drop zero before ws = refl
+others-drop (suc k) before [] = refl
+others-drop (suc k) before (w ∷ ws) = others-drop k w ws
+
+others-at :
+    (before : ℕ) (ws : List ℕ) (i : ℕ) → i < length ws
+    → getD (others before ws) i false ≡ not (isNextStrike (getD (before ∷ ws) i 0) (getD ws i 0))
+others-at before [] i l = absurd (omega arith)
+others-at before (w ∷ ws) zero l = refl
+others-at before (w ∷ ws) (suc i) l = others-at w ws i (omega arith)
+
+-- the next strikes end at the first other
+others-next : (before : ℕ) (ws : List ℕ) → nextLength before ws ≡ firstOne (others before ws)
+others-next before [] = refl
+others-next before (w ∷ ws) = go (isNextStrike before w) (others-next w ws)
+  where
+    go :
+        (next : Bool) → nextLength w ws ≡ firstOne (others w ws)
+        → cond {A = ℕ} next (suc (nextLength w ws)) 0 ≡ cond {A = ℕ} (not next) 0 (suc (firstOne (others w ws)))
+    go true e = ap suc e
+    go false e = refl
+
+-- ---- the bits of the words from an index on
 
 -- the bits of k words from i on
 abbrev pub bitsAt : List ℕ → ℕ → ℕ → ℕ
@@ -20,29 +59,42 @@ bitsAt ws i k = otherBits (getD ws (i - 1) 0) (take k (drop i ws))
 
 -- the bit of the word at i
 abbrev pub bitAt : List ℕ → ℕ → ℕ
-bitAt ws i = cond {A = ℕ} (isNextStrike (getD ws (i - 1) 0) (getD ws i 0)) 0 1
+bitAt ws i = cond {A = ℕ} (not (isNextStrike (getD ws (i - 1) 0) (getD ws i 0))) 1 0
 
 -- how many words from i on are next strikes
 abbrev pub nextAt : List ℕ → ℕ → ℕ
 nextAt ws i = nextLength (getD ws (i - 1) 0) (drop i ws)
 
-bit-le : (next : Bool) → cond {A = ℕ} next 0 1 ≤ 1
-bit-le true = omega arith
-bit-le false = omega arith
-
-bit-shifted : (next : Bool) (i : ℕ) → i < 32 → cond {A = ℕ} next 0 (1 * 2 ^ i % 2 ^ 32) ≡ cond {A = ℕ} next 0 1 * 2 ^ i
-bit-shifted true i h = omega arith
-bit-shifted false i h = shl-exact 1 i 32 (omega arith) (omega arith)
-
-bit-none : (next : Bool) (n : ℕ) → cond {A = ℕ} next 0 1 ≡ 0 → cond {A = ℕ} next n 0 ≡ n
-bit-none true n e = omega arith
-bit-none false n e = omega arith
-
-bit-some : (next : Bool) (n : ℕ) → 0 < cond {A = ℕ} next 0 1 → cond {A = ℕ} next n 0 ≡ 0
-bit-some true n l = omega arith
-bit-some false n l = omega arith
+bit-shifted :
+    (next : Bool) (i : ℕ) → i < 32
+    → cond {A = ℕ} next 0 (1 * 2 ^ i % 2 ^ 32) ≡ cond {A = ℕ} (not next) (2 ^ i) 0
+bit-shifted true i h = refl
+bit-shifted false i h = shl-exact 1 i 32 (omega arith) (omega arith) ∙ omega arith
 
 module _ (ws : List ℕ) where
+  -- the digits of all words from i on
+  abbrev digits : ℕ → List Bool
+  digits i = others (getD ws (i - 1) 0) (drop i ws)
+
+  digits-long : (i : ℕ) → length (digits i) ≡ length ws - i
+  digits-long i = others-long (getD ws (i - 1) 0) (drop i ws) ∙ length-drop i ws
+
+  -- the word before the one at i + j
+  before-later : (i j : ℕ) → getD (getD ws (i - 1) 0 ∷ drop i ws) j 0 ≡ getD ws (i + j - 1) 0
+  before-later i zero =
+      let here : i + 0 - 1 ≡ i - 1 = omega arith in
+      rw here
+  before-later i (suc j) =
+      let there : i + suc j - 1 ≡ i + j = omega arith in
+      rw there (getD-drop i ws j 0)
+
+  digits-later : (i j : ℕ) → drop j (digits i) ≡ digits (i + j)
+  digits-later i j =
+      others-drop j (getD ws (i - 1) 0) (drop i ws) ∙ ap₂ others (before-later i j) (drop-drop j i ws)
+
+  bits-digits : (i k : ℕ) → bitsAt ws i k ≡ binary (take k (digits i))
+  bits-digits i k = ap binary (others-take k (getD ws (i - 1) 0) (drop i ws))
+
   pub bits-end : (i k : ℕ) → length ws ≤ i → bitsAt ws i k ≡ 0
   bits-end i k h = rw (drop-of-length-le ws h, take-nil k)
 
@@ -55,69 +107,36 @@ module _ (ws : List ℕ) where
   bits-whole i k h = rw (take-all k (drop i ws) (omega (arith, length-drop i ws)))
 
   bits-lt : (i k : ℕ) → bitsAt ws i k < 2 ^ k
-  bits-lt i zero = omega arith
-  bits-lt i (suc k) =
-      ⊎-elim (λ outside. omega (arith, bits-end i (suc k) (omega arith), pow-pos (suc k)))
-      (λ inside. omega (
-        arith,
-        bits-step i k (omega arith),
-        bit-le (isNextStrike (getD ws (i - 1) 0) (getD ws i 0)),
-        bits-lt (suc i) k,
-        pow-succ' 2 k,
-      ))
-      (eq-zero-or-pos (length ws - i))
+  bits-lt i k = rw (bits-digits i k) (binary-small k (digits i))
 
   bits-parts : (j i k : ℕ) → bitsAt ws i (j + k) ≡ bitsAt ws i j + 2 ^ j * bitsAt ws (i + j) k
-  bits-parts zero i k =
-      let none : 0 + k ≡ k = omega arith in
-      let here : i + 0 ≡ i = omega arith in
-      rw (none, here) (omega arith)
-  bits-parts (suc j) i k =
-      let more : suc j + k ≡ suc (j + k) = omega arith in
-      let onward : suc i + j ≡ i + suc j = omega arith in
-      let twice : 2 ^ suc j * bitsAt ws (i + suc j) k ≡ 2 * (2 ^ j * bitsAt ws (i + suc j) k) =
-      rw (pow-succ' 2 j) (mul-assoc 2 (2 ^ j) (bitsAt ws (i + suc j) k)) in
-      ⊎-elim
-      (λ outside. rw (
-        bits-end i (suc j + k) (omega arith),
-        bits-end i (suc j) (omega arith),
-        bits-end (i + suc j) k (omega arith),
-      ) (omega arith))
-      (λ inside. rw more (omega (
-        arith,
-        bits-step i (j + k) (omega arith),
-        bits-step i j (omega arith),
-        rw onward at (bits-parts j (suc i) k),
-        twice,
-      )))
-      (eq-zero-or-pos (length ws - i))
+  bits-parts j i k =
+      rw (bits-digits i (j + k), bits-digits i j, bits-digits (i + j) k, ← digits-later i j)
+      (binary-parts j k (digits i))
 
   -- the bits without the lowest j of them
   pub bits-later : (j i k : ℕ) → bitsAt ws i (j + k) / 2 ^ j ≡ bitsAt ws (i + j) k
   bits-later j i k =
-      rw (bits-parts j i k, add-comm (bitsAt ws i j), mul-comm (2 ^ j)) (high (bitsAt ws (i + j) k) j (bits-lt i j))
+      rw (bits-digits i (j + k), bits-digits (i + j) k, ← digits-later i j) (binary-later j k (digits i))
 
   -- `bits | bit` in 32 bits, with the bit of one word more
   pub bits-more :
       (i : ℕ) (next : Bool) → i + 1 < length ws → i < 32 → next ≡ isNextStrike (getD ws i 0) (getD ws (i + 1) 0)
       → bitOr (bitsAt ws 1 i) (cond {A = ℕ} next 0 (1 * 2 ^ i % 2 ^ 32)) ≡ bitsAt ws 1 (i + 1)
   bits-more i next l h e =
+      let before : 1 + i - 1 ≡ i = omega arith in
       let place : 1 + i ≡ i + 1 = omega arith in
-      let before : i + 1 - 1 ≡ i = omega arith in
-      let last : bitsAt ws (i + 1) 1 ≡ cond {A = ℕ} next 0 1 + 0 = bits-step (i + 1) 0 l ∙ rw (before, e) in
-      rw (
-        bit-shifted next i h,
-        or-shifted-r (cond {A = ℕ} next 0 1) i (bitsAt ws 1 i) (bits-lt 1 i),
-        bits-parts i 1 1,
-        place,
-        last,
-      )
-      (omega (arith, mul-comm (2 ^ i) (cond {A = ℕ} next 0 1)))
+      let digit : getD (digits 1) i false ≡ not next =
+      others-at (getD ws 0 0) (drop 1 ws) i (omega (arith, length-drop 1 ws))
+      ∙ rw (before-later 1 i, before, getD-drop 1 ws i 0, place, e) in
+      rw (bit-shifted next i h, bits-digits 1 i, bits-digits 1 (i + 1), ← digit)
+      (digit-more (digits 1) i (omega (arith, digits-long 1)))
 
   -- the words of `&ws[from..to]` after its first
   pub bits-part :
       (from to i k : ℕ) → from + 1 ≡ i → i + k ≡ to → to ≤ length ws
-      → otherBits (getD (take (to - from) (drop from ws)) 0 0) (drop 1 (take (to - from) (drop from ws))) ≡ bitsAt ws i k
+      → let part = take (to - from) (drop from ws) in
+      otherBits (getD part 0 0) (drop 1 part) ≡ bitsAt ws i k
   bits-part from to i k e f l =
       let more : to - from ≡ suc k = omega arith in
       let place : i ≡ suc from = omega arith in
@@ -161,37 +180,22 @@ module _ (ws : List ℕ) where
   next-end : (i : ℕ) → length ws ≤ i → nextAt ws i ≡ 0
   next-end i h = rw (drop-of-length-le ws h)
 
-  next-step : (i : ℕ) → i < length ws → bitAt ws i ≡ 0 → nextAt ws i ≡ suc (nextAt ws (suc i))
-  next-step i l e =
-      let before : suc i - 1 ≡ i = omega arith in
-      rw (drop-cons ws i 0 l, before)
-      (bit-none (isNextStrike (getD ws (i - 1) 0) (getD ws i 0)) (suc (nextLength (getD ws i 0) (drop (suc i) ws))) e)
-
-  next-stop : (i : ℕ) → i < length ws → 0 < bitAt ws i → nextAt ws i ≡ 0
-  next-stop i l e =
-      rw (drop-cons ws i 0 l)
-      (bit-some (isNextStrike (getD ws (i - 1) 0) (getD ws i 0)) (suc (nextLength (getD ws i 0) (drop (suc i) ws))) e)
+  next-first : (i : ℕ) → nextAt ws i ≡ firstOne (digits i)
+  next-first i = others-next (getD ws (i - 1) 0) (drop i ws)
 
   -- where no bit is 1 the words are next strikes
   pub next-on : (k i : ℕ) → i + k ≤ length ws → bitsAt ws i k ≡ 0 → nextAt ws i ≡ k + nextAt ws (i + k)
-  next-on zero i l e =
-      let here : i + 0 ≡ i = omega arith in
-      rw here (omega arith)
-  next-on (suc k) i l e =
-      let onward : suc i + k ≡ i + suc k = omega arith in
-      let step = bits-step i k (omega arith) in
-      omega (
-        arith,
-        next-step i (omega arith) (omega arith),
-        rw onward at (next-on k (suc i) (omega arith) (omega arith)),
-      )
+  next-on k i l e =
+      rw (next-first i, next-first (i + k), ← digits-later i k)
+      (first-later k (digits i) (omega (arith, digits-long i)) (sym (bits-digits i k) ∙ e))
 
   pub next-all :
       (k i : ℕ) → i ≤ length ws → length ws ≤ i + k → bitsAt ws i k ≡ 0 → i + nextAt ws i ≡ length ws
   next-all k i l m e =
       omega (
         arith,
-        next-on (length ws - i) i (omega arith) (bits-whole i (length ws - i) (omega arith) ∙ sym (bits-whole i k m) ∙ e),
+        next-on (length ws - i) i (omega arith)
+            (bits-whole i (length ws - i) (omega arith) ∙ sym (bits-whole i k m) ∙ e),
         next-end (i + (length ws - i)) (omega arith),
       )
 
@@ -202,38 +206,13 @@ pub record FirstOther (ws : List ℕ) (i k : ℕ) : Type 0 where
   pub higher : ℕ
   pub told : bitsAt ws i k ≡ 2 ^ nextAt ws i * (1 + 2 * higher)
 
-module _ (ws : List ℕ) (i k : ℕ) (l : i < length ws) where
-  first-here : 0 < bitAt ws i → FirstOther ws i (suc k)
-  first-here h =
-      let stop = next-stop ws i l h in
-      let one = bit-le (isNextStrike (getD ws (i - 1) 0) (getD ws i 0)) in
-      record {
-        below = omega arith;
-        within = omega arith;
-        higher = bitsAt ws (suc i) k;
-        told = rw stop (omega (arith, bits-step ws i k l));
-      }
-
-  first-later : bitAt ws i ≡ 0 → FirstOther ws (suc i) k → FirstOther ws i (suc k)
-  first-later e later =
-      let step = next-step ws i l e in
-      record {
-        below = omega arith;
-        within = omega arith;
-        higher = later .higher;
-        told =
-            rw (step, pow-succ' 2 (nextAt ws (suc i)), mul-assoc 2 (2 ^ nextAt ws (suc i)) (1 + 2 * later .higher))
-            (omega (arith, bits-step ws i k l));
-      }
-
 pub first-other : (ws : List ℕ) (k i : ℕ) → 0 < bitsAt ws i k → FirstOther ws i k
-first-other ws zero i h = absurd (omega arith)
-first-other ws (suc k) i h =
-    ⊎-elim (λ (outside : length ws - i ≡ 0). absurd (omega (arith, bits-end ws i (suc k) (omega arith))))
-    (λ (inside : 0 < length ws - i).
-    ⊎-elim
-    (λ (e : bitAt ws i ≡ 0).
-    first-later ws i k (omega arith) e (first-other ws k (suc i) (omega (arith, bits-step ws i k (omega arith)))))
-    (first-here ws i k (omega arith))
-    (eq-zero-or-pos (bitAt ws i)))
-    (eq-zero-or-pos (length ws - i))
+first-other ws k i l =
+    let f = first-one k (digits ws i) (λ e. omega (arith, bits-digits ws i k)) in
+    let first : nextAt ws i ≡ firstOne (digits ws i) = next-first ws i in
+    record {
+      below = omega (arith, f .below);
+      within = omega (arith, f .within, digits-long ws i);
+      higher = f .higher;
+      told = bits-digits ws i k ∙ f .told ∙ ap (λ (n : ℕ). 2 ^ n * (1 + 2 * f .higher)) (sym first);
+    }

@@ -12,11 +12,11 @@ use lib.Count.{trailingZeros}
 use lib.Dec.{eqb}
 use borrow.Author.Tests.{ne-eqb}
 use Rattle.word.specs.Kinds.{kindOf, expirationKind}
+use Rattle.word.proofs.Digits.{trailing-lowest, and-lowest}
 use Rattle.scan.specs.NextStrikes.{nextLength}
 use Rattle.scan.specs.Ahead.{Tells}
 use Rattle.scan.specs.declared.ahead.Ahead.{Ahead}
 use Rattle.scan.proofs.OtherBits.{bitsAt, bitAt, nextAt, FirstOther, bits-end, bits-step, bits-later, bits-cleared, next-on, next-all, first-other}
-use Rattle.scan.proofs.LowestBits.{trailing-lowest, and-lowest}
 
 module _ (ws : List ℕ) where
   pub tells-end : (at : ℕ) → 1 ≤ at → at ≡ length ws → Tells ws (record { base = at; bits = 0; at = at })

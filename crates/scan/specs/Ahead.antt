@@ -2,16 +2,21 @@
 -- nothing.
 use Prim.Native.Nat.{ℕ, _+_, _-_, _*_, _^_, _<_, _≤_}
 use mathlib.Core.Path.{_≡_}
-use mathlib.Core.Bool.{cond}
+use mathlib.Core.Bool.{Bool, not}
 use mathlib.Core.List.{List, [], _∷_}
 use lib.ListN.{length, drop, getD, take}
+use Rattle.word.specs.Digits.{binary}
 use Rattle.word.specs.Strikes.{isNextStrike}
 use Rattle.scan.specs.declared.ahead.Ahead.{Ahead}
 
--- a binary number, its lowest digit first: 1 for each word that is no next strike after the one before it
+-- which words are no next strikes, each after the one before it
+abbrev pub others : ℕ → List ℕ → List Bool
+others before [] = []
+others before (w ∷ ws) = not (isNextStrike before w) ∷ others w ws
+
+-- a binary number, its lowest digit first: 1 for each of them
 abbrev pub otherBits : ℕ → List ℕ → ℕ
-otherBits before [] = 0
-otherBits before (w ∷ ws) = cond {A = ℕ} (isNextStrike before w) 0 1 + 2 * otherBits w ws
+otherBits before ws = binary (others before ws)
 
 -- the bits are those of the words from `at` on, as far as 64 words from `base` on reach
 pub record Tells (ws : List ℕ) (ahead : Ahead) : Type 0 where

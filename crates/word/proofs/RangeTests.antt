@@ -2,7 +2,6 @@
 use mathlib.Core.Path.{_≡_}
 use mathlib.Core.Bool.{true}
 use Prim.Native.Nat.{ℕ, _≤_}
-use lib.Dec.{leb}
 use borrow.Author.Tests.{leb-true}
 use Rattle.logic.proofs.Tests.{parts}
 use Rattle.word.specs.Limits.{between}

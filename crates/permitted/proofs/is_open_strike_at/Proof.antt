@@ -1,5 +1,5 @@
--- `is_open_strike_at` meets its contract: where the first standing strike that isn't below is beyond reach nothing bears
--- on the strike. Assumes nothing.
+-- `is_open_strike_at` meets its contract: where the first standing strike that isn't below is beyond reach nothing
+-- bears on the strike. Assumes nothing.
 use native.Mathlib.Omega.{arith}
 use mathlib.Core.Path.{_∙_, sym}
 use borrow.Author.Needs.{needs}

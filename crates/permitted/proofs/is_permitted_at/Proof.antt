@@ -1,5 +1,5 @@
--- `is_permitted_at` meets its contract: only the words near the strike bear on it, which the search parts from the rest.
--- Assumes nothing.
+-- `is_permitted_at` meets its contract: only the words near the strike bear on it, which the search parts from the
+-- rest. Assumes nothing.
 use mathlib.Core.Path.{_∙_, sym}
 use borrow.Author.Needs.{needs}
 use Rattle.permitted.proofs.Strikes.{ahead-found, near-permits}
