@@ -74,8 +74,8 @@ pub nor-right : (a b : Bool) → T (not (a || b)) → T (not b)
 nor-right true b t = absurd t
 nor-right false b t = t
 
--- `search none-of` finds that a part of a test by `or` fails
-pub ruleset none-of = (nor-left, nor-right, T-false, false-T)
+-- `search nors` finds that a part of a test by `or` fails
+pub ruleset nors = (nor-left, nor-right, T-false, false-T)
 
 pub not-not : (b : Bool) → T (not (not b)) → T b
 not-not true t = tt
@@ -152,4 +152,4 @@ module _ (low high n : ℕ) where
       (or-cases (ltb n low) (ltb high n) (true-T (ltb n low || ltb high n) e))
 
   pub inside : (ltb n low || ltb high n) ≡ false → (low ≤ n) × (n ≤ high)
-  inside e = (ltb-false n low (search none-of), ltb-false high n (search none-of))
+  inside e = (ltb-false n low (search nors), ltb-false high n (search nors))

@@ -17,7 +17,7 @@ use Rattle.word.specs.Programs.{program, dollarProgram, halfProgram, designatio
 use Rattle.logic.specs.Lists.{every}
 use Rattle.book.specs.Facts.{OpenClass}
 use Rattle.book.specs.Books.{isClass}
-use Rattle.logic.proofs.Tests.{true-T, none-of}
+use Rattle.logic.proofs.Tests.{true-T, nors}
 use Rattle.scan.specs.Stretches.{mayFollow, SeriesThen, ClassesWhere, Classes, SeriesEnd}
 use Rattle.scan.proofs.Figures.{FiguresThen, figures, classes-length}
 
@@ -129,8 +129,8 @@ module _ {now : ℕ} {ws : List ℕ} {i last dollars halves : ℕ} (v : Counted 
   counted-more j t e =
       record {
         within = e .within;
-        dollarCapped = ltb-false (program 1 .cap) dollars (search none-of);
-        halfCapped = ltb-false (program 2 .cap) halves (search none-of);
+        dollarCapped = ltb-false (program 1 .cap) dollars (search nors);
+        halfCapped = ltb-false (program 2 .cap) halves (search nors);
         same = (
           λ r. replaced (λ xs legal. e .rest xs legal .0) (v .same .0 r),
           λ r. v .same .1 (replaced (λ xs legal. e .rest xs legal .1) r),

@@ -26,7 +26,7 @@ use Rattle.text.specs.Printing.{replyTo}
 use Rattle.text.specs.Sheets.{lineEnd}
 use Rattle.text.specs.WholeLines.{lineAfter, WholeAt}
 use Rattle.text.specs.Pieces.{Reader, callEnded, callMade, byteRead, bytesRead, hasBegun, lastEnded, lineRoom, bytesTaken, FirstTaken, Ended, Holds, begun, LinesRead, Pieced}
-use Rattle.logic.proofs.Tests.{bool-cases, eq-or-not, none-of}
+use Rattle.logic.proofs.Tests.{bool-cases, eq-or-not, nors}
 use Rattle.text.proofs.AnswerTexts.{stores-after}
 
 -- ---- the bytes in turn
@@ -262,7 +262,7 @@ module _
     pub onward-room : put + lineRoom (length second) ≤ length out
     onward-room =
         let some : lineRoom (length second) ≤ length out - put =
-        ltb-false (length out - put) (lineRoom (length second)) (search none-of) in
+        ltb-false (length out - put) (lineRoom (length second)) (search nors) in
         omega (arith, some)
 
     pub onward-more :
@@ -276,7 +276,7 @@ module _
         let s = drop read piece in
         let whole = drop from piece in
         let inside : end < length piece =
-        omega (arith, eqb-false end (length piece) (search none-of), is .within) in
+        omega (arith, eqb-false end (length piece) (search nors), is .within) in
         let ends : lineEnd s < length s = omega (arith, is .end-is, length-drop read piece) in
         let upto : end + 1 - from ≡ (read - from) + suc (lineEnd s) = omega (arith, is .end-is, g .lines .onward) in
         let here : from + (read - from) ≡ read = omega (arith, g .lines .onward) in

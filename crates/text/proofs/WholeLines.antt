@@ -21,7 +21,7 @@ use Rattle.text.specs.Reading.{numbersKept, capped, zeros, emptyLine, ma
 use Rattle.text.specs.Grammar.{isDigit}
 use Rattle.text.specs.Sheets.{lineEnd}
 use Rattle.text.specs.WholeLines.{digitsLength, grownBy, numeralLength, numeralValue, NumeralAt, lineAfter, EndsAfter, letterLine, WholeAt}
-use Rattle.logic.proofs.Tests.{equal-test, bool-cases, lt-or-le, eq-or-not, true-T, none-of, or-cases, outside, inside}
+use Rattle.logic.proofs.Tests.{equal-test, bool-cases, lt-or-le, eq-or-not, true-T, nors, or-cases, outside, inside}
 use Rattle.text.proofs.Complete.{Pending, at-zero, in-number, state, feed-space, end-number}
 use Rattle.text.proofs.Sound.{Follows, follows, run-malformed}
 use Rattle.text.proofs.LineParts.{between-true, between-both}
@@ -393,10 +393,10 @@ module _ {letter : ℕ} {sheet : List ℕ} {from count : ℕ} {numbers : List �
     -- a space, and fewer than five numbers
     module _ (h : (not (eqb (getD sheet i 0) space) || eqb count numbersKept) ≡ false) where
       is-space : getD sheet i 0 ≡ space
-      is-space = eqb-true (getD sheet i 0) space (not-false (eqb (getD sheet i 0) space) (search none-of))
+      is-space = eqb-true (getD sheet i 0) space (not-false (eqb (getD sheet i 0) space) (search nors))
 
       pub going-room : count < numbersKept
-      going-room = omega (arith, g .few, eqb-false count numbersKept (search none-of))
+      going-room = omega (arith, g .few, eqb-false count numbersKept (search nors))
 
       module _ {value end : ℕ} (n : NumeralAt sheet (i + 1) value end) where
         pub going-none : {r : WholeLine} → end ≡ i + 1 → EndsAfter malformedLine sheet i r
