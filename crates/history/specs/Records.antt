@@ -71,8 +71,11 @@ recordsOf [] = []
 recordsOf (x ∷ xs) = recordOf x ++ recordsOf xs
 
 -- "words of 32 bits"
+abbrev pub wordBits : ℕ
+wordBits = 32
+
 abbrev pub isWord : ℕ → Bool
-isWord k = ltb k (2 ^ 32)
+isWord k = ltb k (2 ^ wordBits)
 
 -- the numbers of a call, and the length of its second run, fit words
 abbrev pub fitsWords : LentCall → Bool

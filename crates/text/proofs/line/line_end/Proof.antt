@@ -16,6 +16,10 @@ Inv-loop sheet from i₀ i = (i ≤ length sheet) × (i + lineEnd (drop i sheet)
 abbrev μ-loop : tie.MeasureT-loop
 μ-loop sheet from i₀ i = length sheet - i
 
+-- where the function is entered, from where the loop is
+abbrev entry : tie.At-loop Inv-loop μ-loop → tie.Start Inv-loop μ-loop
+entry at-loop = at-loop .before
+
 loop-holds : tie.Need-loop-holds Inv-loop μ-loop
 loop-holds c = (search needs, refl)
 
@@ -24,9 +28,10 @@ shared-slice-read-if1 c = search needs
 
 returns : tie.Need-returns Inv-loop μ-loop
 returns c =
-    let l = c .before .before in
-    let s = l .before .before .args .sheet .now in (
-      omega (arith, end-here s (l .before .loop .i) (l .loop-test .taken) (c .if1 .taken), l .before .loop .inv .1),
+    let more = c .before .before in
+    let at-loop = more .before in
+    let s = entry at-loop .args .sheet .now in (
+      omega (arith, end-here s (at-loop .loop .i) (more .loop-test .taken) (c .if1 .taken), at-loop .loop .inv .1),
       omega arith,
     )
 
@@ -38,20 +43,22 @@ loop-less c = search needs
 
 loop-again : tie.Need-loop-again Inv-loop μ-loop
 loop-again c =
-    let l = c .before .before in
-    let s = l .before .before .args .sheet .now in (
+    let more = c .before .before in
+    let at-loop = more .before in
+    let s = entry at-loop .args .sheet .now in (
       omega arith,
       omega (
         arith,
-        end-later s (l .before .loop .i) (l .loop-test .taken) (c .if1 .left),
-        l .before .loop .inv .1,
+        end-later s (at-loop .loop .i) (more .loop-test .taken) (c .if1 .left),
+        at-loop .loop .inv .1,
       ),
     )
 
 returns-2 : tie.Need-returns-2 Inv-loop μ-loop
 returns-2 c =
-    let s = c .before .before .args .sheet .now in
-    (omega (arith, end-none s (c .before .loop .i) (c .loop-test .left), c .before .loop .inv .1), omega arith)
+    let at-loop = c .before in
+    let s = entry at-loop .args .sheet .now in
+    (omega (arith, end-none s (at-loop .loop .i) (c .loop-test .left), at-loop .loop .inv .1), omega arith)
 
 pub line-end-spec : {M : Type 1} → statement M
 line-end-spec =

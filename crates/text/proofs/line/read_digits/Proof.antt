@@ -22,13 +22,17 @@ Inv-loop sheet from first value₀ i₀ value i =
 abbrev μ-loop : tie.MeasureT-loop
 μ-loop sheet from first value₀ i₀ value i = length sheet - i
 
+-- where the function is entered, from where the loop is
+abbrev entry : tie.At-loop Inv-loop μ-loop → tie.Start Inv-loop μ-loop
+entry at-loop = at-loop .before .before
+
 -- where the loop is, from where a byte is a digit
 abbrev here : tie.Else1 Inv-loop μ-loop → tie.At-loop Inv-loop μ-loop
 here digit = digit .before .before .before
 
 -- the byte that is read there
 abbrev byte : tie.Else1 Inv-loop μ-loop → ℕ
-byte digit = getD (here digit .before .before .args .sheet .now) (here digit .loop .i) 0
+byte digit = getD (entry (here digit) .args .sheet .now) (here digit .loop .i) 0
 
 a-digit : (digit : tie.Else1 Inv-loop μ-loop) → (zeroDigit ≤ byte digit) × (byte digit ≤ nineDigit)
 a-digit digit = inside zeroDigit nineDigit (byte digit) (digit .if1 .left)
@@ -42,13 +46,14 @@ shared-slice-read-byte c = search needs
 returns : tie.Need-returns Inv-loop μ-loop
 unfolding grownBy
 returns c =
-    let l = c .before .before in
-    let s = l .before .before .before .args .sheet .now in
-    let none = digits-here s (l .before .loop .i) (l .loop-test .taken) (c .if1 .taken) in
+    let more = c .before .before in
+    let at-loop = more .before in
+    let s = entry at-loop .args .sheet .now in
+    let none = digits-here s (at-loop .loop .i) (more .loop-test .taken) (c .if1 .taken) in
     record {
-      end-is = omega (arith, none, l .before .loop .inv .1 .0);
+      end-is = omega (arith, none, at-loop .loop .inv .1 .0);
       within = search needs;
-      value-is = rw none at (l .before .loop .inv .1 .1);
+      value-is = rw none at (at-loop .loop .inv .1 .1);
     }
 
 sub-grow : tie.Need-sub-grow Inv-loop μ-loop
@@ -68,27 +73,29 @@ loop-less c = search needs
 
 loop-again : tie.Need-loop-again Inv-loop μ-loop
 loop-again c =
-    let l = c .before .before .before in
-    let s = l .before .before .before .args .sheet .now in
-    let i = l .before .loop .i in (
+    let digit = c .before in
+    let more = digit .before .before in
+    let at-loop = here digit in
+    let s = entry at-loop .args .sheet .now in
+    let i = at-loop .loop .i in (
       search needs,
       (
-        omega (arith, digits-later s i (l .loop-test .taken) (c .before .if1 .left), l .before .loop .inv .1 .0),
+        omega (arith, digits-later s i (more .loop-test .taken) (digit .if1 .left), at-loop .loop .inv .1 .0),
         rw (c .grow .ensures)
-            (sym (grown-later s i (l .loop-test .taken) (c .before .if1 .left) (l .before .loop .value))
-            ∙ l .before .loop .inv .1 .1),
+            (sym (grown-later s i (more .loop-test .taken) (digit .if1 .left) (at-loop .loop .value))
+            ∙ at-loop .loop .inv .1 .1),
       ),
     )
 
 returns-2 : tie.Need-returns-2 Inv-loop μ-loop
 unfolding grownBy
 returns-2 c =
-    let s = c .before .before .before .args .sheet .now in
-    let none = digits-none s (c .before .loop .i) (c .loop-test .left) in
+    let at-loop = c .before in
+    let none = digits-none (entry at-loop .args .sheet .now) (at-loop .loop .i) (c .loop-test .left) in
     record {
-      end-is = omega (arith, none, c .before .loop .inv .1 .0);
+      end-is = omega (arith, none, at-loop .loop .inv .1 .0);
       within = search needs;
-      value-is = rw none at (c .before .loop .inv .1 .1);
+      value-is = rw none at (at-loop .loop .inv .1 .1);
     }
 
 pub read-digits-spec : {M : Type 1} → statement M

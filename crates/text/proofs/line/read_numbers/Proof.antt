@@ -13,6 +13,10 @@ Inv-loop sheet from letter numbers₀ count₀ i₀ numbers count i = Going lett
 abbrev μ-loop : tie.MeasureT-loop
 μ-loop sheet from letter numbers₀ count₀ i₀ numbers count i = length sheet - i
 
+-- where a byte is left, from where a number has been read
+abbrev more : tie.After-read-number Inv-loop μ-loop → tie.In-loop Inv-loop μ-loop
+more read = read .before .before .before .before
+
 loop-holds : tie.Need-loop-holds Inv-loop μ-loop
 loop-holds c = going-start _ _ _ (c .before .pre)
 
@@ -48,7 +52,7 @@ pass-line-requires-2 c κs = search needs
 returns-3 : tie.Need-returns-3 Inv-loop μ-loop
 returns-3 c =
     let read = c .before .before .before in
-    let inside = read .before .before .before .before in
+    let inside = more read in
     going-none (inside .before .loop .inv) (inside .loop-test .taken) (read .before .if2 .left)
     (read .read-number .ensures) (c .before .if3 .taken) (c .pass-line2 .ensures)
 
@@ -58,7 +62,7 @@ mul-numbers c = search needs
 array-write-numbers : tie.Need-array-write-numbers Inv-loop μ-loop
 array-write-numbers c =
     let read = c .before .before in
-    let inside = read .before .before .before .before in
+    let inside = more read in
     going-room (inside .before .loop .inv) (inside .loop-test .taken) (read .before .if2 .left)
 
 add-count : tie.Need-add-count Inv-loop μ-loop
@@ -70,7 +74,7 @@ loop-less c = search needs
 loop-again : tie.Need-loop-again Inv-loop μ-loop
 loop-again c =
     let read = c .before .before in
-    let inside = read .before .before .before .before in
+    let inside = more read in
     going-more (inside .before .loop .inv) (inside .loop-test .taken) (read .before .if2 .left)
     (read .read-number .ensures) (c .if3 .left)
 
