@@ -8,13 +8,14 @@ use native.Mathlib.Omega.{arith}
 use lib.ListN.{length, take, drop}
 use lib.Dec.{T, leb→le}
 use borrow.Author.Tests.{not-false, lt-ltb, le-ltb, eq-eqb, ne-eqb}
+use Rattle.word.specs.Kinds.{classKind}
 use Rattle.word.specs.declared.class.ClassRecord.{ClassRecord}
 use Rattle.word.specs.declared.answer.Answer.the-variants.{Done, Removed, Refused}
 use Rattle.word.specs.declared.answer.Refusal.the-variants.{AlreadyOpen, MonthOutside, NoClose, OutOfWords}
-use Rattle.word.specs.Limits.{isMonth, isClassNumber}
+use Rattle.word.specs.Limits.{isMonth, isClassNumber, lastMonth, longestRun}
 use Rattle.book.specs.Facts.{newClass, isOpen, wordsOf, wordsTaken}
 use Rattle.book.specs.Layout.{used, layout, factsOf}
-use Rattle.word.specs.Figures.{areFigures, figuresAt}
+use Rattle.word.specs.Figures.{areFigures, figuresAt, figuresLength}
 use Rattle.book.specs.Books.{isBook}
 use Rattle.book.specs.Views.{class, viewOf, isNotOpen, isReviewed}
 use Rattle.book.specs.Changes.{monthSet, classOpened, update, classReviewed, reviewedCount}
@@ -44,10 +45,10 @@ passed b e = true-T b (not-false b e)
 
 module _
     (w : List ℕ) (book : T (isBook w)) (c at : ℕ) (sought : at ≡ openPlace c (factsOf w)) (there : at ≡ 0 → ⊥) where
-  pub open-within : at + 3 ≤ used (factsOf w)
+  pub open-within : at + figuresLength ≤ used (factsOf w)
   open-within = begins-room w book at (place-begins c (factsOf w) at sought there)
 
-  pub open-room : at + 3 ≤ length w
+  pub open-room : at + figuresLength ≤ length w
   open-room = omega (arith, open-within, book-room w book)
 
 -- an open class, where it was found and what its words say
@@ -81,8 +82,8 @@ module _ (w : List ℕ) (book : T (isBook w)) (c at : ℕ) (r : ClassRecord) (fo
 -- ---- `M`
 
 module _ (m : ℕ) (w : List ℕ) (book : T (isBook w)) (within : not (isMonth m) ≡ false) where
-  pub month-limit : m ≤ 1023
-  month-limit = leb→le m 1023 (passed (isMonth m) within)
+  pub month-limit : m ≤ lastMonth
+  month-limit = leb→le m lastMonth (passed (isMonth m) within)
 
   pub month-outside : m < factsOf w .now → Made (callM m) w [] (Refused MonthOutside) w []
   unfolding answerTo
@@ -111,14 +112,14 @@ module _ (c : ℕ) (w : List ℕ) (book : T (isBook w)) (within : not (isClassNu
   already-open e = made-refused (on c callO) w [] book (Refused AlreadyOpen) refl (rw (within, e))
 
   module _ (closed : isOpen c (factsOf w .classes) ≡ false) (end : ℕ) (e : end ≡ used (factsOf w)) where
-    pub out-of-words : length w < end + 3 → Made (on c callO) w [] (Refused (OutOfWords 0)) w []
+    pub out-of-words : length w < end + figuresLength → Made (on c callO) w [] (Refused (OutOfWords 0)) w []
     unfolding answerTo effectOn
     out-of-words l =
         let k : length w < wordsTaken (classOpened c (factsOf w)) =
         omega (arith, words-opened c (factsOf w), used-taken (factsOf w)) in
         made-refused (on c callO) w [] book (Refused (OutOfWords 0)) refl (rw (within, closed, lt-ltb (length w) _ k))
 
-    module _ (room : end + 3 ≤ length w) where
+    module _ (room : end + figuresLength ≤ length w) where
       pub class-openable : (at : ℕ) → at ≡ classPlace c (factsOf w) → Openable w at c
       class-openable at place =
           record {
@@ -151,21 +152,21 @@ module _
   -- with what `next_class` ensures
   module _
       (to : ℕ)
-      (e : to ≡ at + 3 + firstAt (isFrom classKind 0) (take (used (factsOf w) - (at + 3)) (drop (at + 3) w))) where
-    abbrev pub class-reviewable : Reviewable w (at + 3) to (r .close)
+      (e : to ≡ at + figuresLength + firstAt (isFrom classKind 0) (take (used (factsOf w) - (at + figuresLength)) (drop (at + figuresLength) w))) where
+    abbrev pub class-reviewable : Reviewable w (at + figuresLength) to (r .close)
     class-reviewable =
         let o = found-open w c at r found in
-        let p : at + 3 ≡ classPlace c (factsOf w) + 3 = omega (arith, found-place w c at r found) in
+        let p : at + figuresLength ≡ classPlace c (factsOf w) + figuresLength = omega (arith, found-place w c at r found) in
         record {
           book = book;
           number = c;
           is-open = o;
           begins = p;
-          ends = class-ended w book c o (at + 3) to p e;
+          ends = class-ended w book c o (at + figuresLength) to p e;
           close = ap (λ (x : ClassRecord). x .close) (found-figures w book c at r found);
         }
 
-  pub review-count : (k : ℕ) → k ≡ reviewedCount (class (factsOf w) c) → k ≤ 65535
+  pub review-count : (k : ℕ) → k ≡ reviewedCount (class (factsOf w) c) → k ≤ longestRun
   unfolding reviewedCount
   review-count k count =
       let x = class (factsOf w) c in

@@ -11,7 +11,6 @@ use edit::store_figures;
 use place::head::current;
 use place::head::used;
 use place::lookup::class_at;
-use place::lookup::figures_at;
 use place::lookup::is_open_at;
 use place::lookup::next_class;
 use place::lookup::open_at;
@@ -19,6 +18,7 @@ use removal::expiry::expire;
 use removal::review;
 use word::answer::Answer;
 use word::answer::Refusal;
+use word::figures;
 use word::limits::is_class_number;
 use word::limits::is_designation;
 use word::limits::is_month;
@@ -59,7 +59,7 @@ pub fn open_class(run: &mut [u32], places: &mut [u32], c: u32) -> Answer
     if is_open_at(run, at, c) {
         return Answer::Refused(Refusal::AlreadyOpen);
     }
-    if run.len() < used(run) + 3 {
+    if run.len() < used(run) + figures::LENGTH {
         return Answer::Refused(Refusal::OutOfWords(0));
     }
     insert_class(run, at, c);
@@ -78,7 +78,7 @@ pub fn set_close(run: &mut [u32], places: &mut [u32], c: u32, p: u32) -> Answer
     if at == 0 {
         return Answer::Refused(Refusal::NotOpen);
     }
-    let figures = figures_at(run, at);
+    let figures = figures::read(run, at);
     store_figures(run, at, figures.with_close(p));
     Answer::Done
 }
@@ -95,7 +95,7 @@ pub fn set_volume(run: &mut [u32], places: &mut [u32], c: u32, n: u32) -> Answer
     if at == 0 {
         return Answer::Refused(Refusal::NotOpen);
     }
-    let figures = figures_at(run, at);
+    let figures = figures::read(run, at);
     store_figures(run, at, figures.with_volume(n));
     Answer::Done
 }
@@ -112,7 +112,7 @@ pub fn designate(run: &mut [u32], places: &mut [u32], c: u32, p: u32, d: u32) ->
     if at == 0 {
         return Answer::Refused(Refusal::NotOpen);
     }
-    let figures = figures_at(run, at);
+    let figures = figures::read(run, at);
     let claim = claim_of(run, figures, p, d);
     if !claim.is_accepted() {
         return claim;
@@ -133,11 +133,11 @@ pub fn review_class(run: &mut [u32], places: &mut [u32], c: u32) -> Answer
     if at == 0 {
         return Answer::Refused(Refusal::NotOpen);
     }
-    let figures = figures_at(run, at);
+    let figures = figures::read(run, at);
     if figures.close == 0 {
         return Answer::Refused(Refusal::NoClose);
     }
-    let from = at + 3;
+    let from = at + figures::LENGTH;
     let to = next_class(run, from);
     Answer::Removed(review(run, from, to, figures.close) as u32)
 }

@@ -9,7 +9,8 @@ use lib.Dec.{T, eqb, leb, ltb, eqb·zero-suc, le→leb}
 use lib.ListN.{length, getD, take, drop, replicate, length-append, length-drop, length-map}
 use lib.Seq.{getD-take, getD-drop, length-take-le}
 use borrow.Author.Tests.{ltb-true, ltb-false, lt-ltb, le-ltb, eq-eqb, ne-eqb}
-use Rattle.word.specs.Kinds.{kindOf, isOfKind}
+use Rattle.word.specs.Limits.{lastMonth, longestRun}
+use Rattle.word.specs.Kinds.{kindOf, isOfKind, strikeKind}
 use Rattle.word.specs.Codec.{Word, Head, Close, Volume, Expiration, isLegal, packed}
 use Rattle.word.proofs.Words.{legal-fits, kindIn, kind-packed}
 use Rattle.logic.specs.Lists.{every, only}
@@ -67,8 +68,8 @@ module _ (w : List ℕ) (book : T (isBook w)) where
   words-legal : T (every isLegal (bookWords (length w) (factsOf w)))
   words-legal =
       let f = factsOf w in
-      let month : T (leb (f .now) 1023) = book-form w book .month in
-      let most : T (leb (used f) 65535) = le→leb (used f) 65535 (omega (arith, book-room w book, book-long w book)) in
+      let month : T (leb (f .now) lastMonth) = book-form w book .month in
+      let most : T (leb (used f) longestRun) = le→leb (used f) longestRun (omega (arith, book-room w book, book-long w book)) in
       let least : T (leb 1 (used f)) = le→leb 1 (used f) (omega arith) in
       let rest = legal w book in
       search and-intro

@@ -8,9 +8,9 @@ use native.Mathlib.Omega.{arith}
 use lib.Dec.{T, eqb}
 use lib.ListN.{length, getD}
 use borrow.Author.Tests.{not-false, eq-eqb, ne-eqb}
+use Rattle.word.specs.Strikes.{isMarkedIn}
 use Rattle.word.specs.declared.answer.Answer.the-variants.{Done, Refused}
 use Rattle.word.specs.declared.answer.Refusal.the-variants.{NotStanding, OpenInterest}
-use Rattle.word.specs.Field.{field}
 use Rattle.word.specs.Limits.{isMark}
 use Rattle.book.specs.Facts.{isOpen}
 use Rattle.book.specs.Layout.{layout, factsOf}
@@ -74,10 +74,10 @@ module _
     found-alone = strike-alone w book c m o (r .at) (place-inside .0) (place-inside .1)
 
     -- what the word of the strike says
-    interest : not (eqb (field (getD w (r .at) 0) 18 2) 0) ≡ hasOpenInterest seen m h
+    interest : isMarkedIn (getD w (r .at) 0) ≡ hasOpenInterest seen m h
     interest =
         let b = book-facts w book in
-        (λ i. not (eqb (field (getD (sym (b .1) i) (found-place i) 0) 18 2) 0))
+        (λ i. isMarkedIn (getD (sym (b .1) i) (found-place i) 0))
         ∙ interest-says (length w) (factsOf w) c m h (b .0) o strike-standing
 
   -- ---- the ways out of `X`
@@ -90,20 +90,18 @@ module _
 
     module _ (s : not (r .standing) ≡ false) where
       pub delist-marked :
-          (field (getD w (r .at) 0) 18 2 ≡ 0 → ⊥) → Made (on c (callX m h)) w [] (Refused OpenInterest) w []
+          isMarkedIn (getD w (r .at) 0) ≡ true → Made (on c (callX m h)) w [] (Refused OpenInterest) w []
       unfolding answerTo effectOn
-      delist-marked k =
-          let marked = ap not (ne-eqb (field (getD w (r .at) 0) 18 2) 0 k) in
+      delist-marked marked =
           made-refused (on c (callX m h)) w [] book (Refused OpenInterest) refl
           (rw (l, opened, said ∙ s, sym (interest s) ∙ marked))
 
       pub delist-done :
-          field (getD w (r .at) 0) 18 2 ≡ 0 → (w′ : List ℕ)
+          isMarkedIn (getD w (r .at) 0) ≡ false → (w′ : List ℕ)
           → w′ ≡ layout (length w) (update (strikeRemoved m h (class (factsOf w) c)) (factsOf w))
           → Made (on c (callX m h)) w [] Done w′ []
       unfolding answerTo effectOn
-      delist-done k w′ left =
-          let unmarked = ap not (eq-eqb (field (getD w (r .at) 0) 18 2) 0 k) in
+      delist-done unmarked w′ left =
           made-accepted (on c (callX m h)) w [] book Done w′ refl
           (rw (l, opened, said ∙ s, sym (interest s) ∙ unmarked)) left
 

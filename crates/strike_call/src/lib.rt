@@ -7,7 +7,7 @@ ghost use mathlib.Core.List.{[]};
 ghost use mathlib.Core.Path.{_≡_};
 ghost use lib.Dec.{T, ltb};
 ghost use lib.ListN.{getD};
-ghost use Rattle.word.specs.Kinds.{isOfKind};
+ghost use Rattle.word.specs.Kinds.{isOfKind, strikeKind};
 ghost use Rattle.book.specs.Books.{isBook};
 ghost use Rattle.book.specs.Calls.{on, callA, callI, callJ, callL, callX, isPlace};
 ghost use Rattle.book.specs.Layout.{factsOf, used};
@@ -18,7 +18,6 @@ use edit::insert_strike;
 use edit::store_marks;
 use place::head;
 use place::lookup::StrikeSearch;
-use place::lookup::figures_at;
 use place::lookup::look_up_expiration;
 use place::lookup::look_up_strike;
 use place::lookup::open_at;
@@ -28,14 +27,16 @@ use rule::terms::Setting;
 use rule::terms::is_outside;
 use word::answer::Answer;
 use word::answer::Refusal;
-use word::codec::kind;
-use word::field::field_of;
+use word::figures;
+use word::kind::STRIKE;
+use word::kind::is_of_kind;
 use word::limits::is_class_number;
 use word::limits::is_mark;
 use word::limits::is_month;
 use word::limits::is_strike;
 use word::strike::Marks;
 use word::strike::Strike;
+use word::strike::is_marked;
 
 // Whether the numbers that name a strike are within their limits.
 fn is_place(c: u32, m: u32, h: u32) -> bool
@@ -47,12 +48,13 @@ fn is_place(c: u32, m: u32, h: u32) -> bool
 // Whether the words used have a strike there.
 fn is_strike_at(run: &[u32], at: usize) -> bool
     requires { ⌜ T (isBook (now run)) ⌝ }
-    ensures { λ r. ⌜ r ≡ (ltb at (used (factsOf (now (run .entry)))) && isOfKind 6 (getD (now (run .entry)) at 0)) ⌝ }
+    ensures { λ r. ⌜ r
+        ≡ (ltb at (used (factsOf (now (run .entry)))) && isOfKind strikeKind (getD (now (run .entry)) at 0)) ⌝ }
 {
     if head::used(run) <= at {
         return false;
     }
-    kind(run[at]) == 6
+    is_of_kind(run[at], STRIKE)
 }
 
 // What the conditions before the rules and then the rules say of a strike that was looked up: 5, 6, 8, 11, 12, 13 or
@@ -63,7 +65,7 @@ fn judge_found(run: &[u32], class: usize, found: StrikeSearch, m: u32, h: u32) -
     ensures { λ r. ⌜ ((x : Sought (now (run .entry)) class found m h)
         → r ≡ judged m h (viewOf (x .begins .number) (factsOf (now (run .entry))))) ⌝ }
 {
-    let figures = figures_at(run, class);
+    let figures = figures::read(run, class);
     let setting = Setting {
         class: figures,
         current: head::current(run),
@@ -147,7 +149,7 @@ pub fn delist_strike(run: &mut [u32], places: &mut [u32], c: u32, m: u32, h: u32
         return Answer::Refused(Refusal::NotStanding);
     }
     let at = found.at;
-    if field_of(run[at], 18, 2) != 0 {
+    if is_marked(run[at]) {
         return Answer::Refused(Refusal::OpenInterest);
     }
     let alone = !is_strike_at(run, at - 1) & !is_strike_at(run, at + 1);
@@ -196,7 +198,7 @@ pub fn list_permitted(run: &[u32], second: &mut [u32], places: &mut [u32], c: u3
     if at == 0 {
         return Answer::Refused(Refusal::NotOpen);
     }
-    let class = figures_at(words, at);
+    let class = figures::read(words, at);
     let setting = Setting {
         class,
         current: head::current(words),

@@ -40,13 +40,13 @@ within p =
     at (p .if1 .left)
 
 found :
-    (p : tie.After-figures-at)
+    (p : tie.After-read)
     → let q = p .before .before in
     let s = start (limited q .before) in
-    Found (s .args .run .now) (s .args .c) (sought q .open-at .result) (p .figures-at .result)
+    Found (s .args .run .now) (s .args .c) (sought q .open-at .result) (p .read .result)
 found p =
     let q = p .before .before in
-    record { sought = sought q .open-at .ensures; there = q .if2 .left; said = p .figures-at .ensures }
+    record { sought = sought q .open-at .ensures; there = q .if2 .left; said = p .read .ensures }
 
 -- before the place where the claim is granted: that where it was asked for
 abbrev granted : tie.Else3 → tie.After-claim-of
@@ -91,8 +91,8 @@ returns-2 c =
     made-not-open _ (callD _ _) _ _ (s .pre) _ refl (within p)
     (place-none (s .args .c) (factsOf (s .args .run .now)) _ (found-none .open-at .ensures) (c .if2 .taken))
 
-figures-at-requires : tie.Need-figures-at-requires
-figures-at-requires c κs =
+read-requires : tie.Need-read-requires
+read-requires c κs =
     let p = c .before in
     omega (arith, open-room _ (start (limited p .before) .pre) _ _ (sought p .open-at .ensures) (p .if2 .left))
 
@@ -166,7 +166,7 @@ designate-spec =
     same-length
     same-length-2
     returns-2
-    figures-at-requires
+    read-requires
     claim-of-requires
     is-accepted-requires
     same-length-3

@@ -5,6 +5,7 @@ use mathlib.Core.Bool.{false, not}
 use native.Mathlib.Omega.{arith}
 use lib.ListN.{length}
 use borrow.Author.Needs.{needs}
+use Rattle.word.specs.Figures.{figuresLength}
 use Rattle.word.specs.Limits.{isClassNumber}
 use Rattle.book.specs.Layout.{factsOf}
 use Rattle.book.specs.Calls.{on, callR, effectOn}
@@ -30,30 +31,30 @@ within : (p : tie.Else1) → not (isClassNumber (start p .args .c)) ≡ false
 within p = rw (p .before .is-class-number .ensures) at (p .if1 .left)
 
 found :
-    (p : tie.After-figures-at)
+    (p : tie.After-read)
     → let q = p .before .before in
     let s = start (limited q) in
-    Found (s .args .run .now) (s .args .c) (sought q .open-at .result) (p .figures-at .result)
+    Found (s .args .run .now) (s .args .c) (sought q .open-at .result) (p .read .result)
 found p =
     let q = p .before .before in
-    record { sought = sought q .open-at .ensures; there = q .if2 .left; said = p .figures-at .ensures }
+    record { sought = sought q .open-at .ensures; there = q .if2 .left; said = p .read .ensures }
 
 -- its words are words of the run
-room : (p : tie.Else2) → sought p .open-at .result + 3 ≤ length (start (limited p) .args .run .now)
+room : (p : tie.Else2) → sought p .open-at .result + figuresLength ≤ length (start (limited p) .args .run .now)
 room p = open-room _ (start (limited p) .pre) _ _ (sought p .open-at .ensures) (p .if2 .left)
 
 -- before the place where the series end: that where the figures were read
-abbrev read : tie.After-next-class → tie.After-figures-at
-read p = p .before .before .before .before
+abbrev reading : tie.After-next-class → tie.After-read
+reading p = p .before .before .before .before
 
 abbrev reviewable :
     (p : tie.After-next-class)
-    → let q = read p .before .before in
+    → let q = reading p .before .before in
     Reviewable (start (limited q) .args .run .now) (sought q .open-at .result + 3) (p .next-class .result)
-    (read p .figures-at .result .close)
+    (reading p .read .result .close)
 reviewable p =
-    let q = limited (read p .before .before) in
-    class-reviewable _ _ (start q .pre) (within q) _ _ (found (read p)) _ (p .next-class .ensures .0)
+    let q = limited (reading p .before .before) in
+    class-reviewable _ _ (start q .pre) (within q) _ _ (found (reading p)) _ (p .next-class .ensures .0)
 
 is-class-number-requires : tie.Need-is-class-number-requires
 is-class-number-requires c κs = search needs
@@ -85,8 +86,8 @@ returns-2 c =
     made-not-open _ callR _ _ (start p .pre) _ refl (within p)
     (place-none (a .c) (factsOf (a .run .now)) _ (found-none .open-at .ensures) (c .if2 .taken))
 
-figures-at-requires : tie.Need-figures-at-requires
-figures-at-requires c κs = omega (arith, room (c .before))
+read-requires : tie.Need-read-requires
+read-requires c κs = omega (arith, room (c .before))
 
 same-length-3 : tie.Need-same-length-3
 same-length-3 c = search needs
@@ -123,10 +124,10 @@ cast-t24 : tie.Need-cast-t24
 cast-t24 c =
     let reviewed = c .before .before in
     let p = reviewed .before .before in
-    let q = limited (read p .before .before) in
+    let q = limited (reading p .before .before) in
     omega (
       arith,
-      review-count _ _ (start q .pre) (within q) _ _ (found (read p)) _ (reviewed .review .ensures (reviewable p) .0),
+      review-count _ _ (start q .pre) (within q) _ _ (found (reading p)) _ (reviewed .review .ensures (reviewable p) .0),
     )
 
 same-length-5 : tie.Need-same-length-5
@@ -140,8 +141,8 @@ returns-4 c =
     let reviewed = c .before .before in
     let p = reviewed .before .before in
     let closed = p .before .before in
-    let q = limited (read p .before .before) in
-    review-made _ _ (start q .pre) (within q) _ _ (found (read p)) _ _ (reviewed .review .ensures (reviewable p))
+    let q = limited (reading p .before .before) in
+    review-made _ _ (start q .pre) (within q) _ _ (found (reading p)) _ _ (reviewed .review .ensures (reviewable p))
     (closed .if3 .left)
 
 pub review-class-spec : {M : Type 1} → statement M
@@ -154,7 +155,7 @@ review-class-spec =
     same-length
     same-length-2
     returns-2
-    figures-at-requires
+    read-requires
     same-length-3
     same-length-4
     returns-3

@@ -32,13 +32,13 @@ within :
 within p = rw (p .before .before .is-class-number .ensures, p .before .is-volume .ensures) at (p .if1 .left)
 
 found :
-    (p : tie.After-figures-at)
+    (p : tie.After-read)
     → let q = p .before .before in
     let s = start (limited q .before) in
-    Found (s .args .run .now) (s .args .c) (sought q .open-at .result) (p .figures-at .result)
+    Found (s .args .run .now) (s .args .c) (sought q .open-at .result) (p .read .result)
 found p =
     let q = p .before .before in
-    record { sought = sought q .open-at .ensures; there = q .if2 .left; said = p .figures-at .ensures }
+    record { sought = sought q .open-at .ensures; there = q .if2 .left; said = p .read .ensures }
 
 is-class-number-requires : tie.Need-is-class-number-requires
 is-class-number-requires c κs = search needs
@@ -74,8 +74,8 @@ returns-2 c =
     made-not-open _ (callV _) _ _ (s .pre) _ refl (within p)
     (place-none (s .args .c) (factsOf (s .args .run .now)) _ (found-none .open-at .ensures) (c .if2 .taken))
 
-figures-at-requires : tie.Need-figures-at-requires
-figures-at-requires c κs =
+read-requires : tie.Need-read-requires
+read-requires c κs =
     let p = c .before in
     omega (arith, open-room _ (start (limited p .before) .pre) _ _ (sought p .open-at .ensures) (p .if2 .left))
 
@@ -114,7 +114,7 @@ set-volume-spec =
     same-length
     same-length-2
     returns-2
-    figures-at-requires
+    read-requires
     with-volume-requires
     store-figures-requires
     same-length-3

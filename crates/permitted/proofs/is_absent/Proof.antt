@@ -25,20 +25,20 @@ abbrev start : tie.At-loop Inv-loop μ-loop → tie.Start Inv-loop μ-loop
 start p = p .before .before
 
 -- a turn of the loop
-abbrev turn : tie.After-field-of Inv-loop μ-loop → tie.In-loop Inv-loop μ-loop
+abbrev turn : tie.After-key-of Inv-loop μ-loop → tie.In-loop Inv-loop μ-loop
 turn p = p .before .before
 
 loop-holds : tie.Need-loop-holds Inv-loop μ-loop
 loop-holds c = cleared-none _ _
 
-mul-field-of : tie.Need-mul-field-of Inv-loop μ-loop
-mul-field-of c = search needs
+mul-key-of : tie.Need-mul-key-of Inv-loop μ-loop
+mul-key-of c = search needs
 
-shared-slice-read-field-of : tie.Need-shared-slice-read-field-of Inv-loop μ-loop
-shared-slice-read-field-of c = search needs
+shared-slice-read-key-of : tie.Need-shared-slice-read-key-of Inv-loop μ-loop
+shared-slice-read-key-of c = search needs
 
-field-of-requires : tie.Need-field-of-requires Inv-loop μ-loop
-field-of-requires c κs = search needs
+key-of-requires : tie.Need-key-of-requires Inv-loop μ-loop
+key-of-requires c κs = search needs
 
 returns : tie.Need-returns Inv-loop μ-loop
 returns c =
@@ -47,7 +47,7 @@ returns c =
     sym
     (absent-words (args .near .now) (args .h)
     ∙ cleared-not 0 (l .before .loop .inv) (l .loop-test .taken)
-    (rw (← c .before .field-of .ensures, eq-eqb _ _ (c .if1 .taken))))
+    (rw (← c .before .key-of .ensures, eq-eqb _ _ (c .if1 .taken))))
 
 add-i : tie.Need-add-i Inv-loop μ-loop
 add-i c = search needs
@@ -59,7 +59,7 @@ loop-again : tie.Need-loop-again Inv-loop μ-loop
 loop-again c =
     let l = turn (c .before) in
     cleared-next 0 (l .before .loop .inv) (l .loop-test .taken)
-    (rw (← c .before .field-of .ensures, ne-eqb _ _ (c .if1 .left)))
+    (rw (← c .before .key-of .ensures, ne-eqb _ _ (c .if1 .left)))
 
 returns-2 : tie.Need-returns-2 Inv-loop μ-loop
 returns-2 c =
@@ -73,9 +73,9 @@ is-absent-spec =
     Inv-loop
     μ-loop
     loop-holds
-    mul-field-of
-    shared-slice-read-field-of
-    field-of-requires
+    mul-key-of
+    shared-slice-read-key-of
+    key-of-requires
     returns
     add-i
     loop-less

@@ -5,17 +5,17 @@ use borrow.Author.Tests.{lt-ltb, le-ltb}
 use Rattle.permitted.proofs.strike_at.Statement.{statement}
 use Rattle.permitted.proofs.strike_at.Tie as tie
 
-mul-field-of : tie.Need-mul-field-of
-mul-field-of c = search needs
+mul-key-of : tie.Need-mul-key-of
+mul-key-of c = search needs
 
-shared-slice-read-field-of : tie.Need-shared-slice-read-field-of
-shared-slice-read-field-of c = search needs
+shared-slice-read-key-of : tie.Need-shared-slice-read-key-of
+shared-slice-read-key-of c = search needs
 
-field-of-requires : tie.Need-field-of-requires
-field-of-requires c κs = search needs
+key-of-requires : tie.Need-key-of-requires
+key-of-requires c κs = search needs
 
 returns : tie.Need-returns
-returns c = rw (lt-ltb _ _ (c .before .before .if1 .taken)) (c .field-of .ensures)
+returns c = rw (lt-ltb _ _ (c .before .before .if1 .taken)) (c .key-of .ensures)
 
 returns-2 : tie.Need-returns-2
 returns-2 c = rw (le-ltb _ _ (c .if1 .left))
@@ -23,4 +23,4 @@ returns-2 c = rw (le-ltb _ _ (c .if1 .left))
 pub strike-at-spec : {M : Type 1} → statement M
 strike-at-spec =
     tie.close
-    (tie.spec mul-field-of shared-slice-read-field-of field-of-requires returns returns-2)
+    (tie.spec mul-key-of shared-slice-read-key-of key-of-requires returns returns-2)

@@ -19,26 +19,26 @@ abbrev μ-loop : tie.MeasureT-loop
 -- ---- places
 
 -- a turn of the loop
-abbrev turn : tie.After-field-of Inv-loop μ-loop → tie.In-loop Inv-loop μ-loop
+abbrev turn : tie.After-key-of Inv-loop μ-loop → tie.In-loop Inv-loop μ-loop
 turn p = p .before .before
 
 loop-holds : tie.Need-loop-holds Inv-loop μ-loop
 loop-holds c = passed-none _ _ _ (c .before .pre)
 
-mul-field-of : tie.Need-mul-field-of Inv-loop μ-loop
-mul-field-of c = search needs
+mul-key-of : tie.Need-mul-key-of Inv-loop μ-loop
+mul-key-of c = search needs
 
-shared-slice-read-field-of : tie.Need-shared-slice-read-field-of Inv-loop μ-loop
-shared-slice-read-field-of c = search needs
+shared-slice-read-key-of : tie.Need-shared-slice-read-key-of Inv-loop μ-loop
+shared-slice-read-key-of c = search needs
 
-field-of-requires : tie.Need-field-of-requires Inv-loop μ-loop
-field-of-requires c κs = search needs
+key-of-requires : tie.Need-key-of-requires Inv-loop μ-loop
+key-of-requires c κs = search needs
 
 returns : tie.Need-returns Inv-loop μ-loop
 returns c =
     let l = turn (c .before) in
     passed-here (l .before .loop .inv) (l .loop-test .taken)
-    (rw (← c .before .field-of .ensures) (le-leb _ _ (c .if1 .taken)))
+    (rw (← c .before .key-of .ensures) (le-leb _ _ (c .if1 .taken)))
 
 add-i : tie.Need-add-i Inv-loop μ-loop
 add-i c = search needs
@@ -50,7 +50,7 @@ loop-again : tie.Need-loop-again Inv-loop μ-loop
 loop-again c =
     let l = turn (c .before) in
     passed-next (l .before .loop .inv) (l .loop-test .taken)
-    (rw (← c .before .field-of .ensures) (lt-leb _ _ (c .if1 .left)))
+    (rw (← c .before .key-of .ensures) (lt-leb _ _ (c .if1 .left)))
 
 returns-2 : tie.Need-returns-2 Inv-loop μ-loop
 returns-2 c = passed-all (c .before .loop .inv) (c .loop-test .left)
@@ -62,9 +62,9 @@ strike-from-spec =
     Inv-loop
     μ-loop
     loop-holds
-    mul-field-of
-    shared-slice-read-field-of
-    field-of-requires
+    mul-key-of
+    shared-slice-read-key-of
+    key-of-requires
     returns
     add-i
     loop-less

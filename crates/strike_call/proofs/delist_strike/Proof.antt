@@ -159,16 +159,16 @@ returns-3 c =
     delist-not-standing (a .run .now) (s .pre) (a .c) (a .m) (a .h) (begins (opened l) .is-open) _ (searched l)
     (limits (within (opened l))) (c .if3 .taken)
 
-mul-field-of : tie.Need-mul-field-of
-mul-field-of c =
+mul-is-marked : tie.Need-mul-is-marked
+mul-is-marked c =
     let s = called (found c) in
     omega (arith, place-inside c, book-long (s .args .run .now) (s .pre))
 
-slice-read-field-of : tie.Need-slice-read-field-of
-slice-read-field-of c = place-inside (c .before) .1
+slice-read-is-marked : tie.Need-slice-read-is-marked
+slice-read-is-marked c = place-inside (c .before) .1
 
-field-of-requires : tie.Need-field-of-requires
-field-of-requires c κs = search needs
+is-marked-requires : tie.Need-is-marked-requires
+is-marked-requires c κs = search needs
 
 same-length-5 : tie.Need-same-length-5
 same-length-5 c = search needs
@@ -184,7 +184,7 @@ returns-4 c =
     let s = called l in
     let a = s .args in
     delist-marked (a .run .now) (s .pre) (a .c) (a .m) (a .h) (begins (opened l) .is-open) _ (searched l)
-    (limits (within (opened l))) (t .if3 .left) (λ z. c .if4 .taken (i .field-of .ensures ∙ z))
+    (limits (within (opened l))) (t .if3 .left) (sym (i .is-marked .ensures) ∙ c .if4 .taken)
 
 sub-is-strike-at : tie.Need-sub-is-strike-at
 sub-is-strike-at c = place-inside (stands (c .before)) .0
@@ -220,7 +220,7 @@ returns-5 c =
     let s = called l in
     let a = s .args in
     delist-done (a .run .now) (s .pre) (a .c) (a .m) (a .h) (begins (opened l) .is-open) _ (searched l)
-    (limits (within (opened l))) (t .if3 .left) (sym (u .before .field-of .ensures) ∙ u .if4 .left) _
+    (limits (within (opened l))) (t .if3 .left) (sym (u .before .is-marked .ensures) ∙ u .if4 .left) _
     (d .delist .ensures (delistable n))
 
 pub delist-strike-spec : {M : Type 1} → statement M
@@ -237,9 +237,9 @@ delist-strike-spec =
     same-length-3
     same-length-4
     returns-3
-    mul-field-of
-    slice-read-field-of
-    field-of-requires
+    mul-is-marked
+    slice-read-is-marked
+    is-marked-requires
     same-length-5
     same-length-6
     returns-4

@@ -20,29 +20,29 @@ returns c =
     let a = u .before .before .args in
     rw (le-ltb (a .at) (used (factsOf (a .run .now))) (omega (arith, u .used .ensures)))
 
-mul-kind : tie.Need-mul-kind
-mul-kind c =
+mul-is-of-kind : tie.Need-mul-is-of-kind
+mul-is-of-kind c =
     let s = c .before .before .before in
     let w = s .args .run .now in
     omega (arith, c .before .used .ensures, book-room w (s .pre), book-long w (s .pre))
 
-shared-slice-read-kind : tie.Need-shared-slice-read-kind
-shared-slice-read-kind c =
+shared-slice-read-is-of-kind : tie.Need-shared-slice-read-is-of-kind
+shared-slice-read-is-of-kind c =
     let e = c .before in
     let s = e .before .before .before in
     omega (arith, e .before .used .ensures, book-room (s .args .run .now) (s .pre))
 
-kind-requires : tie.Need-kind-requires
-kind-requires c κs = search needs
+is-of-kind-requires : tie.Need-is-of-kind-requires
+is-of-kind-requires c κs = search needs
 
 returns-2 : tie.Need-returns-2
 returns-2 c =
     let e = c .before .before in
     let a = e .before .before .before .args in
-    ap (λ (k : ℕ). eqb k 6) (c .kind .ensures)
+    c .is-of-kind .ensures
     ∙ rw (lt-ltb (a .at) (used (factsOf (a .run .now))) (omega (arith, e .before .used .ensures)))
 
 pub is-strike-at-spec : {M : Type 1} → statement M
 is-strike-at-spec =
     tie.close
-    (tie.spec used-requires returns mul-kind shared-slice-read-kind kind-requires returns-2)
+    (tie.spec used-requires returns mul-is-of-kind shared-slice-read-is-of-kind is-of-kind-requires returns-2)

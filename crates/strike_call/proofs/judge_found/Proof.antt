@@ -29,8 +29,8 @@ ended c = begun (c .before .before)
 
 -- ---- what is to be shown there
 
-figures-at-requires : tie.Need-figures-at-requires
-figures-at-requires c κs = class-words (c .before .pre)
+read-requires : tie.Need-read-requires
+read-requires c κs = class-words (c .before .pre)
 
 current-requires : tie.Need-current-requires
 current-requires c κs = search needs
@@ -44,14 +44,14 @@ returns : tie.Need-returns
 returns c =
     let q = c .before in
     λ x.
-    found-outside x _ (q .before .before .figures-at .ensures) _ (q .before .current .ensures)
+    found-outside x _ (q .before .before .read .ensures) _ (q .before .current .ensures)
     (sym (q .is-outside .ensures) ∙ c .if1 .taken)
 
 returns-2 : tie.Need-returns-2
 returns-2 c =
     let q = c .before .before in
     λ x.
-    found-standing x _ (q .before .before .figures-at .ensures) _ (q .before .current .ensures)
+    found-standing x _ (q .before .before .read .ensures) _ (q .before .current .ensures)
     (sym (q .is-outside .ensures) ∙ c .before .if1 .left) (c .if2 .taken)
 
 returns-3 : tie.Need-returns-3
@@ -59,7 +59,7 @@ returns-3 c =
     let t = c .before .before in
     let q = t .before .before in
     λ x.
-    found-no-close x _ (q .before .before .figures-at .ensures) _ (q .before .current .ensures)
+    found-no-close x _ (q .before .before .read .ensures) _ (q .before .current .ensures)
     (sym (q .is-outside .ensures) ∙ t .before .if1 .left) (t .if2 .left) (c .if3 .taken)
 
 sub-is-strike-at : tie.Need-sub-is-strike-at
@@ -140,7 +140,7 @@ judge-requires c κs =
     let q = tested (j .before .before .before) in
     let s = start q in
     record {
-      close = class-close (s .pre) _ (q .before .before .figures-at .ensures);
+      close = class-close (s .pre) _ (q .before .before .read .ensures);
       current = omega (arith, book-month (s .args .run .now) (s .pre .book), q .before .current .ensures);
       strike = strike-most (s .pre);
     }
@@ -152,7 +152,7 @@ returns-4 c =
     let t = u .before .before in
     let q = t .before .before in
     λ x.
-    found-judged x _ (q .before .before .figures-at .ensures) _ (q .before .current .ensures)
+    found-judged x _ (q .before .before .read .ensures) _ (q .before .current .ensures)
     (sym (q .is-outside .ensures) ∙ t .before .if1 .left) (t .if2 .left) (u .if3 .left) _ _ (begins (j .before .before))
     (ends j) _ (c .judge .ensures)
 
@@ -160,7 +160,7 @@ pub judge-found-spec : {M : Type 1} → statement M
 judge-found-spec =
     tie.close
     (tie.spec
-    figures-at-requires
+    read-requires
     current-requires
     is-outside-requires
     returns

@@ -113,8 +113,8 @@ returns-2 c =
     made-not-open (a .c) (callA (a .m)) (a .run .now) (a .second .now) (s .pre) _ refl (limits l)
     (place-none (a .c) (factsOf (a .run .now)) _ (asked .open-at .ensures) (c .if2 .taken))
 
-figures-at-requires : tie.Need-figures-at-requires
-figures-at-requires c κs =
+read-requires : tie.Need-read-requires
+read-requires c κs =
     let s = called c in
     let w = s .args .run .now in
     omega (arith, begins-room w (s .pre) _ (begins c), book-room w (s .pre))
@@ -137,7 +137,7 @@ returns-3 c =
     let s = called o in
     let a = s .args in
     permitting-outside (a .run .now) (a .second .now) (s .pre) (a .c) (a .m) (limits (within o)) (begins o .is-open) _
-    (begins o .place) _ (g .figures-at .ensures) _ (c .before .before .current .ensures)
+    (begins o .place) _ (g .read .ensures) _ (c .before .before .current .ensures)
     (sym (c .before .is-outside .ensures) ∙ c .if3 .taken)
 
 same-length-3 : tie.Need-same-length-3
@@ -151,7 +151,7 @@ returns-4 c =
     let s = called o in
     let a = s .args in
     permitting-no-close (a .run .now) (a .second .now) (s .pre) (a .c) (a .m) (limits (within o)) (begins o .is-open) _
-    (begins o .place) _ (g .figures-at .ensures) _ (t .before .before .current .ensures)
+    (begins o .place) _ (g .read .ensures) _ (t .before .before .current .ensures)
     (sym (t .before .is-outside .ensures) ∙ t .if3 .left) (c .if4 .taken)
 
 look-up-expiration-requires : tie.Need-look-up-expiration-requires
@@ -184,7 +184,7 @@ list-permitted-requires c κs =
     let s = called o in
     let a = s .args in
     permitting-listable (a .run .now) (a .second .now) (s .pre) (a .c) (a .m) (limits (within o)) (begins o .is-open) _
-    (begins o .place) _ (g .figures-at .ensures) _ (t .before .before .current .ensures)
+    (begins o .place) _ (g .read .ensures) _ (t .before .before .current .ensures)
     (sym (t .before .is-outside .ensures) ∙ t .if3 .left) _ (found x)
 
 same-length-4 : tie.Need-same-length-4
@@ -203,7 +203,7 @@ returns-5 c =
     let s = called o in
     let a = s .args in
     permitting-filled (a .run .now) (a .second .now) (s .pre) (a .c) (a .m) (limits (within o)) (begins o .is-open) _
-    (begins o .place) _ (g .figures-at .ensures) _ (t .before .before .current .ensures)
+    (begins o .place) _ (g .read .ensures) _ (t .before .before .current .ensures)
     (sym (t .before .is-outside .ensures) ∙ t .if3 .left) _ (found x) (x .before .if4 .left)
     (y .list-permitted .ensures)
 
@@ -217,7 +217,7 @@ list-permitted-spec =
     open-at-requires
     same-length
     returns-2
-    figures-at-requires
+    read-requires
     current-requires
     is-outside-requires
     same-length-2
