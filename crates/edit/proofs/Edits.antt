@@ -1,25 +1,27 @@
 -- What each edit of the words of a book asks and makes of its facts: the edit's words between those that stay, by the
 -- laws of runs. Assumes nothing.
-use Prim.Native.Nat.{ℕ, suc, _+_, _≤_, _<_}
+use Prim.Native.Nat.{ℕ, _+_, _≤_, _<_}
 use mathlib.Core.Path.{_≡_, refl, ap, _∙_}
 use mathlib.Core.Bool.{Bool, cond}
 use mathlib.Core.List.{List, [], _∷_, map}
 use native.Mathlib.Omega.{arith}
 use lib.Dec.{T}
 use lib.ListN.{length, getD, set}
+use lib.Seq.{sets}
 use Rattle.word.specs.declared.class.ClassRecord.{ClassRecord}
-use Rattle.word.specs.Codec.{Close, Volume, Strike, packed, Fits}
+use Rattle.word.specs.Codec.{Strike, packed, Fits}
 use Rattle.word.specs.Class.{opened}
 use Rattle.word.specs.Field.{field}
+use Rattle.word.specs.Kinds.{keyOf, strikeKind, groundField}
 use Rattle.word.proofs.Words.{strike-fields}
 use Rattle.book.specs.Facts.{Facts, withFigures}
-use Rattle.word.specs.Figures.{classWord, figuresWords, areFigures}
+use Rattle.word.specs.Figures.{figuresLength, figuresWords, areFigures}
 use Rattle.book.specs.Layout.{expirationUnless, strikeWord, layout, factsOf}
 use Rattle.book.specs.Books.{isBook}
 use Rattle.book.specs.Views.{class}
 use Rattle.book.specs.Changes.{update, newSeries, strikeAdded, marksSet, classOpened}
-use Rattle.book.specs.Places.{StrikeStands, classPlace}
-use Rattle.word.proofs.RawWords.{fits, figures-legal}
+use Rattle.book.specs.Places.{StrikeStands}
+use Rattle.word.proofs.RawWords.{fits}
 use Rattle.book.proofs.LegalWords.{strike-legal}
 use Rattle.logic.proofs.Tests.{and-intro}
 use Rattle.book.proofs.Splices.{figures-spliced, opened-spliced, listed-spliced, marking}
@@ -28,18 +30,7 @@ use Rattle.place.proofs.Heads.{book-good, book-room}
 use Rattle.place.proofs.Found.{class-within, class-room}
 use Rattle.edit.specs.Insertion.{HasRoom, insertWords}
 use Rattle.edit.specs.Asked.{Storable, Markable, Openable, Insertable}
-use Rattle.edit.proofs.Runs.{old-read, stored, inserted}
-
--- what the words of a class ask of its figures
-abbrev pub FiguresFit : ClassRecord → Type 0
-FiguresFit r = Fits (classWord r) × (Fits (Close (r .close)) × Fits (Volume (r .volume)))
-
-pub figures-fit : (r : ClassRecord) → T (areFigures r) → FiguresFit r
-figures-fit r t =
-    let l = figures-legal r t in (
-      fits (classWord r) (l .0),
-      (fits (Close (r .close)) (l .1 .0), fits (Volume (r .volume)) (l .1 .1)),
-    )
+use Rattle.edit.proofs.EditedRuns.{old-read, stored, inserted}
 
 module _ (ws : List ℕ) (at : ℕ) where
   abbrev f : Facts
@@ -48,27 +39,17 @@ module _ (ws : List ℕ) (at : ℕ) where
   -- ---- figures stored
 
   module _ (r : ClassRecord) (x : Storable ws at r) where
-    pub figures-room : at + 3 ≤ length ws
+    pub figures-room : at + figuresLength ≤ length ws
     figures-room =
         omega (arith, x .place, class-room ws (x .book) (r .number) (x .is-open), book-room ws (x .book))
 
     pub figures-stored :
-        set
-        (set (set ws at (packed (classWord r))) (at + 1) (packed (Close (r .close))))
-        (at + 2)
-        (packed (Volume (r .volume)))
+        sets ws at (map packed (figuresWords r []))
         ≡ layout (length ws) (update (withFigures r (class f (r .number))) f)
     figures-stored =
-        let c = r .number in
-        let e = x .place in
-        let first : at + 1 ≡ suc (classPlace c f) = omega arith in
-        let second : at + 2 ≡ suc (suc (classPlace c f)) = omega arith in
-        (λ i.
-        set
-        (set (set ws (e i) (packed (classWord r))) (first i) (packed (Close (r .close))))
-        (second i)
-        (packed (Volume (r .volume))))
-        ∙ stored ws (x .book) (figures-spliced (length ws) f c (book-good ws (x .book)) (x .is-open) r refl) refl
+        let good = book-good ws (x .book) in
+        ap (λ (i : ℕ). sets ws i (map packed (figuresWords r []))) (x .place)
+        ∙ stored ws (x .book) (figures-spliced (length ws) f (r .number) good (x .is-open) r refl) refl
 
   -- ---- marks stored
 
@@ -104,11 +85,12 @@ module _ (ws : List ℕ) (at : ℕ) where
   -- ---- a class put in
 
   module _ (c : ℕ) (x : Openable ws at c) where
-    pub opened-fit : (r : ClassRecord) → r ≡ opened c → FiguresFit r
-    opened-fit r e = let t = x .number in figures-fit r (rw e (search and-intro))
+    pub opened-limits : (r : ClassRecord) → r ≡ opened c → T (areFigures r)
+    opened-limits r e = let t = x .number in rw e (search and-intro)
 
-    pub opened-room : HasRoom 3 at ws
-    opened-room = (x .book, (omega (arith, x .place, class-within ws (x .book) c), x .room))
+    pub opened-room : HasRoom figuresLength at ws
+    opened-room =
+        record { book = x .book; inside = omega (arith, x .place, class-within ws (x .book) c); room = x .room }
 
     pub class-inserted :
         insertWords at (map packed (figuresWords (opened c) [])) ws ≡ layout (length ws) (classOpened c f)
@@ -125,7 +107,7 @@ module _ (ws : List ℕ) (at : ℕ) where
     pub listed-room : HasRoom (cond {A = ℕ} stands 1 2) at ws
     listed-room =
         let within = strike-within (length ws) f (x .class) m (book-good ws (x .book)) (x .is-open) h in
-        (x .book, (omega (arith, x .place, within), x .room))
+        record { book = x .book; inside = omega (arith, x .place, within); room = x .room }
 
     pub strike-inserted :
         insertWords at (map packed (expirationUnless stands m (strikeWord (newSeries m h ground) ∷ []))) ws

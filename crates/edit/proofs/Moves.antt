@@ -1,4 +1,5 @@
--- New words put before those of a run, which move up from the last on: from j on the words are those of the result, below j those of before, for any distance. Assumes nothing.
+-- New words put before those of a run, which move up from the last on: from j on the words are those of the result,
+-- below j those of before, for any distance. Assumes nothing.
 use Prim.Native.Nat.{ℕ, suc, _+_, _-_, _≤_, _<_}
 use mathlib.Core.Path.{_≡_, refl, sym, ap, _∙_}
 use mathlib.Core.List.{List, [], _∷_, _++_, append-nil, append-assoc}
@@ -43,7 +44,8 @@ push-more {new} {ws} {s} {j} k P e l = record {
       ap (λ (t : List ℕ). set t i v) now
       ∙ set-at (take i ws) (getD ws i 0) rest v i (length-take-le i ws (omega arith))
       ∙ ap (λ (x : ℕ). take i ws ++ (x ∷ rest)) moved
-      ∙ ap (λ (t : List ℕ). take i ws ++ t) (sym (drop-cons (pushed new ws) i 0 (omega (arith, length-pushed new ws))));
+      ∙ ap (λ (t : List ℕ). take i ws ++ t)
+      (sym (drop-cons (pushed new ws) i 0 (omega (arith, length-pushed new ws))));
 }
   where
     i : ℕ
@@ -67,7 +69,8 @@ push-more {new} {ws} {s} {j} k P e l = record {
     moved =
         let place : length new + (i - k) ≡ i = omega arith in
         ap (λ (t : List ℕ). getD t (i - k) 0) (P .is)
-        ∙ List·getD-append (take j ws) (drop j (pushed new ws)) 0 (i - k) (rw (length-take-le j ws (P .within)) (omega arith))
+        ∙ List·getD-append (take j ws) (drop j (pushed new ws)) 0 (i - k)
+        (rw (length-take-le j ws (P .within)) (omega arith))
         ∙ getD-take j ws (i - k) 0 (omega arith)
         ∙ sym (getD-append-add new ws (i - k) 0)
         ∙ ap (λ (n : ℕ). getD (new ++ ws) n 0) place
@@ -96,15 +99,15 @@ push-done {new} {ws} {s} {j} P l =
 
 -- ---- the part that was lent, back in its place
 
--- k new words in the part from `at` to k words past the count, and the new head
+-- k new words in the part from `at` to k words past the count, and the head that counts them
 pub pushed-between :
-    (ws new part : List ℕ) (at count k head : ℕ) → count ≡ used (factsOf ws) → length new ≡ k → at ≤ count
-    → count + k ≤ length ws → part ≡ pushed new (midOf at (count + k - at) ws)
-    → head ≡ packed (Head (factsOf ws .now) (count + k))
-    → set (putMid at (count + k - at) ws part) 0 head ≡ insertWords at new ws
+    (ws new part : List ℕ) (at count k month : ℕ) → count ≡ used (factsOf ws) → month ≡ factsOf ws .now → length new ≡ k
+    → at ≤ count → count + k ≤ length ws → part ≡ pushed new (midOf at (count + k - at) ws)
+    → set (putMid at (count + k - at) ws part) 0 (packed (Head month (count + k))) ≡ insertWords at new ws
 unfolding insertWords
-pushed-between ws new part at count k head all e inside room moved counted =
-    (λ i. set (take at ws ++ (put i ++ post-is at (count + k) ws (omega arith) i)) 0 (counted i))
+pushed-between ws new part at count k month all now e inside room moved =
+    (λ i.
+    set (take at ws ++ (put i ++ post-is at (count + k) ws (omega arith) i)) 0 (packed (Head (now i) (count + k))))
     ∙ ap (λ (l : List ℕ). set (take at ws ++ l) 0 (headOf (count + k)))
     (append-assoc new (take (count - at) (drop at ws)) (drop (count + k) ws))
     ∙ (λ i. set (take at ws ++ (new ++ (take (all i - at) (drop at ws) ++ drop (end i) ws))) 0 (headOf (end i)))

@@ -12,8 +12,10 @@ abbrev pub pushed : List ℕ → List ℕ → List ℕ
 pushed new ws = take (length ws) (new ++ ws)
 
 -- the book ws has room for k more words, and `at` is not past the words that it uses
-abbrev pub HasRoom : ℕ → ℕ → List ℕ → Type 0
-HasRoom k at ws = T (isBook ws) × ((at ≤ used (factsOf ws)) × (used (factsOf ws) + k ≤ length ws))
+pub record HasRoom (k at : ℕ) (ws : List ℕ) : Type 0 where
+  pub book : T (isBook ws)
+  pub inside : at ≤ used (factsOf ws)
+  pub room : used (factsOf ws) + k ≤ length ws
 
 -- the book ws with `new` before the word at the index `at`, counted in its head
 unfoldable pub insertWords : ℕ → List ℕ → List ℕ → List ℕ

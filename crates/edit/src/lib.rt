@@ -1,11 +1,11 @@
 // Edits in place of the words of a book.
-ghost use mathlib.Core.List.{[], _∷_};
+ghost use mathlib.Core.List.{[], _∷_, map};
 ghost use mathlib.Core.Path.{_≡_};
 ghost use Prim.Native.Nat.{_≤_};
 ghost use lib.Dec.{T};
 ghost use lib.ListN.{length};
-ghost use Rattle.word.specs.Codec.{packed, Head};
-ghost use Rattle.book.specs.Books.{isBook};
+ghost use Rattle.word.specs.Codec.{packed};
+ghost use Rattle.word.specs.Figures.{figuresLength, figuresWords, areFigures};
 ghost use Rattle.book.specs.Views.{class};
 ghost use Rattle.book.specs.Changes.{classOpened, marksSet, newSeries, strikeAdded, update};
 ghost use Rattle.book.specs.Facts.{withFigures};
@@ -15,13 +15,13 @@ ghost use Rattle.edit.specs.Insertion.{HasRoom, insertWords, pushed};
 ghost use Rattle.edit.specs.Asked.{Storable, Markable, Openable, Insertable};
 use place::head;
 use word::class::ClassRecord;
-use word::codec::class_word;
-use word::codec::close_word;
 use word::codec::expiration_word;
-use word::codec::head_word;
 use word::codec::strike_word;
-use word::codec::volume_word;
 use word::field::field_of;
+use word::figures;
+use word::kind::STRIKE;
+use word::kind::key_of;
+use word::strike::GROUND;
 
 // One word before the others. The distance is a constant here and in the next two, so that each loop compiles to one
 // move of memory.
@@ -50,26 +50,17 @@ fn push2(s: &mut [u32], a: u32, b: u32)
     s[1] = b;
 }
 
-fn push3(s: &mut [u32], a: u32, b: u32, c: u32)
-    requires { ⌜ 3 ≤ length (now s) ⌝ }
-    ensures { λ _. ⌜ now (s .exit) ≡ pushed (a ∷ b ∷ c ∷ []) (now (s .entry)) ⌝ }
+// The words of a class's figures before the others.
+fn push_figures(s: &mut [u32], figures: ClassRecord)
+    requires { ⌜ (figuresLength ≤ length (now s)) × T (areFigures figures) ⌝ }
+    ensures { λ _. ⌜ now (s .exit) ≡ pushed (map packed (figuresWords figures [])) (now (s .entry)) ⌝ }
 {
     let mut j = s.len();
-    while 3 < j {
+    while figures::LENGTH < j {
         j -= 1;
-        s[j] = s[j - 3];
+        s[j] = s[j - figures::LENGTH];
     }
-    s[0] = a;
-    s[1] = b;
-    s[2] = c;
-}
-
-// The head of the book, with another count of the words used.
-fn head_counting(run: &[u32], count: usize) -> u32
-    requires { ⌜ T (isBook (now run)) × (count ≤ length (now run)) ⌝ }
-    ensures { λ r. ⌜ r ≡ packed (Head (factsOf (now (run .entry)) .now) count) ⌝ }
-{
-    head_word(head::current(run), count as u32)
+    figures::write(s, 0, figures);
 }
 
 // One new word before the word at `at`, counted in the head.
@@ -77,33 +68,30 @@ fn insert1(run: &mut [u32], at: usize, a: u32)
     requires { ⌜ HasRoom 1 at (now run) ⌝ }
     ensures { λ _. ⌜ now (run .exit) ≡ insertWords at (a ∷ []) (now (run .entry)) ⌝ }
 {
+    let month = head::current(run);
     let count = head::used(run);
-    let head = head_counting(run, count + 1);
-    let end = count + 1;
-    push1(&mut run[at..end], a);
-    run[0] = head;
+    push1(&mut run[at..count + 1], a);
+    word::head::write(run, month, count + 1);
 }
 
 fn insert2(run: &mut [u32], at: usize, a: u32, b: u32)
     requires { ⌜ HasRoom 2 at (now run) ⌝ }
     ensures { λ _. ⌜ now (run .exit) ≡ insertWords at (a ∷ b ∷ []) (now (run .entry)) ⌝ }
 {
+    let month = head::current(run);
     let count = head::used(run);
-    let head = head_counting(run, count + 2);
-    let end = count + 2;
-    push2(&mut run[at..end], a, b);
-    run[0] = head;
+    push2(&mut run[at..count + 2], a, b);
+    word::head::write(run, month, count + 2);
 }
 
-fn insert3(run: &mut [u32], at: usize, a: u32, b: u32, c: u32)
-    requires { ⌜ HasRoom 3 at (now run) ⌝ }
-    ensures { λ _. ⌜ now (run .exit) ≡ insertWords at (a ∷ b ∷ c ∷ []) (now (run .entry)) ⌝ }
+fn insert_figures(run: &mut [u32], at: usize, figures: ClassRecord)
+    requires { ⌜ HasRoom figuresLength at (now run) × T (areFigures figures) ⌝ }
+    ensures { λ _. ⌜ now (run .exit) ≡ insertWords at (map packed (figuresWords figures [])) (now (run .entry)) ⌝ }
 {
+    let month = head::current(run);
     let count = head::used(run);
-    let head = head_counting(run, count + 3);
-    let end = count + 3;
-    push3(&mut run[at..end], a, b, c);
-    run[0] = head;
+    push_figures(&mut run[at..count + figures::LENGTH], figures);
+    word::head::write(run, month, count + figures::LENGTH);
 }
 
 // The figures of the class whose word stands at `at`.
@@ -113,9 +101,7 @@ pub fn store_figures(run: &mut [u32], at: usize, figures: ClassRecord)
         now (run .exit)
         ≡ layout (length (now (run .entry))) (update (withFigures figures (class f (figures .number))) f)) ⌝ }
 {
-    run[at] = class_word(figures);
-    run[at + 1] = close_word(figures.close);
-    run[at + 2] = volume_word(figures.volume);
+    figures::write(run, at, figures);
 }
 
 // The marks of the strike whose word stands at `at`.
@@ -127,7 +113,7 @@ pub fn store_marks(run: &mut [u32], at: usize, a: u32, b: u32)
         ≡ layout (length (now (run .entry))) (update (marksSet (x .month) (x .strike) a b (class f (x .class))) f)) ⌝ }
 {
     let w = run[at];
-    run[at] = strike_word(field_of(w, 0, 15), field_of(w, 15, 3), a, b);
+    run[at] = strike_word(key_of(w, STRIKE), field_of(w, GROUND), a, b);
 }
 
 // A class as it is opened.
@@ -136,14 +122,7 @@ pub fn insert_class(run: &mut [u32], at: usize, c: u32)
     ensures { λ _. ⌜ (let f = factsOf (now (run .entry)) in
         now (run .exit) ≡ layout (length (now (run .entry))) (classOpened c f)) ⌝ }
 {
-    let figures = ClassRecord::open(c);
-    insert3(
-        run,
-        at,
-        class_word(figures),
-        close_word(figures.close),
-        volume_word(figures.volume),
-    );
+    insert_figures(run, at, ClassRecord::open(c));
 }
 
 // A strike with no marks. `stands` says whether its expiration has strikes already.

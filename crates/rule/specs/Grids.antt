@@ -67,7 +67,7 @@ halfGrid s k =
 abbrev pub wingBase : ℕ → ℕ
 wingBase k = k / fiveDollars * fiveDollars
 
--- "For L a multiple of $5 from $5 to $45 its wings are: L + $2 .. L + $3"
+-- "For L a multiple of $5 from $5 to $45: L + $2 if .. ; L + $3 if .."
 abbrev pub fortyFiveDollars : ℕ
 fortyFiveDollars = 4500
 

@@ -25,7 +25,7 @@ pub record Program : Type 0 where
 abbrev pub designationWidth : ℕ
 designationWidth = 2
 
--- "A new d of 1 needs a close below 5,000 for $1, or a close of at most 500 and a volume of at least 1,000 for $0.50."
+-- "A new d of 1 needs a close below 5,000 for $1, or a close of at most 500 and a volume of at least 1,000 for $0.50"
 abbrev pub dollarPrice : ℕ
 dollarPrice = 5000
 

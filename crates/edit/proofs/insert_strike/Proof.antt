@@ -7,6 +7,7 @@ use mathlib.Core.Bool.{Bool}
 use mathlib.Core.List.{[], _∷_, map}
 use native.Mathlib.Omega.{arith}
 use lib.Dec.{leb→le}
+use Rattle.word.specs.Limits.{lastMonth}
 use Rattle.word.specs.Codec.{packed}
 use Rattle.book.specs.Layout.{expirationUnless, strikeWord}
 use Rattle.book.specs.Changes.{newSeries}
@@ -44,7 +45,7 @@ returns c = λ x.
 expiration-word-requires : tie.Need-expiration-word-requires
 expiration-word-requires c κs =
     let start = c .before .before .before in
-    omega (arith, leb→le (start .args .m) 1023 (start .pre .month))
+    omega (arith, leb→le (start .args .m) lastMonth (start .pre .month))
 
 strike-word-requires-2 : tie.Need-strike-word-requires-2
 strike-word-requires-2 c κs = listed-fits _ _ _ _ _ _ (c .before .before .before .before .pre)

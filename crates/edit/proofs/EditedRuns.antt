@@ -1,4 +1,5 @@
--- What is read in the run of a book, and what words stored and words put in make of it: the run in the parts that an edit leaves and replaces. Assumes nothing.
+-- What is read in the run of a book, and what words stored and words put in make of it: the run in the parts that an
+-- edit leaves and replaces. Assumes nothing.
 use Prim.Native.Nat.{ℕ, zero, suc, _+_, _-_}
 use mathlib.Core.Path.{_≡_, refl, sym, ap, _∙_}
 use mathlib.Core.List.{List, [], _∷_, _++_, map, append-assoc}
@@ -34,7 +35,8 @@ sets-between front (w ∷ old) (v ∷ new) back e =
 put-between :
     (front new back zeros : List ℕ) (at end : ℕ) → at ≡ length front → end ≡ length front + length back
     → take at (front ++ (back ++ zeros))
-    ++ (new ++ (take (end - at) (drop at (front ++ (back ++ zeros))) ++ drop (end + length new) (front ++ (back ++ zeros))))
+    ++ (new
+    ++ (take (end - at) (drop at (front ++ (back ++ zeros))) ++ drop (end + length new) (front ++ (back ++ zeros))))
     ≡ front ++ (new ++ (back ++ drop (length new) zeros))
 put-between front new back zeros at end e e′ =
     let last : drop (end + length new) (front ++ (back ++ zeros)) ≡ drop (length new) zeros =
@@ -92,7 +94,8 @@ module _
       (λ (l : List ℕ).
       set (take at l ++ (map packed new ++ (take (used f - at) (drop at l) ++ drop (used f + k) l))) 0 head)
       (run-was ws t s ∙ ap (λ (l : List Word). before ++ (map packed l ++ (after ++ past))) none)
-      ∙ ap (λ (l : List ℕ). set l 0 head) (put-between before (map packed new) after past at (used f) (place-is ws t s) all)
+      ∙ ap (λ (l : List ℕ). set l 0 head)
+      (put-between before (map packed new) after past at (used f) (place-is ws t s) all)
       ∙ ap (λ (l : List ℕ). head ∷ (map packed (s .front) ++ (map packed new ++ (after ++ l))))
       (drop-zeros k (length ws - used f) ∙ ap (λ (j : ℕ). replicate j 0) fewer)
       ∙ run-is ws t s (used f + k) (omega (arith, used-spliced s, ap length none, length-map new packed))
@@ -107,7 +110,8 @@ module _
       all =
           omega (
             arith,
-            ap length (s .was ∙ ap (λ (l : List Word). s .front ++ (l ++ s .back)) none) ∙ length-append (s .front) (s .back),
+            ap length (s .was ∙ ap (λ (l : List Word). s .front ++ (l ++ s .back)) none)
+                ∙ length-append (s .front) (s .back),
             length-map (s .front) packed,
             length-map (s .back) packed,
           )
