@@ -1,4 +1,5 @@
--- A strike stands on a ground exactly when some `L` of the list added it and no later call removed it: each accepted call by what it leaves of the series at one month and strike, then by induction on the list. Assumes nothing.
+-- A strike stands on a ground exactly when some `L` of the list added it and no later call removed it: each accepted
+-- call by what it leaves of the series at one month and strike, then by induction on the list. Assumes nothing.
 use Prim.Native.Nat.{ℕ}
 use mathlib.Core.Path.{_≡_, refl, sym, ap, _∙_, subst}
 use mathlib.Core.Bool.{Bool, true, false, cond, not, _&&_, _||_, and-true, and-false, or-false}
@@ -47,13 +48,16 @@ module _ (g m h : ℕ) where
       ∙ go (stands m h ss) refl
       ∙ ap (λ (b : Bool). b && not away) (some-both (isAt m h) (isOnGround g) ss)
     where
-      decided : (s : Series) (b : Bool) → some (isOnGround g) (cond (not b) (s ∷ []) []) ≡ ((isOnGround g s || false) && not b)
+      decided :
+          (s : Series) (b : Bool)
+          → some (isOnGround g) (cond (not b) (s ∷ []) []) ≡ ((isOnGround g s || false) && not b)
       decided s true = sym (and-false (isOnGround g s || false))
       decided s false = sym (and-true (isOnGround g s || false))
 
       go :
           (b : Bool) → stands m h ss ≡ b
-          → some (isOnGround g) (only keep (only (isAt m h) ss)) ≡ (some (isOnGround g) (only (isAt m h) ss) && not away)
+          → some (isOnGround g) (only keep (only (isAt m h) ss))
+          ≡ (some (isOnGround g) (only (isAt m h) ss) && not away)
       go false e = rw (only-absent (isAt m h) ss (rw e tt))
       go true e =
           let s = stander ss m h now t (rw e tt) in

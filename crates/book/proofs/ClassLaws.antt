@@ -1,4 +1,5 @@
--- The order of classes, and what a class put in its place and a new class leave of limits, order, sums and the class of a number: by induction on the classes, and from the laws of lists. Assumes nothing.
+-- The order of classes, and what a class put in its place and a new class leave of limits, order, sums and the class of
+-- a number: by induction on the classes, and from the laws of lists. Assumes nothing.
 use Prim.Native.Nat.{ℕ, _+_, _<_}
 use mathlib.Core.Path.{_≡_, refl, sym, ap, _∙_}
 use mathlib.Core.Bool.{Bool, true, false, cond, not, _||_}
@@ -60,7 +61,8 @@ every-of p c (x ∷ xs) new t = go (eqb (number x) c) (every-of p c xs new (sear
     go true r = search ands
     go false r = r
 
-pub series-of : (now c : ℕ) (xs : List OpenClass) → T (every (isClass now) xs) → T (areSeries now (classOf c xs .series))
+pub series-of :
+    (now c : ℕ) (xs : List OpenClass) → T (every (isClass now) xs) → T (areSeries now (classOf c xs .series))
 series-of now c xs t =
     let good : OpenClass → Bool = λ x. areSeries now (x .series) in
     every-of good c xs tt (every-imply (isClass now) good (λ x l. search ands) xs t)
@@ -113,7 +115,9 @@ class-of-map g same c new (x ∷ xs) =
     ap (λ (k : ℕ). cond (eqb k c) (g x) (classOf c (map g xs))) (same x)
     ∙ go (eqb (number x) c) (class-of-map g same c new xs)
   where
-    go : (b : Bool) → classOf c (map g xs) ≡ g (classOf c xs) → cond b (g x) (classOf c (map g xs)) ≡ g (cond b x (classOf c xs))
+    go :
+        (b : Bool) → classOf c (map g xs) ≡ g (classOf c xs)
+        → cond b (g x) (classOf c (map g xs)) ≡ g (cond b x (classOf c xs))
     go true r = refl
     go false r = r
 

@@ -1,4 +1,5 @@
--- The words of a book by the classes below, at and above a number, and by the series of a class before, in and after an expiration: from the parts of lists that rise by a key. Assumes nothing.
+-- The words of a book by the classes below, at and above a number, and by the series of a class before, in and after an
+-- expiration: from the parts of lists that rise by a key. Assumes nothing.
 use Prim.Native.Nat.{ℕ, _<_}
 use mathlib.Core.Path.{_≡_, refl, sym, ap, _∙_, subst}
 use mathlib.Core.Bool.{Bool, true, false, cond, not}
@@ -51,7 +52,8 @@ put-after :
 put-after y [] ys x t e = rw (eq-eqb (number x) (number y) e)
 put-after y (z ∷ xs) ys x t e =
     let l : number z < number y = ltb→lt (number z) (number y) (search ands) in
-    rw (ne-eqb (number z) (number y) (λ q. omega arith)) (ap (λ (l : List OpenClass). z ∷ l) (put-after y xs ys x (search ands) e))
+    rw (ne-eqb (number z) (number y) (λ q. omega arith))
+    (ap (λ (l : List OpenClass). z ∷ l) (put-after y xs ys x (search ands) e))
 
 pub numbers-rise : (n : ℕ) (f : Facts) → T (isWellFormed n f) → T (ordered isBelow (f .classes))
 numbers-rise n f w = rises-ordered isNumbered isBelow class-order (f .classes) (well n f w .order)
@@ -65,17 +67,20 @@ module _ (n : ℕ) (f : Facts) (c : ℕ) (w : T (isWellFormed n f)) (o : T (isOp
   pub class-good : T (isClass (f .now) (class f c))
   class-good =
       let t : T (every (isClass (f .now)) (only (isEqual number c) (f .classes))) =
-      every-only (isClass (f .now)) (isClass (f .now)) (λ x. eqb (number x) c) (λ x k u. u) (f .classes) (well n f w .limits) in
+      every-only (isClass (f .now)) (isClass (f .now)) (λ x. eqb (number x) c) (λ x k u. u) (f .classes)
+      (well n f w .limits) in
       let u = rw class-at at t in
       search ands
 
   pub series-good : T (areSeries (f .now) (class f c .series))
   series-good = let g = class-good in search ands
 
-  pub class-parts : f .classes ≡ only (isUnder number c) (f .classes) ++ (class f c ∷ only (isOver number c) (f .classes))
+  pub class-parts :
+      f .classes ≡ only (isUnder number c) (f .classes) ++ (class f c ∷ only (isOver number c) (f .classes))
   class-parts =
       distinct-parts number c (f .classes) (numbers-rise n f w)
-      ∙ ap (λ (l : List OpenClass). only (isUnder number c) (f .classes) ++ (l ++ only (isOver number c) (f .classes))) class-at
+      ∙ ap (λ (l : List OpenClass). only (isUnder number c) (f .classes) ++ (l ++ only (isOver number c) (f .classes)))
+      class-at
 
   -- .. and with another class in its place
   pub class-put :

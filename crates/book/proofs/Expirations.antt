@@ -1,4 +1,5 @@
--- The series of a class on either side of a month and a strike: the words that they take, and what a new series, new marks and a removal make of them, from the three parts by month and then by strike. Assumes nothing.
+-- The series of a class on either side of a month and a strike: the words that they take, and what a new series, new
+-- marks and a removal make of them, from the three parts by month and then by strike. Assumes nothing.
 use Prim.Native.Nat.{ℕ, suc, _+_, _≤_, _<_, zero-le}
 use mathlib.Core.Path.{_≡_, refl, sym, ap, _∙_, subst}
 use mathlib.Core.Bool.{Bool, true, false, cond, not}
@@ -40,7 +41,8 @@ words-anew p m (s ∷ ss) rest l t =
 -- series of earlier expirations, then others
 words-from :
     (p m : ℕ) (early ss : List Series) (rest : List Word) → p ≤ m → T (every (isUnder monthOf m) early)
-    → T (every (λ s. leb m (s .month)) ss) → seriesWords p (early ++ ss) rest ≡ seriesWords p early (seriesWords 0 ss rest)
+    → T (every (λ s. leb m (s .month)) ss)
+    → seriesWords p (early ++ ss) rest ≡ seriesWords p early (seriesWords 0 ss rest)
 words-from p m [] ss rest l t u = words-anew p m ss rest l u
 words-from p m (s ∷ early) ss rest l t u =
     ap (λ (ws : List Word). expirationUnless (eqb p (suc (s .month))) (s .month) (strikeWord s ∷ ws))
@@ -61,7 +63,8 @@ words-in m (s ∷ here) late rest t u =
 
 pub series-apart :
     (p m : ℕ) (early ss : List Series) (rest : List Word) → p ≤ m → T (every (isUnder monthOf m) early)
-    → T (every (λ s. leb m (s .month)) ss) → seriesWords p (early ++ ss) rest ≡ seriesWords p early [] ++ seriesWords 0 ss rest
+    → T (every (λ s. leb m (s .month)) ss)
+    → seriesWords p (early ++ ss) rest ≡ seriesWords p early [] ++ seriesWords 0 ss rest
 series-apart p m early ss rest l t u =
     words-from p m early ss rest l t u ∙ seriesWords-append p early [] (seriesWords 0 ss rest)
 
@@ -114,13 +117,15 @@ module _ (now m : ℕ) (ss : List Series) (t : T (areSeries now ss)) where
 
 -- ---- the series on either side of a month and a strike
 
-rising-keys : {A : Type 0} (key : A → ℕ) (xs : List A) → T (ordered (λ x y. ltb (key x) (key y)) xs) → Rising (map key xs)
+rising-keys :
+    {A : Type 0} (key : A → ℕ) (xs : List A) → T (ordered (λ x y. ltb (key x) (key y)) xs) → Rising (map key xs)
 rising-keys key [] t = tt
 rising-keys key (x ∷ []) t = tt
 rising-keys key (x ∷ y ∷ ys) t = (ltb→lt (key x) (key y) (search ands), rising-keys key (y ∷ ys) (search ands))
 
 module _ (ss : List Series) (m h : ℕ) where
-  -- the series of earlier months; of the month m those below the strike h, at it and above it; the series of later months
+  -- the series of earlier months; of the month m those below the strike h, at it and above it; the series of later
+  -- months
   abbrev early : List Series
   early = only (isUnder monthOf m) ss
 
@@ -147,7 +152,8 @@ module _ (ss : List Series) (m h : ℕ) where
       every-append p early low
       (every-imply (isUnder monthOf m) p (λ s l. f s (ltb→lt (s .month) m l)) early (every-kept (isUnder monthOf m) ss))
       (every-only (isEqual monthOf m) p (isUnder strikeOf h)
-      (λ s l e. g s (eqb→eq (s .month) m e) (ltb→lt (s .strike) h l)) (inMonth m ss) (every-kept (isEqual monthOf m) ss))
+      (λ s l e. g s (eqb→eq (s .month) m e) (ltb→lt (s .strike) h l)) (inMonth m ss)
+      (every-kept (isEqual monthOf m) ss))
 
   every-after :
       (p : Series → Bool) → ((s : Series) → m < s .month → T (p s))
@@ -155,7 +161,8 @@ module _ (ss : List Series) (m h : ℕ) where
   every-after p f g =
       every-append p high late
       (every-only (isEqual monthOf m) p (isOver strikeOf h)
-      (λ s l e. g s (eqb→eq (s .month) m e) (ltb→lt h (s .strike) l)) (inMonth m ss) (every-kept (isEqual monthOf m) ss))
+      (λ s l e. g s (eqb→eq (s .month) m e) (ltb→lt h (s .strike) l)) (inMonth m ss)
+      (every-kept (isEqual monthOf m) ss))
       (every-imply (isOver monthOf m) p (λ s l. f s (ltb→lt m (s .month) l)) late (every-kept (isOver monthOf m) ss))
 
   -- whether the month has series
@@ -174,13 +181,15 @@ module _ (ss : List Series) (m h : ℕ) where
   wordsAfter rest = map strikeWord high ++ seriesWords 0 late rest
 
   pub length-before :
-      (stands : Bool) → length (wordsBefore stands) ≡ length (seriesWords 0 early []) + cond {A = ℕ} stands 1 0 + length low
+      (stands : Bool)
+      → length (wordsBefore stands) ≡ length (seriesWords 0 early []) + cond {A = ℕ} stands 1 0 + length low
   length-before true = simp (length-append, length-map) (omega arith)
   length-before false = simp (length-append, length-map) (omega arith)
 
   in-month : (p : Series → Bool) → T (every (isEqual monthOf m) (only p (inMonth m ss)))
   in-month p =
-      every-only (isEqual monthOf m) (isEqual monthOf m) p (λ s k t. t) (inMonth m ss) (every-kept (isEqual monthOf m) ss)
+      every-only (isEqual monthOf m) (isEqual monthOf m) p (λ s k t. t) (inMonth m ss)
+      (every-kept (isEqual monthOf m) ss)
 
   -- the words with the series of x at m and h
   words-around :
@@ -231,7 +240,8 @@ module _ (ss : List Series) (m h : ℕ) where
     where
       go :
           (b : Bool)
-          → seriesWords 0 early [] ++ expirationUnless (not b) m (map strikeWord (low ++ high) ++ seriesWords 0 late rest)
+          → seriesWords 0 early []
+          ++ expirationUnless (not b) m (map strikeWord (low ++ high) ++ seriesWords 0 late rest)
           ≡ wordsBefore b ++ wordsAfter rest
       go true = simp (map-append, append-assoc)
       go false = simp (map-append, append-assoc)
@@ -302,7 +312,8 @@ module _ (ss : List Series) (m h : ℕ) where
       where
         one : Single strikeOf h (inMonth m ss)
         one =
-            single strikeOf h (inMonth m ss) strikes-in-order (rw (some-both (isEqual monthOf m) (isEqual strikeOf h) ss) u)
+            single strikeOf h (inMonth m ss) strikes-in-order
+            (rw (some-both (isEqual monthOf m) (isEqual strikeOf h) ss) u)
 
         passes : (p : Series → Bool) → T (every p (inMonth m ss)) → T (p (one .it))
         passes p l =
@@ -312,9 +323,11 @@ module _ (ss : List Series) (m h : ℕ) where
             search ands
 
     around-placed : ss ≡ around placed
-    around-placed = month-parts now m ss t ∙ ap (λ (l : List Series). early ++ (l ++ late)) strike-parts ∙ simp append-assoc
+    around-placed =
+        month-parts now m ss t ∙ ap (λ (l : List Series). early ++ (l ++ late)) strike-parts ∙ simp append-assoc
 
-    pub placed-words : (rest : List Word) → seriesWords 0 ss rest ≡ wordsBefore has ++ (map strikeWord placed ++ wordsAfter rest)
+    pub placed-words :
+        (rest : List Word) → seriesWords 0 ss rest ≡ wordsBefore has ++ (map strikeWord placed ++ wordsAfter rest)
     placed-words rest =
         series-words now m ss t rest
         ∙ ap
@@ -331,7 +344,8 @@ module _ (ss : List Series) (m h : ℕ) where
         go true = simp (map-append, append-assoc)
         go false = simp (map-append, append-assoc)
 
-    pub inserted-around : (s : Series) → s .month ≡ m → s .strike ≡ h → placed ≡ [] → insertSeries s ss ≡ around (s ∷ [])
+    pub inserted-around :
+        (s : Series) → s .month ≡ m → s .strike ≡ h → placed ≡ [] → insertSeries s ss ≡ around (s ∷ [])
     inserted-around s e e′ none =
         ap (insertSeries s) (around-placed ∙ ap around none)
         ∙ inserted-between precedes s (early ++ low) (high ++ late)
@@ -358,11 +372,13 @@ module _ (ss : List Series) (m h : ℕ) where
 
     elsewhere-before : T (every (λ u. not (isAt m h u)) (early ++ low))
     elsewhere-before =
-        every-before (λ u. not (isAt m h u)) (λ u l. apart u (λ q q′. omega arith)) (λ u r l. apart u (λ q q′. omega arith))
+        every-before (λ u. not (isAt m h u)) (λ u l. apart u (λ q q′. omega arith))
+        (λ u r l. apart u (λ q q′. omega arith))
 
     elsewhere-after : T (every (λ u. not (isAt m h u)) (high ++ late))
     elsewhere-after =
-        every-after (λ u. not (isAt m h u)) (λ u l. apart u (λ q q′. omega arith)) (λ u r l. apart u (λ q q′. omega arith))
+        every-after (λ u. not (isAt m h u)) (λ u l. apart u (λ q q′. omega arith))
+        (λ u r l. apart u (λ q q′. omega arith))
 
     pub removed-around :
         (s : Series) → s .month ≡ m → s .strike ≡ h → placed ≡ s ∷ [] → only (λ u. not (isAt m h u)) ss ≡ around []

@@ -1,4 +1,5 @@
--- What one call leaves of a book: a book of as many words, with the next facts; from the contract, since every call keeps the facts well formed. Assumes nothing.
+-- What one call leaves of a book: a book of as many words, with the next facts; from the contract, since every call
+-- keeps the facts well formed. Assumes nothing.
 use Prim.Native.Nat.{ℕ}
 use mathlib.Core.Path.{_≡_}
 use mathlib.Core.Bool.{true}

@@ -1,4 +1,5 @@
--- Well-formed facts as a record of facts, numbers where sums are compared, the same for either program: by the parts of the test. Assumes nothing.
+-- Well-formed facts as a record of facts, numbers where sums are compared, the same for either program: by the parts of
+-- the test. Assumes nothing.
 use Prim.Native.Nat.{ℕ, _+_, _-_, _≤_}
 use native.Mathlib.Omega.{arith}
 use mathlib.Core.Path.{_≡_, sym, subst}

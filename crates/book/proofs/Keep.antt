@@ -249,7 +249,9 @@ module _ (n : ℕ) (f : Facts) (m : ℕ) (w : Well n f) (l : f .now ≤ m) where
         room = omega (arith, sum-map wordsOf (expired m) words-expired (f .classes), w .room);
         month = t;
         limits = every-map (isClass (f .now)) (isClass m) (expired m) class-expired (f .classes) (w .limits);
-        order = same-keys number ltb (map (expired m) (f .classes)) (f .classes) (map-map number (expired m) (f .classes)) (w .order);
+        order =
+            same-keys number ltb (map (expired m) (f .classes)) (f .classes) (map-map number (expired m) (f .classes))
+            (w .order);
         caps = λ p k.
             let count = sum-map (λ x. own (designation p (x .figures))) (expired m) (λ x. omega arith) (f .classes) in
             omega (arith, count, w .caps p k);

@@ -1,4 +1,5 @@
--- A small book word by word from document 01's bits, and runs close to it that are no books: each computes. Assumes nothing.
+-- A small book word by word from document 01's bits, and runs close to it that are no books: each computes. Assumes
+-- nothing.
 use Prim.Native.Nat.{ℕ, _+_, _*_, _^_}
 use mathlib.Core.Path.{_≡_, refl}
 use mathlib.Core.Bool.{true, false}
@@ -12,7 +13,8 @@ use Rattle.book.specs.Books.{isWellFormed, isBook}
 series : (month strike ground put call : ℕ) → Series
 series m h g a b = record { month = m; strike = h; ground = g; put = a; call = b }
 
--- month 5; class 7, designations 1 and 2, close $25, volume 1,200; in month 6 the strikes $25 and $26, in month 9 the strike $22.50
+-- month 5; class 7, designations 1 and 2, close $25, volume 1,200; in month 6 the strikes $25 and $26, in month 9 the
+-- strike $22.50
 facts : Facts
 facts =
     record {
@@ -25,7 +27,8 @@ facts =
           ∷ [];
     }
 
--- the words of these facts, each kind and field by its bits, where the head says that `count` words are used; then the words `rest`
+-- the words of these facts, each kind and field by its bits, where the head says that `count` words are used; then the
+-- words `rest`
 run : ℕ → List ℕ → List ℕ
 run count rest =
     (2 ^ 28 + count * 2 ^ 10 + 5)

@@ -1,4 +1,5 @@
--- A run is a book exactly when it is the layout of well-formed facts, which reading gives back: by induction on series and classes. Assumes nothing.
+-- A run is a book exactly when it is the layout of well-formed facts, which reading gives back: by induction on series
+-- and classes. Assumes nothing.
 use Prim.Native.Nat.{ℕ, zero, suc, _+_, _-_, _≤_}
 use mathlib.Core.Path.{_≡_, refl, sym, ap, _∙_, subst}
 use mathlib.Core.Logic.{_↔_}
@@ -67,14 +68,16 @@ pub seriesWords-append :
 seriesWords-append p [] ws rest = refl
 seriesWords-append p (s ∷ ss) ws rest =
     let m = s .month in
-    ap (λ (l : List Word). expirationUnless (eqb p (suc m)) m (strikeWord s ∷ l)) (seriesWords-append (suc m) ss ws rest)
+    ap (λ (l : List Word). expirationUnless (eqb p (suc m)) m (strikeWord s ∷ l))
+    (seriesWords-append (suc m) ss ws rest)
     ∙ expiration-append (eqb p (suc m)) m (strikeWord s ∷ seriesWords (suc m) ss ws) rest
 
 pub classesWords-append : (xs : List OpenClass) (rest : List Word) → classesWords xs rest ≡ classesWords xs [] ++ rest
 classesWords-append [] rest = refl
 classesWords-append (x ∷ xs) rest =
     ap (figuresWords (x .figures))
-    (ap (seriesWords 0 (x .series)) (classesWords-append xs rest) ∙ seriesWords-append 0 (x .series) (classesWords xs []) rest)
+    (ap (seriesWords 0 (x .series)) (classesWords-append xs rest)
+    ∙ seriesWords-append 0 (x .series) (classesWords xs []) rest)
 
 -- ---- the words that facts take
 
@@ -143,7 +146,8 @@ module _ (now : ℕ) where
       search (ands, and-intro) depth 8
 
 -- every word of well-formed classes is legal
-pub words-legal : (now : ℕ) (xs : List OpenClass) → T (every (isClass now) xs) → every isLegal (classesWords xs []) ≡ true
+pub words-legal :
+    (now : ℕ) (xs : List OpenClass) → T (every (isClass now) xs) → every isLegal (classesWords xs []) ≡ true
 words-legal now xs good = T-true (every isLegal (classesWords xs [])) (classes-legal now xs good)
 
 -- ---- reading inverts the layout

@@ -1,4 +1,6 @@
--- Demand 2, of the contract that every call ensures: `L` accepts a strike exactly when `J` does and words are left, `A` writes exactly the strikes that `J` accepts, 15 and 10 are drawn only where words and places are not: by the order of conditions. Assumes nothing.
+-- Demand 2, of the contract that every call ensures: `L` accepts a strike exactly when `J` does and words are left, `A`
+-- writes exactly the strikes that `J` accepts, 15 and 10 are drawn only where words and places are not: by the order of
+-- conditions. Assumes nothing.
 use Prim.Native.Nat.{ℕ, suc, _<_, _≤_}
 use mathlib.Core.Path.{_≡_, refl, sym, ap, _∙_}
 use mathlib.Core.Bool.{Bool, true, false, not, _&&_, _||_, and-true}

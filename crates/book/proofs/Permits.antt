@@ -50,7 +50,9 @@ ground-passed v g (r ∷ rs) = go (passes r) (ground-passed v (g + 1) rs)
     go false e = e
 
 -- a row that passes more passes less
-some-less : (p q : List Bool → Bool) → ((r : List Bool) → p r ≡ true → q r ≡ true) → (rs : List (List Bool)) → some p rs ≡ true → some q rs ≡ true
+some-less :
+    (p q : List Bool → Bool) → ((r : List Bool) → p r ≡ true → q r ≡ true) → (rs : List (List Bool)) → some p rs ≡ true
+    → some q rs ≡ true
 some-less p q less [] e = e
 some-less p q less (r ∷ rs) e = go (p r) refl (q r) refl e (some-less p q less rs)
   where
@@ -150,13 +152,15 @@ module _ (m : ℕ) (v : View) where
   permitted-short b l k =
       let test : ℕ → Bool = λ h. noneApplies (judging m h v) in
       let e : 19999 ≡ b + (19999 - b) = omega arith in
-      ap (λ (n : ℕ). only test (upFrom n 1)) e ∙ only-short test b (19999 - b) 1 (λ x j i. beyond x (omega arith) (omega arith))
+      ap (λ (n : ℕ). only test (upFrom n 1)) e
+      ∙ only-short test b (19999 - b) 1 (λ x j i. beyond x (omega arith) (omega arith))
 
   standing-is : (h : ℕ) → isStanding v m h ≡ some (λ t. eqb (t .strike) h) (standingIn v m)
   standing-is h =
       let ss = v .class .series in
       sym
-      (some-map (λ (t : Standing). eqb (t .strike) h) (λ s. eqb (s .strike) h) (λ s. record { strike = s .strike; ground = s .ground })
+      (some-map (λ (t : Standing). eqb (t .strike) h) (λ s. eqb (s .strike) h)
+      (λ s. record { strike = s .strike; ground = s .ground })
       (λ s. refl) (inMonth m ss)
       ∙ some-both (λ s. eqb (s .month) m) (λ s. eqb (s .strike) h) ss)
 

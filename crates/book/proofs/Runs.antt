@@ -1,4 +1,5 @@
--- The words of a run at the places of an open class and its expirations: from the words of the book by their parts. Assumes nothing.
+-- The words of a run at the places of an open class and its expirations: from the words of the book by their parts.
+-- Assumes nothing.
 use Prim.Native.Nat.{ℕ, _+_, _-_, _*_, _/_, _%_, _^_, _≤_, _<_}
 use mathlib.Core.Path.{_≡_, refl, sym, ap, _∙_}
 use mathlib.Core.Bool.{Bool, true, false, cond, not, _||_, or-false}
@@ -75,7 +76,9 @@ standing-words :
     → map standingOf (map packed (map strikeWord ss)) ≡ map (λ s. record { strike = s .strike; ground = s .ground }) ss
 standing-words now [] t = refl
 standing-words now (s ∷ ss) t =
-    let e = strike-fields (packed (strikeWord s)) (s .strike) (s .ground) (s .put) (s .call) (fits (strikeWord s) (strike-legal now s (search ands))) refl in
+    let e =
+    strike-fields (packed (strikeWord s)) (s .strike) (s .ground) (s .put) (s .call)
+    (fits (strikeWord s) (strike-legal now s (search ands))) refl in
     let d = standing-words now ss (search ands) in
     λ i. record { strike = e .0 i; ground = e .1 i } ∷ d i
 
@@ -98,7 +101,8 @@ module _ (n : ℕ) (f : Facts) (c m : ℕ) (w : T (isWellFormed n f)) (o : T (is
   beforeStrikes =
       (Head (f .now) (used f) ∷ classesWords (only (isUnder number c) (f .classes)) [])
       ++ (figuresWords (class f c .figures) []
-      ++ (seriesWords 0 (only (isUnder monthOf m) (class f c .series)) [] ++ expirationUnless (not (hasExpiration c m f)) m []))
+      ++ (seriesWords 0 (only (isUnder monthOf m) (class f c .series)) []
+      ++ expirationUnless (not (hasExpiration c m f)) m []))
 
   before-length : length beforeStrikes ≡ strikesPlace c m f
   before-length =
@@ -106,7 +110,8 @@ module _ (n : ℕ) (f : Facts) (c m : ℕ) (w : T (isWellFormed n f)) (o : T (is
 
   abbrev afterStrikes : List Word
   afterStrikes =
-      seriesWords 0 (only (isOver monthOf m) (class f c .series)) [] ++ classesWords (only (isOver number c) (f .classes)) []
+      seriesWords 0 (only (isOver monthOf m) (class f c .series)) []
+      ++ classesWords (only (isOver number c) (f .classes)) []
 
   around-strikes : bookWords n f ≡ beforeStrikes ++ (map strikeWord (inMonth m (class f c .series)) ++ afterStrikes)
   around-strikes = book-words n f c w o m ∙ simp append-assoc
@@ -140,7 +145,8 @@ module _ (n : ℕ) (f : Facts) (c m : ℕ) (w : T (isWellFormed n f)) (o : T (is
   pub strikes-good : T (every (isSeries (f .now)) (inMonth m (class f c .series)))
   strikes-good =
       let g = series-good n f c w o in
-      every-only (isSeries (f .now)) (isSeries (f .now)) (λ s. eqb (s .month) m) (λ s k t. t) (class f c .series) (search ands)
+      every-only (isSeries (f .now)) (isSeries (f .now)) (λ s. eqb (s .month) m) (λ s k t. t) (class f c .series)
+      (search ands)
 
   pub strikes-standing :
       map standingOf (take (strikesEnd c m f - strikesPlace c m f) (drop (strikesPlace c m f) (layout n f)))
@@ -151,7 +157,8 @@ module _ (n : ℕ) (f : Facts) (c m : ℕ) (w : T (isWellFormed n f)) (o : T (is
 pub expiration-strikes : (c m : ℕ) (f : Facts) → hasExpiration c m f ≡ ltb (strikesPlace c m f) (strikesEnd c m f)
 expiration-strikes c m f =
     some-length (λ s. eqb (s .month) m) (class f c .series)
-    ∙ go (strikesPlace c m f) (length (inMonth m (class f c .series))) (ltb 0 (length (inMonth m (class f c .series)))) refl
+    ∙ go (strikesPlace c m f) (length (inMonth m (class f c .series))) (ltb 0 (length (inMonth m (class f c .series))))
+    refl
   where
     go : (a k : ℕ) (b : Bool) → ltb 0 k ≡ b → b ≡ ltb a (a + k)
     go a k true e = sym (lt-ltb a (a + k) (omega (arith, ltb-true 0 k e)))

@@ -1,4 +1,5 @@
--- Well-formed facts are equal exactly when they agree point by point: two lists in a strict order are equal where every place finds the same in both, for the series of a class and then for the classes. Assumes nothing.
+-- Well-formed facts are equal exactly when they agree point by point: two lists in a strict order are equal where every
+-- place finds the same in both, for the series of a class and then for the classes. Assumes nothing.
 use Prim.Native.Nat.{ℕ}
 use mathlib.Core.Path.{_≡_, refl, sym, ap, _∙_, subst}
 use mathlib.Core.Bool.{Bool, true, false, cond, not, _||_}
@@ -36,7 +37,8 @@ module _
   look-before : (k : A) (xs : List A) → T (every (before k) xs) → look k xs ≡ none
   look-before k [] t = lookup .nowhere k
   look-before k (x ∷ xs) t =
-      look-past k x xs (nor-left (same k x) (same x k) (order .apart k x (search ands))) ∙ look-before k xs (search ands)
+      look-past k x xs (nor-left (same k x) (same x k) (order .apart k x (search ands)))
+      ∙ look-before k xs (search ands)
 
   -- where p holds of all elements and of what comes after, and each such place finds the same in both lists
   equal-lists :
@@ -47,11 +49,13 @@ module _
   equal-lists p up [] (y ∷ ys) px py ox oy e =
       absurd (lookup .something y (sym (lookup .nowhere y) ∙ e y (search ands) ∙ look-here y y ys (order .reflexive y)))
   equal-lists p up (x ∷ xs) [] px py ox oy e =
-      absurd (lookup .something x (sym (lookup .nowhere x) ∙ sym (e x (search ands)) ∙ look-here x x xs (order .reflexive x)))
+      absurd (lookup .something x
+      (sym (lookup .nowhere x) ∙ sym (e x (search ands)) ∙ look-here x x xs (order .reflexive x)))
   equal-lists p up (x ∷ xs) (y ∷ ys) px py ox oy e =
       go (or-cases (same x y) (before x y || before y x) (order .total x y))
       (λ q r.
-      equal-lists (before x) (λ y k b c. order .transitive x y k c b) xs ys (search ands) q (search ands) (search ands) r)
+      equal-lists (before x) (λ y k b c. order .transitive x y k c b) xs ys (search ands) q (search ands) (search ands)
+      r)
     where
       found-x : look x (y ∷ ys) ≡ value x
       found-x = sym (e x (search ands)) ∙ look-here x x xs (order .reflexive x)
@@ -75,14 +79,16 @@ module _
       go (inr t) rest = absurd (apart t)
       go (inl s) rest =
           let xy : x ≡ y = lookup .injective x y s (sym found-x ∙ look-here x y ys s) in
-          let t : xs ≡ ys = rest (subst (λ (z : A). T (every (before z) ys)) (sym xy) (search ands)) (λ k b. past xy k b) in
+          let t : xs ≡ ys =
+          rest (subst (λ (z : A). T (every (before z) ys)) (sym xy) (search ands)) (λ k b. past xy k b) in
           cc
         where
           past : x ≡ y → (k : A) → T (before x k) → look k xs ≡ look k ys
           past xy k b =
               sym (look-past k x xs (nor-right (same x k) (same k x) (order .apart x k b)))
               ∙ e k (up x k b (search ands))
-              ∙ look-past k y ys (nor-right (same y k) (same k y) (order .apart y k (subst (λ (z : A). T (before z k)) xy b)))
+              ∙ look-past k y ys (nor-right (same y k) (same k y)
+              (order .apart y k (subst (λ (z : A). T (before z k)) xy b)))
 
   equal-rising :
       (xs ys : List A) → T (rises before xs) → T (rises before ys) → ((k : A) → look k xs ≡ look k ys) → xs ≡ ys
@@ -175,7 +181,8 @@ same-facts n n′ f g t u = (points, whole)
         let classes : f .classes ≡ g .classes =
         equal-rising isNumbered isBelow class-order noClass classFact classFound class-lookup
         (f .classes) (g .classes) (v .order) (w .order)
-        (λ k. let fact = s .classes (number k) in let same = series (number k) in λ i. record { fact = fact i; series = same i }) in
+        (λ k. let fact = s .classes (number k) in let same = series (number k) in λ i.
+        record { fact = fact i; series = same i }) in
         λ i. record { now = now i; classes = classes i }
       where
         series : (c : ℕ) → classOf c (f .classes) .series ≡ classOf c (g .classes) .series

@@ -1,4 +1,5 @@
--- The order of series, and what a kept part, a change of marks and a new series leave of their limits, their order and their expirations: from the laws of lists, the order by cases on months and strikes. Assumes nothing.
+-- The order of series, and what a kept part, a change of marks and a new series leave of their limits, their order and
+-- their expirations: from the laws of lists, the order by cases on months and strikes. Assumes nothing.
 use Prim.Native.Nat.{ℕ, _+_, _≤_, _<_, zero-le}
 use mathlib.Core.Path.{_≡_, refl, sym, ap, _∙_}
 use mathlib.Core.Bool.{Bool, true, false, cond, not, _&&_, _||_}
@@ -21,10 +22,11 @@ abbrev pub Precedes : Series → Series → Type 0
 Precedes s t = (s .month < t .month) ⊎ ((s .month ≡ t .month) × (s .strike < t .strike))
 
 pub to-precedes : (s t : Series) → T (precedes s t) → Precedes s t
-to-precedes s t p = elim (or-cases (ltb (s .month) (t .month)) (eqb (s .month) (t .month) && ltb (s .strike) (t .strike)) p) [
-  | inl a ↦ inl (ltb→lt (s .month) (t .month) a)
-  | inr b ↦ inr (eqb→eq (s .month) (t .month) (search ands), ltb→lt (s .strike) (t .strike) (search ands))
-]
+to-precedes s t p =
+    elim (or-cases (ltb (s .month) (t .month)) (eqb (s .month) (t .month) && ltb (s .strike) (t .strike)) p) [
+      | inl a ↦ inl (ltb→lt (s .month) (t .month) a)
+      | inr b ↦ inr (eqb→eq (s .month) (t .month) (search ands), ltb→lt (s .strike) (t .strike) (search ands))
+    ]
 
 pub months-rise : (s t : Series) → T (precedes s t) → s .month ≤ t .month
 months-rise s t p = go (to-precedes s t p)
@@ -51,8 +53,10 @@ series-order = record {
   transitive = λ s t u a b. of-precedes s u (chain s t u (to-precedes s t a) (to-precedes t u b));
   total = λ s t. compare s t (trichotomy (s .month) (t .month)) (trichotomy (s .strike) (t .strike));
   apart = λ s t a. not-T (isWith s t || isWith t s) (λ e. elim (or-cases (isWith s t) (isWith t s) e) [
-    | inl b ↦ clash s t (to-precedes s t a) (eqb→eq (t .month) (s .month) (search ands)) (eqb→eq (t .strike) (s .strike) (search ands))
-    | inr b ↦ clash s t (to-precedes s t a) (sym (eqb→eq (s .month) (t .month) (search ands))) (sym (eqb→eq (s .strike) (t .strike) (search ands)))
+    | inl b ↦ clash s t (to-precedes s t a) (eqb→eq (t .month) (s .month) (search ands))
+        (eqb→eq (t .strike) (s .strike) (search ands))
+    | inr b ↦ clash s t (to-precedes s t a) (sym (eqb→eq (s .month) (t .month) (search ands)))
+        (sym (eqb→eq (s .strike) (t .strike) (search ands)))
   ]);
   reflexive = λ s.
       and-intro (eqb (s .month) (s .month)) (eqb (s .strike) (s .strike)) (eqb-refl (s .month)) (eqb-refl (s .strike));
@@ -139,7 +143,8 @@ pub series-only :
     (now now′ : ℕ) (keep : Series → Bool) → ((s : Series) → T (keep s) → T (isSeries now s) → T (isSeries now′ s))
     → (ss : List Series) → T (areSeries now ss) → T (areSeries now′ (only keep ss))
 series-only now now′ keep f ss t =
-    let a : T (every (isSeries now′) (only keep ss)) = every-only (isSeries now) (isSeries now′) keep f ss (search ands) in
+    let a : T (every (isSeries now′) (only keep ss)) =
+    every-only (isSeries now) (isSeries now′) keep f ss (search ands) in
     let b : T (rises precedes (only keep ss)) = rises-only isWith precedes series-order keep ss (search ands) in
     search and-intro
 
@@ -154,7 +159,8 @@ module _ (m h a b : ℕ) where
   marks-alone (s ∷ ss) = go (isAt m h s) (marks-alone ss)
     where
       go : (c : Bool) → map (withMarks 0 0) (map markedAt ss) ≡ map (withMarks 0 0) ss
-          → withMarks 0 0 (cond c (withMarks a b s) s) ∷ map (withMarks 0 0) (map markedAt ss) ≡ withMarks 0 0 s ∷ map (withMarks 0 0) ss
+          → withMarks 0 0 (cond c (withMarks a b s) s) ∷ map (withMarks 0 0) (map markedAt ss)
+          ≡ withMarks 0 0 s ∷ map (withMarks 0 0) ss
       go true e = ap (λ (l : List Series). withMarks 0 0 s ∷ l) e
       go false e = ap (λ (l : List Series). withMarks 0 0 s ∷ l) e
 
@@ -189,6 +195,7 @@ pub series-inserted :
     (now : ℕ) (s : Series) (ss : List Series) → T (isSeries now s) → T (not (stands (s .month) (s .strike) ss))
     → T (areSeries now ss) → T (areSeries now (insertSeries s ss))
 series-inserted now s ss a n t =
-    let b : T (every (isSeries now) (insertSeries s ss)) = every-inserted precedes (isSeries now) s ss a (search ands) in
+    let b : T (every (isSeries now) (insertSeries s ss)) =
+    every-inserted precedes (isSeries now) s ss a (search ands) in
     let c : T (rises precedes (insertSeries s ss)) = rises-inserted isWith precedes series-order s ss n (search ands) in
     and-intro (every (isSeries now) (insertSeries s ss)) (rises precedes (insertSeries s ss)) b c

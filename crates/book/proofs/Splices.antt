@@ -1,4 +1,5 @@
--- What each edit of facts makes of their words: new ones in place of old ones, between words that stay; and how many words they then take. By the classes and the series on either side. Assumes nothing.
+-- What each edit of facts makes of their words: new ones in place of old ones, between words that stay; and how many
+-- words they then take. By the classes and the series on either side. Assumes nothing.
 use Prim.Native.Nat.{ℕ, suc, _+_, _-_, _≤_}
 use mathlib.Core.Path.{_≡_, refl, sym, ap, _∙_, subst}
 use mathlib.Core.Bool.{Bool, true, false, cond, not}
@@ -37,7 +38,8 @@ pub record Spliced (at : ℕ) (old new : List Word) (f g : Facts) : Type 0 where
   pub was : classesWords (f .classes) [] ≡ front ++ (old ++ back)
   pub is : classesWords (g .classes) [] ≡ front ++ (new ++ back)
 
-pub used-spliced : {at : ℕ} {old new : List Word} {f g : Facts} → Spliced at old new f g → used g + length old ≡ used f + length new
+pub used-spliced :
+    {at : ℕ} {old new : List Word} {f g : Facts} → Spliced at old new f g → used g + length old ≡ used f + length new
 used-spliced {at} {old} {new} {f} {g} s =
     let a = s .front in
     let b = s .back in
@@ -94,7 +96,8 @@ module _ (n : ℕ) (f : Facts) (c : ℕ) (w : T (isWellFormed n f)) where
 
     pub figures-spliced :
         (r : ClassRecord) → r .number ≡ c
-        → Spliced (classPlace c f) (figuresWords (class f c .figures) []) (figuresWords r []) f (update (withFigures r (class f c)) f)
+        → Spliced (classPlace c f) (figuresWords (class f c .figures) []) (figuresWords r []) f
+        (update (withFigures r (class f c)) f)
     figures-spliced r e =
         class-spliced (withFigures r (class f c)) [] (figuresWords (class f c .figures) []) (figuresWords r [])
         (seriesWords 0 (class f c .series) (classesWords above [])) (classPlace c f) e (omega arith) refl refl
@@ -106,7 +109,8 @@ module _ (n : ℕ) (f : Facts) (c : ℕ) (w : T (isWellFormed n f)) where
         (update (withSeries ss (class f c)) f)
     series-spliced ss =
         let r = class f c .figures in
-        class-spliced (withSeries ss (class f c)) (figuresWords r []) (seriesWords 0 (class f c .series) []) (seriesWords 0 ss [])
+        class-spliced (withSeries ss (class f c)) (figuresWords r []) (seriesWords 0 (class f c .series) [])
+        (seriesWords 0 ss [])
         (classesWords above []) (classPlace c f + figuresLength) (number-of c (f .classes)) refl
         (ap (figuresWords r) (seriesWords-append 0 (class f c .series) [] (classesWords above [])))
         (ap (figuresWords r) (seriesWords-append 0 ss [] (classesWords above [])))
@@ -128,7 +132,8 @@ module _ (n : ℕ) (f : Facts) (c : ℕ) (w : T (isWellFormed n f)) where
         is =
             ap (λ (xs : List OpenClass). classesWords (insertClass (newClass c) xs) []) parts
             ∙ ap (λ (xs : List OpenClass). classesWords xs [])
-            (inserted-between isBelow (newClass c) below above (every-imply (isUnder number c) (λ x. not (ltb c (number x)))
+            (inserted-between isBelow (newClass c) below above
+            (every-imply (isUnder number c) (λ x. not (ltb c (number x)))
             (λ x l. not-T (ltb c (number x)) (λ g. omega (arith, ltb→lt (number x) c l, ltb→lt c (number x) g)))
             below (every-kept (isUnder number c) (f .classes)))
             (every-kept (isOver number c) (f .classes)))
@@ -146,18 +151,22 @@ module _ (n : ℕ) (f : Facts) (c : ℕ) (w : T (isWellFormed n f)) (o : T (isOp
     strike-spliced :
         (x : List Series) (y : Series) (series : List Series) → placed (class f c .series) m h ≡ x → y .month ≡ m
         → series ≡ around (class f c .series) m h (y ∷ [])
-        → Spliced (strikePlace c m h f) (map strikeWord x) (expirationUnless (hasExpiration c m f) m (strikeWord y ∷ [])) f
+        → Spliced (strikePlace c m h f) (map strikeWord x)
+        (expirationUnless (hasExpiration c m f) m (strikeWord y ∷ [])) f
         (update (withSeries series (class f c)) f)
     strike-spliced x y series e month is =
         let ss = class f c .series in
         let rest = classesWords (above n f c w) [] in
         let r = class f c .figures in
         let new = expirationUnless (hasExpiration c m f) m (strikeWord y ∷ []) in
-        class-spliced n f c w o (withSeries series (class f c)) (figuresWords r (wordsBefore ss m h (hasExpiration c m f))) (map strikeWord x) new
-        (wordsAfter ss m h rest) (strikePlace c m h f) (number-of c (f .classes)) (omega (arith, length-before ss m h (hasExpiration c m f)))
+        class-spliced n f c w o (withSeries series (class f c))
+        (figuresWords r (wordsBefore ss m h (hasExpiration c m f))) (map strikeWord x) new
+        (wordsAfter ss m h rest) (strikePlace c m h f) (number-of c (f .classes))
+        (omega (arith, length-before ss m h (hasExpiration c m f)))
         (ap (figuresWords r)
         (placed-words ss m h (f .now) series-limits rest
-        ∙ ap (λ (l : List Series). wordsBefore ss m h (hasExpiration c m f) ++ (map strikeWord l ++ wordsAfter ss m h rest)) e))
+        ∙ ap (λ (l : List Series). wordsBefore ss m h (hasExpiration c m f)
+        ++ (map strikeWord l ++ wordsAfter ss m h rest)) e))
         (ap (figuresWords r)
         (ap (λ (l : List Series). seriesWords 0 l rest) is ∙ around-words ss m h y rest month))
 
@@ -183,7 +192,8 @@ module _ (n : ℕ) (f : Facts) (c : ℕ) (w : T (isWellFormed n f)) (o : T (isOp
         let ss = class f c .series in
         sym (some-only (isEqual monthOf m) ss)
         ∙ ap (some (isEqual monthOf m))
-        (strike-parts ss m h (f .now) series-limits ∙ ap (λ (l : List Series). low ss m h ++ (l ++ high ss m h)) (one .alone))
+        (strike-parts ss m h (f .now) series-limits
+        ∙ ap (λ (l : List Series). low ss m h ++ (l ++ high ss m h)) (one .alone))
         ∙ T-true (some (isEqual monthOf m) (low ss m h ++ (one .it ∷ high ss m h)))
         (some-after (isEqual monthOf m) (low ss m h) (one .it) (high ss m h) (rw (one .month) (eqb-refl m)))
 
@@ -218,7 +228,8 @@ module _ (n : ℕ) (f : Facts) (c : ℕ) (w : T (isWellFormed n f)) (o : T (isOp
   pub record Delisting (m h : ℕ) (alone : Bool) : Type 0 where
     pub it : Series
     pub spliced :
-        Spliced (strikePlace c m h f - cond {A = ℕ} alone 1 0) (expirationUnless (not alone) m (strikeWord it ∷ [])) [] f
+        Spliced (strikePlace c m h f - cond {A = ℕ} alone 1 0) (expirationUnless (not alone) m (strikeWord it ∷ [])) []
+        f
         (update (strikeRemoved m h (class f c)) f)
 
   pub delisting :
@@ -230,19 +241,22 @@ module _ (n : ℕ) (f : Facts) (c : ℕ) (w : T (isWellFormed n f)) (o : T (isOp
       let x = one m h s in
       let r = class f c .figures in
       let rest = classesWords (above n f c w) [] in
-      let q : others ss m h ≡ not alone = go alone (others ss m h) (e ∙ alone-says ss m h (f .now) series-limits (strikesPlace c m f) (x .it) (x .alone)) in
+      let q : others ss m h ≡ not alone =
+      go alone (others ss m h) (e ∙ alone-says ss m h (f .now) series-limits (strikesPlace c m f) (x .it) (x .alone)) in
       record {
         it = x .it;
         spliced =
             class-spliced n f c w o (withSeries (only (λ u. not (isAt m h u)) ss) (class f c))
-            (figuresWords r (wordsBefore ss m h (not alone))) (expirationUnless (not alone) m (strikeWord (x .it) ∷ [])) []
+            (figuresWords r (wordsBefore ss m h (not alone)))
+            (expirationUnless (not alone) m (strikeWord (x .it) ∷ [])) []
             (wordsAfter ss m h rest) (strikePlace c m h f - cond {A = ℕ} alone 1 0) (number-of c (f .classes))
             (place alone)
             (ap (figuresWords r)
             (placed-words ss m h (f .now) series-limits rest
             ∙ (λ i. wordsBefore ss m h (has m h s i) ++ (map strikeWord (x .alone i) ++ wordsAfter ss m h rest))
             ∙ alone-words ss m h (x .it) rest
-            ∙ (λ i. wordsBefore ss m h (q i) ++ (expirationUnless (q i) m (strikeWord (x .it) ∷ []) ++ wordsAfter ss m h rest))))
+            ∙ (λ i. wordsBefore ss m h (q i)
+            ++ (expirationUnless (q i) m (strikeWord (x .it) ∷ []) ++ wordsAfter ss m h rest))))
             (ap (figuresWords r)
             (ap (λ (l : List Series). seriesWords 0 l rest)
             (removed-around ss m h (f .now) series-limits (x .it) (x .month) (x .strike) (x .alone))

@@ -152,11 +152,13 @@ module _
   -- with what `next_class` ensures
   module _
       (to : ℕ)
-      (e : to ≡ at + figuresLength + firstAt (isFrom classKind 0) (take (used (factsOf w) - (at + figuresLength)) (drop (at + figuresLength) w))) where
+      (e : to ≡ at + figuresLength + firstAt (isFrom classKind 0)
+      (take (used (factsOf w) - (at + figuresLength)) (drop (at + figuresLength) w))) where
     abbrev pub class-reviewable : Reviewable w (at + figuresLength) to (r .close)
     class-reviewable =
         let o = found-open w c at r found in
-        let p : at + figuresLength ≡ classPlace c (factsOf w) + figuresLength = omega (arith, found-place w c at r found) in
+        let p : at + figuresLength ≡ classPlace c (factsOf w) + figuresLength =
+        omega (arith, found-place w c at r found) in
         record {
           book = book;
           number = c;

@@ -1,4 +1,5 @@
--- The answers of the lookups of an expiration and of a strike, told where the class stands: by whether the expiration's word stands where it would. Assumes nothing.
+-- The answers of the lookups of an expiration and of a strike, told where the class stands: by whether the expiration's
+-- word stands where it would. Assumes nothing.
 use Prim.Native.Nat.{ℕ, _+_, _-_, _^_, _≤_, _<_}
 use mathlib.Core.Path.{_≡_, sym, ap, _∙_}
 use mathlib.Core.Bool.{Bool, true, false, cond, not, _&&_}
@@ -41,7 +42,8 @@ module _ (at end : ℕ) (test : Bool) where
 
 module _
     (ws : List ℕ) (b : T (isBook ws)) (from m : ℕ) (month : m ≤ lastMonth) (place w : ℕ) (there : Bool)
-    (sought : place ≡ from + 3 + firstAt (isUpTo expirationKind m) (take (used (factsOf ws) - (from + 3)) (drop (from + 3) ws)))
+    (sought : place
+    ≡ from + 3 + firstAt (isUpTo expirationKind m) (take (used (factsOf ws) - (from + 3)) (drop (from + 3) ws)))
     (word : w ≡ packed (ExpirationWord m))
     (found : there ≡ (ltb place (used (factsOf ws)) && eqb (getD ws place 0) w))
     (c : ℕ) (o : T (isOpen c (factsOf ws .classes))) (begin : from ≡ classPlace c (factsOf ws)) where
@@ -80,7 +82,8 @@ module _
         let at : place ≡ strikePlace c m h facts =
         omega (arith, place-absent, ap (λ (l : List Series). length (only (isUnder strikeOf h) l)) none) in
         let standing : false ≡ isStanding (viewOf c facts) m h =
-        ap (some (isEqual strikeOf h)) (sym none) ∙ some-both (isEqual monthOf m) (isEqual strikeOf h) (class facts c .series) in
+        ap (some (isEqual strikeOf h)) (sym none)
+        ∙ some-both (isEqual monthOf m) (isEqual strikeOf h) (class facts c .series) in
         λ i. record { at = at i; expiration = sym absent i; standing = standing i }
 
   module _ (n : not there ≡ false) (end : ℕ) (d : end ≡ used facts) where

@@ -1,4 +1,5 @@
--- The first of a list that passes a test, found one by one or by blocks: by induction on the list, and by what is left of it. Assumes nothing.
+-- The first of a list that passes a test, found one by one or by blocks: by induction on the list, and by what is left
+-- of it. Assumes nothing.
 use Prim.Native.Nat.{ℕ, zero, suc, _+_, _-_, _*_, _^_, _≤_, _<_, zero-le}
 use mathlib.Core.Path.{_≡_, refl, sym, ap, ap₂, _∙_, subst}
 use mathlib.Core.Bool.{Bool, true, false, cond}
@@ -28,7 +29,8 @@ or-doubled a b =
 -- the digits from bit 1 on that say which pass a test, with that of one element more
 pub doubled-more :
     {A : Type 0} (p : A → Bool) (d : A) (xs : List A) (i : ℕ) → i < length xs
-    → bitOr (2 * binary (map p (take i xs))) (2 * cond {A = ℕ} (p (getD xs i d)) (2 ^ i) 0) ≡ 2 * binary (map p (take (i + 1) xs))
+    → bitOr (2 * binary (map p (take i xs))) (2 * cond {A = ℕ} (p (getD xs i d)) (2 ^ i) 0)
+    ≡ 2 * binary (map p (take (i + 1) xs))
 doubled-more p d xs i l =
     or-doubled (binary (map p (take i xs))) (cond {A = ℕ} (p (getD xs i d)) (2 ^ i) 0)
     ∙ ap (λ (k : ℕ). 2 * k) (digits-more p d xs i l)
@@ -115,7 +117,8 @@ module _ {A : Type 0} (p : A → Bool) where
 
 pub every-part : {A : Type 0} (p : A → Bool) (xs : List A) (n i : ℕ) → T (every p xs) → T (every p (take n (drop i xs)))
 every-part {A = A} p xs n i t =
-    let left = every-split p (take i xs) (drop i xs) (subst (λ (l : List A). T (every p l)) (sym (take-append-drop i xs)) t) .1 in
+    let left =
+    every-split p (take i xs) (drop i xs) (subst (λ (l : List A). T (every p l)) (sym (take-append-drop i xs)) t) .1 in
     every-split p (take n (drop i xs)) (drop n (drop i xs))
     (subst (λ (l : List A). T (every p l)) (sym (take-append-drop n (drop i xs))) left) .0
 
@@ -124,7 +127,8 @@ module _ {A : Type 0} (xs : List A) (i e : ℕ) (high : e ≤ length xs) where
   part-length low = length-take-le (e - i) (drop i xs) (simp length-drop (omega arith))
 
   pub part-passes :
-      (p : A → Bool) (d : A) (j : ℕ) → j ≡ firstAt p (take (e - i) (drop i xs)) → i + j < e → p (getD xs (i + j) d) ≡ true
+      (p : A → Bool) (d : A) (j : ℕ) → j ≡ firstAt p (take (e - i) (drop i xs)) → i + j < e
+      → p (getD xs (i + j) d) ≡ true
   part-passes p d j q l =
       let part = take (e - i) (drop i xs) in
       ap p (sym (getD-take (e - i) (drop i xs) j d (omega arith) ∙ getD-drop i xs j d))
@@ -174,7 +178,8 @@ module _ {A : Type 0} (p : A → Bool) (xs : List A) where
       seek-inside l =
           let part = take (e - i) (drop i xs) in
           let after = drop (e - i) (drop i xs) in
-          let f : firstAt p (part ++ after) ≡ firstAt p part = first-within p part after (omega (arith, part-length xs i e high low)) in
+          let f : firstAt p (part ++ after) ≡ firstAt p part =
+          first-within p part after (omega (arith, part-length xs i e high low)) in
           let g = rw (take-append-drop (e - i) (drop i xs)) at f in
           omega (arith, s .onward)
 
@@ -190,7 +195,8 @@ module _ {A : Type 0} (p : A → Bool) (xs : List A) where
           record { within = high; onward = omega (arith, s .onward, part-length xs i e high low, ap (firstAt p) d) }
 
     -- n words by the number whose digits from bit 1 on say which of them pass
-    module _ (n bits : ℕ) (high : i + n ≤ length xs) (q : bits ≡ 2 * binary (map p (take (i + n - i) (drop i xs)))) where
+    module _ (n bits : ℕ) (high : i + n ≤ length xs)
+        (q : bits ≡ 2 * binary (map p (take (i + n - i) (drop i xs)))) where
       block-long : length (take (i + n - i) (drop i xs)) ≡ n
       block-long = omega (arith, part-length xs i (i + n) high (omega arith))
 

@@ -1,4 +1,5 @@
--- What the searches find in a book, as places of its facts: the words that they are lent are those of the classes, of a class's series and of an expiration's strikes. Assumes nothing.
+-- What the searches find in a book, as places of its facts: the words that they are lent are those of the classes, of a
+-- class's series and of an expiration's strikes. Assumes nothing.
 use Prim.Native.Nat.{ℕ, suc, _+_, _-_, _^_, _<_, _≤_}
 use mathlib.Core.Path.{_≡_, refl, sym, ap, _∙_, subst}
 use mathlib.Core.Bool.{Bool, true, false, cond, not, _&&_}
@@ -44,18 +45,24 @@ module _
     (m : ℕ) (P : List Word → Type 0) (none : P [])
     (of-class : (number : ℕ) (ds : List ℕ) (ws : List Word) → P (Class number ds ∷ ws))
     (of-month : (n : ℕ) (ws : List Word) → m < n → P (Expiration n ∷ ws)) where
-  later-begin : (ss : List Series) (xs : List OpenClass) → T (every (isOver monthOf m) ss) → P (seriesWords 0 ss (classesWords xs []))
+  later-begin :
+      (ss : List Series) (xs : List OpenClass) → T (every (isOver monthOf m) ss)
+      → P (seriesWords 0 ss (classesWords xs []))
   later-begin [] [] t = none
   later-begin [] (x ∷ xs) t = of-class (number x) (x .figures .designations) _
   later-begin (s ∷ ss) xs t =
       let after : m < s .month = ltb→lt m (s .month) (search ands) in
       rw (eqb·zero-suc (s .month)) (of-month (s .month) _ after)
 
-strike-said : (h : ℕ) (w : Word) → isLegal w ≡ true → kindIn w ≡ strikeKind .number → isHolding strikeKind h (packed w) ≡ eqb (keyIn w) h
+strike-said :
+    (h : ℕ) (w : Word) → isLegal w ≡ true → kindIn w ≡ strikeKind .number
+    → isHolding strikeKind h (packed w) ≡ eqb (keyIn w) h
 strike-said h w legal e =
     rw (kind-packed w (packed w) (legal-fits w legal) refl, e, key-said (strikeKind .number) w legal e)
 
-no-strike : (h : ℕ) (w : Word) → isLegal w ≡ true → eqb (kindIn w) (strikeKind .number) ≡ false → isHolding strikeKind h (packed w) ≡ false
+no-strike :
+    (h : ℕ) (w : Word) → isLegal w ≡ true → eqb (kindIn w) (strikeKind .number) ≡ false
+    → isHolding strikeKind h (packed w) ≡ false
 no-strike h w legal e = rw (kind-packed w (packed w) (legal-fits w legal) refl, e)
 
 -- ---- classes
@@ -66,16 +73,19 @@ module _ (ws : List ℕ) (b : T (isBook ws)) where
 
   -- the words from an index to the last one used
   rest-part :
-      (from end : ℕ) (before rest : List Word) → bookWords (length ws) facts ≡ before ++ rest → from ≡ length before → end ≡ used facts
+      (from end : ℕ) (before rest : List Word) → bookWords (length ws) facts ≡ before ++ rest → from ≡ length before
+      → end ≡ used facts
       → take (end - from) (drop from ws) ≡ map packed rest
   rest-part from end before rest e l d =
       subst (λ (l : List ℕ). take (end - from) (drop from l) ≡ map packed rest) (book-is ws b)
-      (run-part (length ws) facts from end before rest [] (e ∙ ap (λ (r : List Word). before ++ r) (sym (append-nil rest))) l
+      (run-part (length ws) facts from end before rest []
+      (e ∙ ap (λ (r : List Word). before ++ r) (sym (append-nil rest))) l
       (omega (arith, d, ap length e, length-append before rest)))
 
   -- a test of the word at an index, where it is one of those used
   word-there :
-      (test : ℕ → Bool) (at : ℕ) (before rest : List Word) → bookWords (length ws) facts ≡ before ++ rest → at ≡ length before
+      (test : ℕ → Bool) (at : ℕ) (before rest : List Word) → bookWords (length ws) facts ≡ before ++ rest
+      → at ≡ length before
       → (ltb at (used facts) && test (getD ws at 0)) ≡ begins test rest
   word-there test at before [] e l =
       let long : used facts ≡ length before + 0 = omega (arith, ap length e, length-append before []) in
@@ -93,7 +103,9 @@ module _ (ws : List ℕ) (b : T (isBook ws)) where
       true-T (every isLegal (classesWords (facts .classes) []))
       (words-legal (facts .now) (facts .classes) (book-form ws b .limits))
 
-  pub body : (end : ℕ) → end ≡ used facts → take (end - firstPlace) (drop firstPlace ws) ≡ map packed (classesWords (facts .classes) [])
+  pub body :
+      (end : ℕ) → end ≡ used facts
+      → take (end - firstPlace) (drop firstPlace ws) ≡ map packed (classesWords (facts .classes) [])
   body end e =
       rest-part firstPlace end (Head (facts .now) (used facts) ∷ []) (classesWords (facts .classes) []) refl refl e
 
@@ -106,7 +118,8 @@ module _ (ws : List ℕ) (b : T (isBook ws)) where
         book-long ws b,
       )
 
-  pub body-kinds : (end : ℕ) → end ≡ used facts → T (every (isNoLower classKind) (take (end - firstPlace) (drop firstPlace ws)))
+  pub body-kinds :
+      (end : ℕ) → end ≡ used facts → T (every (isNoLower classKind) (take (end - firstPlace) (drop firstPlace ws)))
   body-kinds end e =
       subst (λ (l : List ℕ). T (every (isNoLower classKind) l)) (sym (body end e))
       (kinds-packed (leb (classKind .number)) (classesWords (facts .classes) []) legal (class-kinds (facts .classes)))
@@ -118,9 +131,12 @@ module _ (ws : List ℕ) (b : T (isBook ws)) where
       ≡ firstAt (isFrom classKind 0) (take (end - from) (drop from ws))
   next-class-word from end l h e =
       first-from classKind 0 (omega arith) (take (end - from) (drop from ws))
-      (every-split (isNoLower classKind) (take (from - firstPlace) (drop firstPlace ws)) (take (end - from) (drop from ws)) (rw later at (body-kinds end e)) .1)
+      (every-split (isNoLower classKind) (take (from - firstPlace) (drop firstPlace ws))
+      (take (end - from) (drop from ws)) (rw later at (body-kinds end e)) .1)
     where
-      later : take (end - firstPlace) (drop firstPlace ws) ≡ take (from - firstPlace) (drop firstPlace ws) ++ take (end - from) (drop from ws)
+      later :
+          take (end - firstPlace) (drop firstPlace ws) ≡ take (from - firstPlace) (drop firstPlace ws)
+          ++ take (end - from) (drop from ws)
       later =
           let n : end - firstPlace ≡ (from - firstPlace) + (end - from) = omega arith in
           let k : firstPlace + (from - firstPlace) ≡ from = omega arith in
@@ -139,13 +155,16 @@ module _ (ws : List ℕ) (b : T (isBook ws)) where
   numbers :
       (c : ℕ)
       → facts .classes
-      ≡ only (isUnder number c) (facts .classes) ++ (only (isEqual number c) (facts .classes) ++ only (isOver number c) (facts .classes))
+      ≡ only (isUnder number c) (facts .classes)
+      ++ (only (isEqual number c) (facts .classes) ++ only (isOver number c) (facts .classes))
   numbers c = distinct-parts number c (facts .classes) (numbers-rise (length ws) facts (book-good ws b))
 
   pub class-sought :
-      (c end i : ℕ) → end ≡ used facts → i ≡ firstAt (isFrom classKind c) (take (end - firstPlace) (drop firstPlace ws)) → firstPlace + i ≡ classPlace c facts
+      (c end i : ℕ) → end ≡ used facts → i ≡ firstAt (isFrom classKind c) (take (end - firstPlace) (drop firstPlace ws))
+      → firstPlace + i ≡ classPlace c facts
   class-sought c end i d e =
-      let q = sought number (classKind .number) (λ xs. classesWords xs []) classes-laid c (facts .classes) (numbers c) legal in
+      let q =
+      sought number (classKind .number) (λ xs. classesWords xs []) classes-laid c (facts .classes) (numbers c) legal in
       omega (arith, ap (firstAt (isFrom classKind c)) (body end d))
 
   -- the book's words, parted where a class stands or would stand
@@ -156,7 +175,8 @@ module _ (ws : List ℕ) (b : T (isBook ws)) where
       ++ classesWords (only (isEqual number c) (facts .classes) ++ only (isOver number c) (facts .classes)) []
   class-parted c =
       ap (λ (l : List Word). Head (facts .now) (used facts) ∷ l)
-      (two-parts number (classKind .number) (λ xs. classesWords xs []) classes-laid c (facts .classes) (numbers c) legal)
+      (two-parts number (classKind .number) (λ xs. classesWords xs []) classes-laid c (facts .classes) (numbers c)
+      legal)
 
   pub class-within : (c : ℕ) → classPlace c facts ≤ used facts
   class-within c = omega (arith, simp length-append at (ap length (class-parted c)))
@@ -166,10 +186,13 @@ module _ (ws : List ℕ) (b : T (isBook ws)) where
       → (ltb at (used facts) && eqb (keyOf classKind (getD ws at 0)) c) ≡ isOpen c (facts .classes)
   class-found c at e =
       let test : ℕ → Bool = λ w. eqb (keyOf classKind w) c in
-      let from = classesWords (only (isEqual number c) (facts .classes) ++ only (isOver number c) (facts .classes)) [] in
-      word-there test at (Head (facts .now) (used facts) ∷ classesWords (only (isUnder number c) (facts .classes)) []) from (class-parted c) (omega (arith, e))
+      let from =
+      classesWords (only (isEqual number c) (facts .classes) ++ only (isOver number c) (facts .classes)) [] in
+      word-there test at (Head (facts .now) (used facts) ∷ classesWords (only (isUnder number c) (facts .classes)) [])
+      from (class-parted c) (omega (arith, e))
       ∙ ap (begins test) (sym (append-nil from))
-      ∙ found number (classKind .number) (λ xs. classesWords xs []) classes-laid c (facts .classes) (numbers c) legal test
+      ∙ found number (classKind .number) (λ xs. classesWords xs []) classes-laid c (facts .classes) (numbers c) legal
+      test
       (λ w legal k. ap (λ (n : ℕ). eqb n c) (key-said (classKind .number) w legal k)) [] refl
 
   -- ---- an open class
@@ -205,7 +228,8 @@ module _ (ws : List ℕ) (b : T (isBook ws)) where
 
     tail-legal : T (every isLegal (series ++ upper))
     tail-legal =
-        let e : classesWords (facts .classes) [] ≡ drop firstPlace lower ++ (figures ++ (series ++ upper)) = ap (drop firstPlace) words-are in
+        let e : classesWords (facts .classes) [] ≡ drop firstPlace lower ++ (figures ++ (series ++ upper)) =
+        ap (drop firstPlace) words-are in
         let t = every-split isLegal (drop firstPlace lower) (figures ++ (series ++ upper)) (rw e at legal) .1 in
         search ands
 
@@ -219,17 +243,21 @@ module _ (ws : List ℕ) (b : T (isBook ws)) where
     tail-part :
         (from end : ℕ) → from ≡ classPlace c facts + figuresLength → end ≡ used facts
         → take (end - from) (drop from ws) ≡ map packed (series ++ upper)
-    tail-part from end e d = rest-part from end (lower ++ figures) (series ++ upper) around (omega (arith, before-length)) d
+    tail-part from end e d =
+        rest-part from end (lower ++ figures) (series ++ upper) around (omega (arith, before-length)) d
 
     -- its series end at the next class word
     pub class-ended :
         (from end : ℕ) → from ≡ classPlace c facts + figuresLength
-        → end ≡ from + firstAt (isFrom classKind 0) (take (used facts - from) (drop from ws)) → end ≡ from + length series
+        → end ≡ from + firstAt (isFrom classKind 0) (take (used facts - from) (drop from ws))
+        → end ≡ from + length series
     class-ended from end e d =
         let q =
-        first-after (isFrom classKind 0) (isKeyed (classKind .number) 0) (from-packed (classKind .number) 0) series upper tail-legal
+        first-after (isFrom classKind 0) (isKeyed (classKind .number) 0) (from-packed (classKind .number) 0) series
+        upper tail-legal
         (no-class (λ w. not (isKeyed (classKind .number) 0 w)) (λ w e. rw e tt) 0 (class facts c .series) [] tt)
-        (stops-anywhere number (classKind .number) (λ xs. classesWords xs []) classes-laid (only (isOver number c) (facts .classes))) in
+        (stops-anywhere number (classKind .number) (λ xs. classesWords xs []) classes-laid
+        (only (isOver number c) (facts .classes))) in
         omega (arith, ap (firstAt (isFrom classKind 0)) (tail-part from (used facts) e refl))
 
     -- ---- an expiration of it
@@ -268,7 +296,8 @@ module _ (ws : List ℕ) (b : T (isBook ws)) where
           (P : List Word → Type 0) → P [] → ((number : ℕ) (ds : List ℕ) (ws : List Word) → P (Class number ds ∷ ws))
           → ((n : ℕ) (ws : List Word) → m < n → P (Expiration n ∷ ws)) → P late
       later P none of-class of-month =
-          later-begin m P none of-class of-month (only (isOver monthOf m) listed) (only (isOver number c) (facts .classes))
+          later-begin m P none of-class of-month (only (isOver monthOf m) listed)
+          (only (isOver number c) (facts .classes))
           (every-kept (isOver monthOf m) listed)
 
       pub none-in : has ≡ false → here ≡ []
@@ -277,23 +306,32 @@ module _ (ws : List ℕ) (b : T (isBook ws)) where
       -- the search for its word passes the earlier expirations
       pub expiration-sought :
           (from : ℕ) → from ≡ classPlace c facts + figuresLength
-          → from + firstAt (isUpTo expirationKind m) (take (used facts - from) (drop from ws)) ≡ expirationPlace c m facts
+          → from + firstAt (isUpTo expirationKind m) (take (used facts - from) (drop from ws))
+          ≡ expirationPlace c m facts
       expiration-sought from e =
-          omega (arith, ap (firstAt (isUpTo expirationKind m)) (tail-part from (used facts) e refl ∙ ap (map packed) tail-words), passed)
+          omega (
+            arith,
+            ap (firstAt (isUpTo expirationKind m))
+                (tail-part from (used facts) e refl ∙ ap (map packed) tail-words),
+            passed,
+          )
         where
           stop : (stands : Bool) → has ≡ stands → firstAt (isEnding (expirationKind .number) m) (from-month stands) ≡ 0
           stop true q = rw (le-leb m m (omega arith))
           stop false q =
               rw (none-in q)
-              (later (λ l. firstAt (isEnding (expirationKind .number) m) l ≡ 0) refl (λ n d l. refl) (λ n l k. rw (le-leb m n (omega arith))))
+              (later (λ l. firstAt (isEnding (expirationKind .number) m) l ≡ 0) refl (λ n d l. refl)
+              (λ n l k. rw (le-leb m n (omega arith))))
 
           passed : firstAt (isUpTo expirationKind m) (map packed (early ++ from-month has)) ≡ length early
           passed =
-              first-after (isUpTo expirationKind m) (isEnding (expirationKind .number) m) (up-to-packed (expirationKind .number) m (omega arith) (omega arith)) early (from-month has)
+              first-after (isUpTo expirationKind m) (isEnding (expirationKind .number) m)
+              (up-to-packed (expirationKind .number) m (omega arith) (omega arith)) early (from-month has)
               (rw tail-words at tail-legal)
               (every-series (λ w. not (isEnding (expirationKind .number) m w)) 0 (only (isUnder monthOf m) listed) []
               (every-imply (isUnder monthOf m)
-              (λ s. not (isEnding (expirationKind .number) m (strikeWord s)) && not (isEnding (expirationKind .number) m (Expiration (s .month))))
+              (λ s. not (isEnding (expirationKind .number) m (strikeWord s))
+              && not (isEnding (expirationKind .number) m (Expiration (s .month))))
               (λ s u. not-from (s .month) m u) (only (isUnder monthOf m) listed)
               (every-kept (isUnder monthOf m) listed)) tt)
               (stop has refl)
@@ -304,7 +342,8 @@ module _ (ws : List ℕ) (b : T (isBook ws)) where
           → (ltb at (used facts) && eqb (getD ws at 0) (packed (Expiration m))) ≡ has
       expiration-found at e =
           word-there (λ w. eqb w (packed (Expiration m))) at ((lower ++ figures) ++ early) (from-month has)
-          (around ∙ ap (λ (l : List Word). (lower ++ figures) ++ l) tail-words ∙ sym (append-assoc (lower ++ figures) early (from-month has)))
+          (around ∙ ap (λ (l : List Word). (lower ++ figures) ++ l) tail-words
+          ∙ sym (append-assoc (lower ++ figures) early (from-month has)))
           (e ∙ sym (simp length-append (omega (arith, before-length))))
           ∙ go has refl from-legal
         where
@@ -325,12 +364,14 @@ module _ (ws : List ℕ) (b : T (isBook ws)) where
       -- ---- its strikes, where it has any
 
       module _ (stands : has ≡ true) where
-        strikes-around : bookWords (length ws) facts ≡ ((lower ++ figures) ++ (early ++ (Expiration m ∷ []))) ++ (strikes ++ late)
+        strikes-around :
+            bookWords (length ws) facts ≡ ((lower ++ figures) ++ (early ++ (Expiration m ∷ []))) ++ (strikes ++ late)
         strikes-around =
             let parts : series ++ upper ≡ early ++ (Expiration m ∷ (strikes ++ late)) =
             tail-words ∙ ap (λ (s : Bool). early ++ from-month s) stands in
             around
-            ∙ ap (λ (l : List Word). (lower ++ figures) ++ l) (parts ∙ sym (append-assoc early (Expiration m ∷ []) (strikes ++ late)))
+            ∙ ap (λ (l : List Word). (lower ++ figures) ++ l)
+            (parts ∙ sym (append-assoc early (Expiration m ∷ []) (strikes ++ late)))
             ∙ sym (append-assoc (lower ++ figures) (early ++ (Expiration m ∷ [])) (strikes ++ late))
 
         strikes-legal : T (every isLegal (strikes ++ late))
@@ -340,7 +381,8 @@ module _ (ws : List ℕ) (b : T (isBook ws)) where
             (from : ℕ) → from ≡ expirationPlace c m facts + 1
             → take (used facts - from) (drop from ws) ≡ map packed (strikes ++ late)
         strikes-rest from e =
-            rest-part from (used facts) ((lower ++ figures) ++ (early ++ (Expiration m ∷ []))) (strikes ++ late) strikes-around
+            rest-part from (used facts) ((lower ++ figures) ++ (early ++ (Expiration m ∷ []))) (strikes ++ late)
+            strikes-around
             (e ∙ sym (simp length-append (omega (arith, before-length)))) refl
 
         -- they end at the next word that is no strike
@@ -349,10 +391,12 @@ module _ (ws : List ℕ) (b : T (isBook ws)) where
             → firstAt (isUpTo expirationKind 0) (take (used facts - from) (drop from ws)) ≡ length here
         strikes-ended from e =
             ap (firstAt (isUpTo expirationKind 0)) (strikes-rest from e)
-            ∙ first-after (isUpTo expirationKind 0) (isEnding (expirationKind .number) 0) (up-to-packed (expirationKind .number) 0 (omega arith) (omega arith)) strikes late strikes-legal
+            ∙ first-after (isUpTo expirationKind 0) (isEnding (expirationKind .number) 0)
+            (up-to-packed (expirationKind .number) 0 (omega arith) (omega arith)) strikes late strikes-legal
             (every-map (λ s. true) (λ w. not (isEnding (expirationKind .number) 0 w)) strikeWord (λ s t. tt) here
             (every-true here))
-            (later (λ l. firstAt (isEnding (expirationKind .number) 0) l ≡ 0) refl (λ n d l. refl) (λ n l k. rw (leb·zero n)))
+            (later (λ l. firstAt (isEnding (expirationKind .number) 0) l ≡ 0) refl (λ n d l. refl)
+            (λ n l k. rw (leb·zero n)))
             ∙ length-map here strikeWord
 
         -- ---- a strike of them
@@ -372,7 +416,8 @@ module _ (ws : List ℕ) (b : T (isBook ws)) where
 
           two : strikes ++ late ≡ lows ++ (highs ++ late)
           two =
-              ap (λ (l : List Word). l ++ late) (two-parts strikeOf (strikeKind .number) (map strikeWord) strikes-laid h here parts here-legal)
+              ap (λ (l : List Word). l ++ late)
+              (two-parts strikeOf (strikeKind .number) (map strikeWord) strikes-laid h here parts here-legal)
               ∙ append-assoc lows highs late
 
           -- the search for it passes the lower strikes of the expiration
@@ -381,9 +426,11 @@ module _ (ws : List ℕ) (b : T (isBook ws)) where
               → firstAt (isUpTo strikeKind h) (take (used facts - from) (drop from ws)) ≡ length (low listed m h)
           strike-sought from e =
               ap (firstAt (isUpTo strikeKind h)) (strikes-rest from e ∙ ap (map packed) two)
-              ∙ first-after (isUpTo strikeKind h) (isEnding (strikeKind .number) h) (up-to-packed (strikeKind .number) h small (omega arith)) lows (highs ++ late)
+              ∙ first-after (isUpTo strikeKind h) (isEnding (strikeKind .number) h)
+              (up-to-packed (strikeKind .number) h small (omega arith)) lows (highs ++ late)
               (rw two at strikes-legal)
-              (every-map (isUnder strikeOf h) (λ w. not (isEnding (strikeKind .number) h w)) strikeWord (λ s u. not-from (s .strike) h u)
+              (every-map (isUnder strikeOf h) (λ w. not (isEnding (strikeKind .number) h w)) strikeWord
+              (λ s u. not-from (s .strike) h u)
               (low listed m h) (every-kept (isUnder strikeOf h) here))
               (ends-there strikeOf (strikeKind .number) (map strikeWord) strikes-laid h
               (placed listed m h ++ high listed m h) late
@@ -399,9 +446,11 @@ module _ (ws : List ℕ) (b : T (isBook ws)) where
               let before = (lower ++ figures) ++ (early ++ (Expiration m ∷ [])) in
               let one : cond {A = ℕ} has 1 0 ≡ 1 = rw stands in
               word-there (isHolding strikeKind h) at (before ++ lows) (highs ++ late)
-              (strikes-around ∙ ap (λ (l : List Word). before ++ l) two ∙ sym (append-assoc before lows (highs ++ late)))
+              (strikes-around ∙ ap (λ (l : List Word). before ++ l) two
+              ∙ sym (append-assoc before lows (highs ++ late)))
               (e ∙ sym (simp (length-append, length-map) (omega (arith, before-length))))
-              ∙ found strikeOf (strikeKind .number) (map strikeWord) strikes-laid h here parts here-legal (isHolding strikeKind h) (strike-said h) late
+              ∙ found strikeOf (strikeKind .number) (map strikeWord) strikes-laid h here parts here-legal
+              (isHolding strikeKind h) (strike-said h) late
               (later (λ l. T (every isLegal l) → begins (isHolding strikeKind h) l ≡ false) (λ t. refl)
               (λ n ds l t. no-strike h (Class n ds) (T-true (isLegal (Class n ds)) (search ands)) refl)
               (λ n l k t. no-strike h (Expiration n) (T-true (isLegal (Expiration n)) (search ands)) refl)

@@ -1,4 +1,6 @@
--- What a search finds in the words of a list that rises by a key, of classes and of strikes: it passes the words of the keys below, and stops at the first word after them. And tests that each word of series and of classes passes, by induction on these. Assumes nothing.
+-- What a search finds in the words of a list that rises by a key, of classes and of strikes: it passes the words of the
+-- keys below, and stops at the first word after them. And tests that each word of series and of classes passes, by
+-- induction on these. Assumes nothing.
 use Prim.Native.Nat.{ℕ, suc}
 use mathlib.Core.Path.{_≡_, refl, sym, ap, _∙_}
 use mathlib.Core.Bool.{Bool, true, false, not, _&&_}
@@ -32,7 +34,8 @@ begins test (w ∷ ws) = test (packed w)
 
 none-first : {A : Type 0} (p : A → Bool) (xs : List A) → T (every (λ x. not (p x)) xs) → firstAt p xs ≡ length xs
 none-first p [] t = refl
-none-first p (x ∷ xs) t = rw (not-true (p x) (T-true (not (p x)) (search ands))) (ap suc (none-first p xs (search ands)))
+none-first p (x ∷ xs) t =
+    rw (not-true (p x) (T-true (not (p x)) (search ands))) (ap suc (none-first p xs (search ands)))
 
 -- a search in packed words is one in the words
 module _ (p : ℕ → Bool) (q : Word → Bool) (says : (x : Word) → isLegal x ≡ true → p (packed x) ≡ q x) where
@@ -74,7 +77,8 @@ pub record Laid {A : Type 0} (key : A → ℕ) (kind : ℕ) (lay : List A → Li
   pub apart :
       (k : ℕ) (xs ys : List A) → T (every (λ x. ltb (key x) k) xs) → T (every (λ y. leb k (key y)) ys)
       → lay (xs ++ ys) ≡ lay xs ++ lay ys
-  pub passed : (k : ℕ) (xs : List A) → T (every (λ x. ltb (key x) k) xs) → T (every (λ w. not (isKeyed kind k w)) (lay xs))
+  pub passed :
+      (k : ℕ) (xs : List A) → T (every (λ x. ltb (key x) k) xs) → T (every (λ w. not (isKeyed kind k w)) (lay xs))
 
 module _ {A : Type 0} (key : A → ℕ) (kind : ℕ) (lay : List A → List Word) (laid : Laid key kind lay) where
   stops-there : (k : ℕ) (xs : List A) → T (every (λ x. leb k (key x)) xs) → firstAt (isKeyed kind k) (lay xs) ≡ 0
@@ -116,7 +120,8 @@ module _ {A : Type 0} (key : A → ℕ) (kind : ℕ) (lay : List A → List Word
       rw (laid .begins x xs) (e ∙ ap (λ (n : ℕ). eqb n k) (laid .keys x))
 
   module _
-      (k : ℕ) (xs : List A) (parts : xs ≡ only (isUnder key k) xs ++ (only (isEqual key k) xs ++ only (isOver key k) xs))
+      (k : ℕ) (xs : List A)
+      (parts : xs ≡ only (isUnder key k) xs ++ (only (isEqual key k) xs ++ only (isOver key k) xs))
       (legal : T (every isLegal (lay xs))) where
     abbrev under : List Word
     under = lay (only (isUnder key k) xs)
@@ -126,7 +131,8 @@ module _ {A : Type 0} (key : A → ℕ) (kind : ℕ) (lay : List A → List Word
 
     pub from-there : T (every (λ x. leb k (key x)) others)
     from-there =
-        not-under key k (only (isEqual key k) xs) (only (isOver key k) xs) (every-kept (isEqual key k) xs) (every-kept (isOver key k) xs)
+        not-under key k (only (isEqual key k) xs) (only (isOver key k) xs) (every-kept (isEqual key k) xs)
+        (every-kept (isOver key k) xs)
 
     pub two-parts : lay xs ≡ under ++ lay others
     two-parts =
@@ -136,7 +142,8 @@ module _ {A : Type 0} (key : A → ℕ) (kind : ℕ) (lay : List A → List Word
     pub sought : firstAt (isFrom (kindNumbered kind) k) (map packed (lay xs)) ≡ length under
     sought =
         ap (λ (l : List Word). firstAt (isFrom (kindNumbered kind) k) (map packed l)) two-parts
-        ∙ first-after (isFrom (kindNumbered kind) k) (isKeyed kind k) (from-packed kind k) under (lay others) (rw two-parts at legal)
+        ∙ first-after (isFrom (kindNumbered kind) k) (isKeyed kind k) (from-packed kind k) under (lay others)
+        (rw two-parts at legal)
         (laid .passed k (only (isUnder key k) xs) (every-kept (isUnder key k) xs)) (stops-there k others from-there)
 
     -- .. and the word there has the key exactly where one of the list has it
@@ -151,7 +158,8 @@ module _ {A : Type 0} (key : A → ℕ) (kind : ℕ) (lay : List A → List Word
 
 pub every-series :
     (q : Word → Bool) (p : ℕ) (ss : List Series) (rest : List Word)
-    → T (every (λ s. q (strikeWord s) && q (Expiration (s .month))) ss) → T (every q rest) → T (every q (seriesWords p ss rest))
+    → T (every (λ s. q (strikeWord s) && q (Expiration (s .month))) ss) → T (every q rest)
+    → T (every q (seriesWords p ss rest))
 every-series q p [] rest t u = u
 every-series q p (s ∷ ss) rest t u =
     go (eqb p (suc (s .month))) (every-series q (suc (s .month)) ss rest (search ands) u)
@@ -179,7 +187,8 @@ strikes-laid = record {
   keys = λ s. refl;
   apart = λ k xs ys a b. map-append strikeWord xs ys;
   passed = λ k xs t.
-      every-map (λ s. ltb (s .strike) k) (λ w. not (isKeyed (strikeKind .number) k w)) strikeWord (λ s u. not-from (s .strike) k u) xs t;
+      every-map (λ s. ltb (s .strike) k) (λ w. not (isKeyed (strikeKind .number) k w)) strikeWord
+      (λ s u. not-from (s .strike) k u) xs t;
 }
 
 -- ---- classes
@@ -188,7 +197,8 @@ strikes-laid = record {
 pub class-kinds : (xs : List OpenClass) → T (every (λ w. leb (classKind .number) (kindIn w)) (classesWords xs []))
 class-kinds [] = tt
 class-kinds (x ∷ xs) =
-    every-series (λ w. leb (classKind .number) (kindIn w)) 0 (x .series) (classesWords xs []) (every-true (x .series)) (class-kinds xs)
+    every-series (λ w. leb (classKind .number) (kindIn w)) 0 (x .series) (classesWords xs []) (every-true (x .series))
+    (class-kinds xs)
 
 -- a test that each word passes which is no class word
 module _ (q : Word → Bool) (other : (w : Word) → eqb (kindIn w) (classKind .number) ≡ false → T (q w)) where
@@ -217,7 +227,8 @@ module _ (q : Word → Bool) (other : (w : Word) → eqb (kindIn w) (classKind .
 pub classes-laid : Laid number (classKind .number) (λ xs. classesWords xs [])
 classes-laid = record {
   first = λ x. Class (x .figures .number) (x .figures .designations);
-  rest = λ x xs. Close (x .figures .close) ∷ Volume (x .figures .volume) ∷ seriesWords 0 (x .series) (classesWords xs []);
+  rest =
+      λ x xs. Close (x .figures .close) ∷ Volume (x .figures .volume) ∷ seriesWords 0 (x .series) (classesWords xs []);
   none = refl;
   begins = λ x xs. refl;
   kinds = λ x. refl;

@@ -126,7 +126,8 @@ module _ (ws : List ℕ) (b : T (isBook ws)) (p : ℕ) (k : T (isProgram p)) whe
             ≡ added p (getD ws at 0) + sum (added p) (take (used facts - (at + 1)) (drop (at + 1) ws))
         here =
             let left : used facts - at ≡ suc (used facts - (at + 1)) = omega arith in
-            ap₂ (λ (n : ℕ) (l : List ℕ). sum (added p) (take n l)) left (drop-cons ws at 0 (omega (arith, book-room ws b)))
+            ap₂ (λ (n : ℕ) (l : List ℕ). sum (added p) (take n l)) left
+            (drop-cons ws at 0 (omega (arith, book-room ws b)))
             ∙ ap (λ (n : ℕ). added p (getD ws at 0) + sum (added p) (take (used facts - (at + 1)) (drop n ws)))
             (sym (add-one at))
 

@@ -1,4 +1,5 @@
--- The class words of a book rise: each holds less than every later one, so that a search knows from one of them on which side the first from a key on stands. By induction on the classes, and on the words. Assumes nothing.
+-- The class words of a book rise: each holds less than every later one, so that a search knows from one of them on
+-- which side the first from a key on stands. By induction on the classes, and on the words. Assumes nothing.
 use Prim.Native.Nat.{ℕ, zero, suc, _≤_, _<_}
 use mathlib.Core.Path.{_≡_, refl, ap, ap₂}
 use mathlib.Core.Bool.{Bool, true, false, cond, not, _||_}
@@ -47,7 +48,11 @@ module _ (kind : Kind) (key : ℕ) where
           (b : Bool) → isFrom kind key w ≡ b → i < firstAt (isFrom kind key) ws
           → suc i < cond {A = ℕ} b 0 (suc (firstAt (isFrom kind key) ws))
       go true f r =
-          absurd (omega (arith, later-more w (getD ws i 0) f k (every-at (isLess kind w) 0 ws i (omega arith) (search ands))))
+          absurd (omega (
+            arith,
+            later-more w (getD ws i 0) f k
+                (every-at (isLess kind w) 0 ws i (omega arith) (search ands)),
+          ))
       go false f r = omega arith
 
   equal :
@@ -61,7 +66,11 @@ module _ (kind : Kind) (key : ℕ) where
           (b : Bool) → isFrom kind key w ≡ b → i ≡ firstAt (isFrom kind key) ws
           → suc i ≡ cond {A = ℕ} b 0 (suc (firstAt (isFrom kind key) ws))
       go true f r =
-          absurd (omega (arith, later-more w (getD ws i 0) f k (every-at (isLess kind w) 0 ws i (omega arith) (search ands))))
+          absurd (omega (
+            arith,
+            later-more w (getD ws i 0) f k
+                (every-at (isLess kind w) 0 ws i (omega arith) (search ands)),
+          ))
       go false f r = ap suc r
 
   pub ordered-rises : (ws : List ℕ) → T (ordered (isLess kind) ws) → Rises kind key ws
@@ -75,7 +84,8 @@ isLower kind v w = not (eqb (kindIn v) kind) || (not (eqb (kindIn w) kind) || lt
 
 module _ (kind : ℕ) where
   less-packed :
-      (v w : Word) → isLegal v ≡ true → isLegal w ≡ true → isLess (kindNumbered kind) (packed v) (packed w) ≡ isLower kind v w
+      (v w : Word) → isLegal v ≡ true → isLegal w ≡ true
+      → isLess (kindNumbered kind) (packed v) (packed w) ≡ isLower kind v w
   less-packed v w a b =
       rw (kind-packed v (packed v) (legal-fits v a) refl, kind-packed w (packed w) (legal-fits w b) refl)
       (go (eqb (kindIn v) kind) (eqb (kindIn w) kind) refl refl)
@@ -86,7 +96,8 @@ module _ (kind : ℕ) where
           ≡ (not x || (not y || ltb (keyIn v) (keyIn w)))
       go false y d e = refl
       go true false d e = refl
-      go true true d e = ap₂ ltb (key-said kind v a (eqb-true (kindIn v) kind d)) (key-said kind w b (eqb-true (kindIn w) kind e))
+      go true true d e =
+          ap₂ ltb (key-said kind v a (eqb-true (kindIn v) kind d)) (key-said kind w b (eqb-true (kindIn w) kind e))
 
   every-packed :
       (v : Word) → isLegal v ≡ true → (ws : List Word) → T (every isLegal ws) → T (every (isLower kind v) ws)
@@ -100,7 +111,8 @@ module _ (kind : ℕ) where
       search and-intro
 
   pub ordered-packed :
-      (ws : List Word) → T (every isLegal ws) → T (ordered (isLower kind) ws) → T (ordered (isLess (kindNumbered kind)) (map packed ws))
+      (ws : List Word) → T (every isLegal ws) → T (ordered (isLower kind) ws)
+      → T (ordered (isLess (kindNumbered kind)) (map packed ws))
   ordered-packed [] legal t = tt
   ordered-packed (w ∷ ws) legal t =
       let here = every-packed w (T-true (isLegal w) (search ands)) ws (search ands) (search ands) in
@@ -110,24 +122,29 @@ module _ (kind : ℕ) where
 -- ---- classes
 
 series-ordered :
-    (p : ℕ) (ss : List Series) (rest : List Word) → T (ordered (isLower (classKind .number)) rest) → T (ordered (isLower (classKind .number)) (seriesWords p ss rest))
+    (p : ℕ) (ss : List Series) (rest : List Word) → T (ordered (isLower (classKind .number)) rest)
+    → T (ordered (isLower (classKind .number)) (seriesWords p ss rest))
 series-ordered p [] rest t = t
 series-ordered p (s ∷ ss) rest t = go (eqb p (suc (s .month))) (series-ordered (suc (s .month)) ss rest t)
   where
     after : List Word
     after = seriesWords (suc (s .month)) ss rest
 
-    go : (b : Bool) → T (ordered (isLower (classKind .number)) after) → T (ordered (isLower (classKind .number)) (expirationUnless b (s .month) (strikeWord s ∷ after)))
+    go :
+        (b : Bool) → T (ordered (isLower (classKind .number)) after)
+        → T (ordered (isLower (classKind .number)) (expirationUnless b (s .month) (strikeWord s ∷ after)))
     go true r = let a = every-true after in search and-intro
     go false r = let a = every-true after in search and-intro
 
-pub classes-ordered : (xs : List OpenClass) → T (ordered isBelow xs) → T (ordered (isLower (classKind .number)) (classesWords xs []))
+pub classes-ordered :
+    (xs : List OpenClass) → T (ordered isBelow xs) → T (ordered (isLower (classKind .number)) (classesWords xs []))
 classes-ordered [] t = tt
 classes-ordered (x ∷ xs) t =
     let after = seriesWords 0 (x .series) (classesWords xs []) in
     let test = isLower (classKind .number) (Class (x .figures .number) (x .figures .designations)) in
     let above : T (every test after) =
-    no-class test (λ w e. rw e tt) 0 (x .series) (classesWords xs []) (every-class test (λ w e. rw e tt) xs (search ands)) in
+    no-class test (λ w e. rw e tt) 0 (x .series) (classesWords xs [])
+    (every-class test (λ w e. rw e tt) xs (search ands)) in
     let rest = series-ordered 0 (x .series) (classesWords xs []) (classes-ordered xs (search ands)) in
     let a = every-true after in
     search and-intro

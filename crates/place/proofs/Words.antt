@@ -1,4 +1,5 @@
--- The tests of a search on words and on packed words: by the kind of a word, its lowest field and its grade. Assumes nothing.
+-- The tests of a search on words and on packed words: by the kind of a word, its lowest field and its grade. Assumes
+-- nothing.
 use Prim.Native.Nat.{ℕ, _^_, _≤_, _<_}
 use mathlib.Core.Path.{_≡_, refl, sym, ap, _∙_}
 use mathlib.Core.Bool.{Bool, true, false, cond, _&&_, _||_}
@@ -34,7 +35,8 @@ module _ (kind : Kind) (key : ℕ) (small : key < 2 ^ kindField .low) where
       go false d b e l =
           lt-leb (gradeOf kind w) (gradeAt kind key) (omega (arith, eqb-false (kindOf w) (kind .number) d))
 
-  pub first-from : (ws : List ℕ) → T (every (isNoLower kind) ws) → firstAt (isUpTo kind key) ws ≡ firstAt (isFrom kind key) ws
+  pub first-from :
+      (ws : List ℕ) → T (every (isNoLower kind) ws) → firstAt (isUpTo kind key) ws ≡ firstAt (isFrom kind key) ws
   first-from [] t = refl
   first-from (w ∷ ws) t = rw (up-to-from w (search ands), first-from ws (search ands))
 
@@ -79,17 +81,21 @@ key-packed Invalid fits = omega arith
 abbrev pub isKeyed : ℕ → ℕ → Word → Bool
 isKeyed kind key x = eqb (kindIn x) kind && leb key (keyIn x)
 
-pub key-said : (kind : ℕ) (x : Word) → isLegal x ≡ true → kindIn x ≡ kind → keyOf (kindNumbered kind) (packed x) ≡ keyIn x
+pub key-said :
+    (kind : ℕ) (x : Word) → isLegal x ≡ true → kindIn x ≡ kind → keyOf (kindNumbered kind) (packed x) ≡ keyIn x
 key-said kind x legal e = ap (λ (k : ℕ). keyOf (kindNumbered k) (packed x)) (sym e) ∙ key-packed x (legal-fits x legal)
 
 pub from-packed :
     (kind key : ℕ) (x : Word) → isLegal x ≡ true
     → isFrom (kindNumbered kind) key (packed x) ≡ isKeyed kind key x
 from-packed kind key x legal =
-    ap (λ (k : ℕ). eqb k kind && leb key (keyOf (kindNumbered kind) (packed x))) (kind-packed x (packed x) (legal-fits x legal) refl)
+    ap (λ (k : ℕ). eqb k kind && leb key (keyOf (kindNumbered kind) (packed x)))
+    (kind-packed x (packed x) (legal-fits x legal) refl)
     ∙ go (eqb (kindIn x) kind) refl
   where
-    go : (b : Bool) → eqb (kindIn x) kind ≡ b → (b && leb key (keyOf (kindNumbered kind) (packed x))) ≡ (b && leb key (keyIn x))
+    go :
+        (b : Bool) → eqb (kindIn x) kind ≡ b
+        → (b && leb key (keyOf (kindNumbered kind) (packed x))) ≡ (b && leb key (keyIn x))
     go true e = ap (leb key) (key-said kind x legal (eqb-true (kindIn x) kind e))
     go false e = refl
 

@@ -1,4 +1,5 @@
--- A run is a book exactly when its length, its head, the words used and the words past them pass their tests: by the layout of the facts. Assumes nothing.
+-- A run is a book exactly when its length, its head, the words used and the words past them pass their tests: by the
+-- layout of the facts. Assumes nothing.
 use Prim.Native.Nat.{ℕ, zero, suc, _+_, _-_, _^_, _/_, _*_, _≤_}
 use mathlib.Core.Path.{_≡_, refl, sym, ap, _∙_}
 use mathlib.Core.Logic.{_↔_}
@@ -59,7 +60,8 @@ numbered now (x ∷ xs) legal = search ands depth 12
 module _ (ws : List ℕ) (f : Facts) (good : T (isWellFormed (length ws) f)) (laid : layout (length ws) f ≡ ws) where
   words :
       ws
-      ≡ packed (Head (f .now) (used f)) ∷ (map packed (classesWords (f .classes) []) ++ replicate (length ws - used f) 0)
+      ≡ packed (Head (f .now) (used f)) ∷
+      (map packed (classesWords (f .classes) []) ++ replicate (length ws - used f) 0)
   unfolding layout
   words = sym laid
 
@@ -159,7 +161,8 @@ module _ (ws : List ℕ) (p : Parts ws) where
       let head : packed (Head (monthIn ws) (used told)) ≡ w =
       rw told-used (head-packed w (bare headKind (end usedField) w (search ands))) in
       let next : firstPlace + (u - firstPlace) ≡ u = omega (arith, within) in
-      let after : drop (u - firstPlace) (drop firstPlace ws) ≡ drop u ws = rw (drop-drop (u - firstPlace) firstPlace ws, next) in
+      let after : drop (u - firstPlace) (drop firstPlace ws) ≡ drop u ws =
+      rw (drop-drop (u - firstPlace) firstPlace ws, next) in
       let all : past ws ≡ drop u ws = take-all (n - u) (drop u ws) (omega (arith, length-drop u ws)) in
       let zeros : replicate (n - used told) 0 ≡ drop u ws =
       rw (told-used, ← length-drop u ws) (replicate-zeros (drop u ws) (rw all at (p .zeros))) in

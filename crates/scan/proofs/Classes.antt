@@ -119,12 +119,14 @@ module _ {now : ℕ} {ws : List ℕ} {i last dollars halves : ℕ} (v : Counted 
       go false d t = omega (arith, ltb-true, v .same .0 r .halfCapped)
 
   pub counted-breaks :
-      ((xs : List OpenClass) → T (every (isClass now) xs) → SeriesThen now 0 (mayFollow 0) xs (drop (i + figuresLength) ws) → ⊥)
+      ((xs : List OpenClass) → T (every (isClass now) xs)
+      → SeriesThen now 0 (mayFollow 0) xs (drop (i + figuresLength) ws) → ⊥)
       → Classes now 0 0 0 (drop firstPlace ws) → ⊥
   counted-breaks breaks r = let c = v .same .0 r in breaks (c .classes) (c .legal) (c .holds)
 
   pub counted-more :
-      (j : ℕ) → (ltb (program 1 .cap) dollars || ltb (program 2 .cap) halves) ≡ false → SeriesEnd now ws (i + figuresLength) j
+      (j : ℕ) → (ltb (program 1 .cap) dollars || ltb (program 2 .cap) halves) ≡ false
+      → SeriesEnd now ws (i + figuresLength) j
       → Walked now ws j last dollars halves
   counted-more j t e =
       record {

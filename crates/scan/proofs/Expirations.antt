@@ -1,4 +1,5 @@
--- What the loop over a class's expirations keeps, and a law for each way through it: by the word at its place. Assumes nothing.
+-- What the loop over a class's expirations keeps, and a law for each way through it: by the word at its place. Assumes
+-- nothing.
 use Prim.Native.Nat.{ℕ, suc, _+_, _-_, _≤_, _<_, max}
 use mathlib.Core.Path.{_≡_}
 use mathlib.Core.Logic.{_↔_, Iff·rfl, Iff·trans}
@@ -23,7 +24,8 @@ use Rattle.scan.proofs.ExpirationWords.{isExpirationFrom, isBetween, be
 use Rattle.scan.proofs.NextStrikes.{lastNext, HasStrikes}
 use Rattle.scan.proofs.Series.{expiration-more, expiration-none, expiration-end}
 
--- the series from `from` on are what they are after those before i, and `least` is the first expiration word that may follow them
+-- the series from `from` on are what they are after those before i, and `least` is the first expiration word that may
+-- follow them
 pub record Expirations (now : ℕ) (ws : List ℕ) (from least i : ℕ) : Type 0 where
   -- the month after the last expiration's, 0 for none
   pub next : ℕ
@@ -114,7 +116,8 @@ module _ {now : ℕ} {ws : List ℕ} {from least i : ℕ} (v : Expirations now w
         pub expirations-outside :
             not (areStrikes (getD ws (i + 1) 0) (getD ws (j - 1) 0)) ≡ true → Stretched now ws from Breaks
         expirations-outside t xs legal r =
-            rw (strikes-at, not-true (areStrikes (getD ws (i + 1) 0) (getD ws (j - 1) 0)) t) at (step xs legal .0 r .1 .1)
+            rw (strikes-at, not-true (areStrikes (getD ws (i + 1) 0) (getD ws (j - 1) 0)) t) at (step xs legal .0
+            r .1 .1)
 
         pub expirations-more :
             T (isBetween now (v .next) (getD ws i 0)) → i + 1 < j
@@ -126,7 +129,8 @@ module _ {now : ℕ} {ws : List ℕ} {from least i : ℕ} (v : Expirations now w
             let listed : T (isExpirationFrom now (v .next) w) = rw (between-from now (v .next) w kind) at t in
             let low : now ≤ m = leb→le now m (search ands) in
             let passed = areStrikes (getD ws (i + 1) 0) (getD ws (j - 1) 0) in
-            let has : HasStrikes w (drop (suc i) ws) = (omega arith, rw strikes-at (true-T passed (not-false passed strikes))) in
+            let has : HasStrikes w (drop (suc i) ws) =
+            (omega arith, rw strikes-at (true-T passed (not-false passed strikes))) in
             record {
               next = suc m;
               first = omega arith;

@@ -60,13 +60,16 @@ module _ (before h w : ℕ) (low : orderOf before ≤ kindPlaced strikeKind + h)
   above-none e = sym (refuted (isStrikeAbove h w) (λ t. rw e at (above-next t)))
 
 -- so no strike is above the last one
-pub next-rising : (before : ℕ) (ws : List ℕ) → IsStrike before → keyOf strikeKind before ≤ keyOf strikeKind (lastNext before ws)
+pub next-rising :
+    (before : ℕ) (ws : List ℕ) → IsStrike before → keyOf strikeKind before ≤ keyOf strikeKind (lastNext before ws)
 next-rising before [] top = omega arith
 next-rising before (w ∷ ws) top = go (isNextStrike before w) refl (next-rising w ws)
   where
     go :
-        (next : Bool) → isNextStrike before w ≡ next → (IsStrike w → keyOf strikeKind w ≤ keyOf strikeKind (lastNext w ws))
-        → keyOf strikeKind before ≤ keyOf strikeKind (getD (before ∷ w ∷ ws) (cond {A = ℕ} next (suc (nextLength w ws)) 0) 0)
+        (next : Bool) → isNextStrike before w ≡ next
+        → (IsStrike w → keyOf strikeKind w ≤ keyOf strikeKind (lastNext w ws))
+        → keyOf strikeKind before
+        ≤ keyOf strikeKind (getD (before ∷ w ∷ ws) (cond {A = ℕ} next (suc (nextLength w ws)) 0) 0)
     go true e rest =
         let t = true-T (isNextStrike before w) e in
         omega (arith, next-rises before w t top, rest (next-strike before w t))

@@ -1,4 +1,5 @@
--- What is told ahead of a word, and the search for the next other: each way through the functions is one law. Assumes nothing.
+-- What is told ahead of a word, and the search for the next other: each way through the functions is one law. Assumes
+-- nothing.
 use Prim.Native.Nat.{ℕ, suc, _+_, _-_, _*_, _/_, _%_, _^_, _<_, _≤_}
 use mathlib.Core.Path.{_≡_, refl, sym, _∙_}
 use mathlib.Core.Bool.{false}
@@ -66,7 +67,8 @@ module _ (ws : List ℕ) where
             (rw here at (bits-cleared ws g j (ahead .at) k (omega arith)));
       }
 
-  -- the words from the start of the search up to `from` are next strikes, `bits` tells the others from there on, as far as 64 words from `base` on
+  -- the words from the start of the search up to `from` are next strikes, `bits` tells the others from there on, as far
+  -- as 64 words from `base` on
   -- reach, and `end` is the next other
   pub record Searched (end base bits : ℕ) : Type 0 where
     pub from : ℕ
@@ -95,7 +97,12 @@ module _ (ws : List ℕ) where
           within = omega arith;
           near = omega arith;
           told = tells-start (base + 64) (omega arith) l .told;
-          reaches = omega (arith, rw onward at (next-on ws k (searched .from) (omega arith) (told-none e)), searched .reaches);
+          reaches =
+              omega (
+                arith,
+                rw onward at (next-on ws k (searched .from) (omega arith) (told-none e)),
+                searched .reaches,
+              );
         }
 
     pub searched-all : bits ≡ 0 → length ws ≤ base + 64 → length ws ≡ end
@@ -139,7 +146,8 @@ module _ (ws : List ℕ) where
           searched .reaches,
         )
 
-module _ (ws : List ℕ) {ahead : Ahead} (tells : Tells ws ahead) (l : ahead .at < length ws) (e : kindOf (getD ws (ahead .at) 0) ≡ expirationKind .number) where
+module _ (ws : List ℕ) {ahead : Ahead} (tells : Tells ws ahead) (l : ahead .at < length ws)
+    (e : kindOf (getD ws (ahead .at) 0) ≡ expirationKind .number) where
   -- the word at `at` is an other, since it is no strike: its bit is the lowest that is 1
   expiration-told :
       ahead .bits

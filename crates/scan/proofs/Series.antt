@@ -1,4 +1,5 @@
--- The words of a class's series, one word at a time: by cases on the first series and on whether its expiration stands already. Assumes nothing.
+-- The words of a class's series, one word at a time: by cases on the first series and on whether its expiration stands
+-- already. Assumes nothing.
 use Prim.Native.Nat.{ℕ, suc, _≤_, _<_}
 use mathlib.Core.Path.{_≡_, refl, sym, ap}
 use mathlib.Core.Logic.{_↔_}
@@ -118,7 +119,8 @@ module _ (now : ℕ) (xs : List OpenClass) (classesLegal : T (every (isClass now
           (s : Series) (ss : List Series) → T (every (isSeries now) (s ∷ ss))
           → T (leads (precedes s) ss && rises precedes ss) → T (test s)
           → (stands : Bool) → eqb p (suc (s .month)) ≡ stands
-          → map packed (expirationUnless stands (s .month) (strikeWord s ∷ seriesWords (suc (s .month)) ss last)) ≡ w ∷ ws
+          → map packed (expirationUnless stands (s .month) (strikeWord s ∷ seriesWords (suc (s .month)) ss last))
+          ≡ w ∷ ws
           → First p test w ws
       by s ss legal rising leading true q e =
           strike s (eqb-true p (suc (s .month)) q) (cc) (search ands) leading
@@ -157,7 +159,8 @@ module _ (now : ℕ) (xs : List OpenClass) (classesLegal : T (every (isClass now
   add :
       {test : Series → Bool} {ws vs : List ℕ} (p : ℕ) (s : Series) → T (isSeries now s) → T (test s) → (r : After s ws)
       → map packed
-      (expirationUnless (eqb p (suc (s .month))) (s .month) (strikeWord s ∷ seriesWords (suc (s .month)) (r .series) last))
+      (expirationUnless (eqb p (suc (s .month))) (s .month)
+      (strikeWord s ∷ seriesWords (suc (s .month)) (r .series) last))
       ≡ vs
       → Words p test vs
   add p s legal leading r e =
@@ -197,10 +200,17 @@ module _ (now : ℕ) (xs : List OpenClass) (classesLegal : T (every (isClass now
     strike-from h w ws kind (class k e) = absurd (omega arith)
     strike-from h w ws kind (strike s e ew legal leading r) =
         let month : m ≡ s .month = omega arith in
-        let f = strike-test h w (s .strike) (s .ground) (s .put) (s .call) (strike-legal now s legal) ew (after-same m h s leading month) in
+        let f =
+        strike-test h w (s .strike) (s .ground) (s .put) (s .call) (strike-legal now s legal) ew
+        (after-same m h s leading month) in
         (f .0, rw (f .1, month) r)
     strike-from h w ws kind (expiration s vs other ew es legal leading r) =
-        absurd (omega (arith, kind, kind-packed (Expiration (s .month)) w (fits (Expiration (s .month)) (month-legal now s legal)) ew))
+        absurd (omega (
+          arith,
+          kind,
+          kind-packed (Expiration (s .month)) w
+              (fits (Expiration (s .month)) (month-legal now s legal)) ew,
+        ))
 
     strike-to :
         (h w : ℕ) (ws : List ℕ) → T (isStrikeAbove h w) → Words (suc m) (isAfter m (keyOf strikeKind w)) ws
@@ -223,7 +233,8 @@ module _ (now : ℕ) (xs : List OpenClass) (classesLegal : T (every (isClass now
         from (class k e) = no-series e
         from (strike s e ew legal leading r) =
             let month : m ≡ s .month = omega arith in
-            absurd (rw t at (strike-test h w (s .strike) (s .ground) (s .put) (s .call) (strike-legal now s legal) ew (after-same m h s leading month) .0))
+            absurd (rw t at (strike-test h w (s .strike) (s .ground) (s .put) (s .call) (strike-legal now s legal) ew
+            (after-same m h s leading month) .0))
         from (expiration s vs other ew es legal leading r) =
             let later = after-other m h s leading other in
             rw (ew, es) at (add-expiration {test = mayFollow (suc m)} (suc m) s other legal later r)
@@ -246,7 +257,8 @@ module _ (now : ℕ) (xs : List OpenClass) (classesLegal : T (every (isClass now
     strikes :
         (before : ℕ) (ws : List ℕ) → IsStrike before → keyOf strikeKind before ≤ highestStrike
         → Words (suc m) (isAfter m (keyOf strikeKind before)) ws
-        ↔ ((keyOf strikeKind (lastNext before ws) ≤ highestStrike) × Words (suc m) (mayFollow (suc m)) (drop (nextLength before ws) ws))
+        ↔ ((keyOf strikeKind (lastNext before ws) ≤ highestStrike)
+        × Words (suc m) (mayFollow (suc m)) (drop (nextLength before ws) ws))
     strikes before [] prior low = (λ r. (low, no-series (series-end r)), λ r. no-series (series-end (r .1)))
     strikes before (w ∷ ws) prior low = go (isNextStrike before w) refl (strikes w ws)
       where
@@ -295,7 +307,9 @@ module _ (now : ℕ) (xs : List OpenClass) (classesLegal : T (every (isClass now
       let v = packed (strikeWord s) in
       let month : belowKind w ≡ s .month = expiration-field w (s .month) (month-legal now s legal) ew in
       let listed : T (isListed now (s .month)) = search ands depth 12 in
-      let test = strike-test 0 v (s .strike) (s .ground) (s .put) (s .call) (strike-legal now s legal) refl (leb→le 1 (s .strike) (search ands)) in
+      let test =
+      strike-test 0 v (s .strike) (s .ground) (s .put) (s .call) (strike-legal now s legal) refl
+      (leb→le 1 (s .strike) (search ands)) in
       let above : T (isStrikeAbove 0 v) = test .0 in
       let next = above-next w 0 v (omega arith) above in
       let few : keyOf strikeKind v ≤ highestStrike = leb→le (keyOf strikeKind v) highestStrike (search ands) in
@@ -304,13 +318,18 @@ module _ (now : ℕ) (xs : List OpenClass) (classesLegal : T (every (isClass now
       let high = le→leb (keyOf strikeKind (lastNext v vs)) highestStrike (rest .0) in
       rw (month, ← es, T-true (isNextStrike w v) next) (
         and-intro (leb p (s .month)) (isListed now (s .month)) leading listed,
-        (omega arith, and-intro (ltb 0 (keyOf strikeKind v)) (leb (keyOf strikeKind (lastNext v vs)) highestStrike) low high),
+        (
+          omega arith,
+          and-intro (ltb 0 (keyOf strikeKind v)) (leb (keyOf strikeKind (lastNext v vs)) highestStrike) low
+              high,
+        ),
         rest .1,
       )
 
   expiration-to :
       {p w : ℕ} (ws : List ℕ) → kindOf w ≡ expirationKind .number → T (isExpirationFrom now p w) → HasStrikes w ws
-      → Words (suc (belowKind w)) (mayFollow (suc (belowKind w))) (drop (nextLength w ws) ws) → Words p (mayFollow p) (w ∷ ws)
+      → Words (suc (belowKind w)) (mayFollow (suc (belowKind w))) (drop (nextLength w ws) ws)
+      → Words p (mayFollow p) (w ∷ ws)
   expiration-to [] kind t l r = absurd (omega arith)
   expiration-to {p} {w} (v ∷ vs) kind t l r = go (isNextStrike w v) refl l r
     where
@@ -330,7 +349,8 @@ module _ (now : ℕ) (xs : List OpenClass) (classesLegal : T (every (isClass now
           let next = true-T (isNextStrike w v) e in
           let top = next-strike w v next in
           let both : T (areStrikes v (lastNext v vs)) = l .1 in
-          let high : keyOf strikeKind (lastNext v vs) ≤ highestStrike = leb→le (keyOf strikeKind (lastNext v vs)) highestStrike (search ands) in
+          let high : keyOf strikeKind (lastNext v vs) ≤ highestStrike =
+          leb→le (keyOf strikeKind (lastNext v vs)) highestStrike (search ands) in
           let few : keyOf strikeKind v ≤ highestStrike = omega (arith, next-rising v vs top) in
           let above = next-above w v next 0 (ltb→lt 0 (keyOf strikeKind v) (search ands)) few in
           let s = strikeIn m v in
@@ -355,7 +375,8 @@ module _ (now : ℕ) (xs : List OpenClass) (classesLegal : T (every (isClass now
 
   -- where no expiration word stands, only a class may follow
   class-next :
-      {p w : ℕ} {ws : List ℕ} → (kindOf w ≡ expirationKind .number → ⊥) → First p (mayFollow p) w ws → map packed last ≡ w ∷ ws
+      {p w : ℕ} {ws : List ℕ} → (kindOf w ≡ expirationKind .number → ⊥) → First p (mayFollow p) w ws
+      → map packed last ≡ w ∷ ws
   class-next other (class k e) = e
   class-next {p} other (strike s e ew legal leading r) = absurd (omega (arith, leb→le p (s .month) leading))
   class-next {p} {w} other (expiration s vs q ew es legal leading r) =

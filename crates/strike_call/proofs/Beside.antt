@@ -69,7 +69,8 @@ module _ (w : List ℕ) (book : T (isBook w)) where
   words-legal =
       let f = factsOf w in
       let month : T (leb (f .now) lastMonth) = book-form w book .month in
-      let most : T (leb (used f) longestRun) = le→leb (used f) longestRun (omega (arith, book-room w book, book-long w book)) in
+      let most : T (leb (used f) longestRun) =
+      le→leb (used f) longestRun (omega (arith, book-room w book, book-long w book)) in
       let least : T (leb 1 (used f)) = le→leb 1 (used f) (omega arith) in
       let rest = legal w book in
       search and-intro

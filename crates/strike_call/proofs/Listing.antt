@@ -94,7 +94,8 @@ module _ (w : List ℕ) (book : T (isBook w)) (c m h : ℕ) (l : not (isPlace c 
   listing :
       answerTo (length w) 0 (on c (callL m h)) (factsOf w)
       ≡ cond (noneApplies (judging m h seen))
-      (firstOr (Ground (groundOf seen m h)) (lacking (length w) (factsWithStrike c m h (factsOf w)) ∷ [])) (judged m h seen)
+      (firstOr (Ground (groundOf seen m h)) (lacking (length w) (factsWithStrike c m h (factsOf w)) ∷ []))
+      (judged m h seen)
   unfolding answerTo effectOn
   listing =
       rw l

@@ -152,7 +152,8 @@ module _
       rw (strike-at i, List·getD-append lower higher 0 i l)
       (ltb→lt (getD lower i 0) h
       (every-at (λ x. ltb x h) 0 lower i l
-      (rw (every-mapped (λ x. ltb x h) strikeOf (low series m h)) (every-kept (isUnder strikeOf h) (inMonth m series)))))
+      (rw (every-mapped (λ x. ltb x h) strikeOf (low series m h))
+      (every-kept (isUnder strikeOf h) (inMonth m series)))))
 
   over : (i : ℕ) → length lower ≤ i → i < length words → h < strikeIn (getD words i 0)
   over i l k =
@@ -161,7 +162,8 @@ module _
       rw (strike-at i, e, getD-append-add lower higher j 0)
       (ltb→lt h (getD higher j 0)
       (every-at (λ x. ltb h x) 0 higher j (omega (arith, all))
-      (rw (every-mapped (λ x. ltb h x) strikeOf (high series m h)) (every-kept (isOver strikeOf h) (inMonth m series)))))
+      (rw (every-mapped (λ x. ltb h x) strikeOf (high series m h))
+      (every-kept (isOver strikeOf h) (inMonth m series)))))
 
   -- the strikes next to its place are all that bear on h
   pub judged-beside : (s : Setting) (at start stop : ℕ) → at ≡ strikePlace c m h (factsOf w) →

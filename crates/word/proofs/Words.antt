@@ -89,7 +89,8 @@ class-fields w number [] fits e = absurd (fits .1)
 class-fields w number (d ∷ []) fits e = absurd (fits .1 .1)
 class-fields w number (d ∷ h ∷ []) fits e =
     let first : designationIn dollarProgram w ≡ d =
-    field-packed w number d (h + classKind .number * 2 ^ (kindField .low - halfProgram .bits .low)) (dollarProgram .bits)
+    field-packed w number d (h + classKind .number * 2 ^ (kindField .low - halfProgram .bits .low))
+    (dollarProgram .bits)
     (omega arith) (omega arith) (omega arith) in
     let second : designationIn halfProgram w ≡ h =
     field-packed w (number + shifted d (dollarProgram .bits)) h (kindAbove classKind (halfProgram .bits))
@@ -129,7 +130,8 @@ strike-fields w h ground put call fits e =
     let above = call * 2 + kindAbove strikeKind groundField in (
       omega arith,
       field-packed w h ground (put + above) groundField (omega arith) (omega arith) (omega arith),
-      field-packed w marked put (call + kindAbove strikeKind putField) putField (omega arith) (omega arith) (omega arith),
+      field-packed w marked put (call + kindAbove strikeKind putField) putField (omega arith) (omega arith)
+          (omega arith),
       field-packed w (marked + shifted put putField) call (kindAbove strikeKind callField) callField (omega arith)
           (omega arith) (omega arith),
     )
@@ -143,8 +145,10 @@ fields-packed x fits = ap (λ (k : ℕ). fieldsAs k (packed x)) (kind-packed x (
         let e = class-fields (packed (Class number ds)) number ds f refl in
         λ i. Class (e .0 i) (e .1 i)
     go (Close price) f = let e : keyOf closeKind (packed (Close price)) ≡ price = omega arith in ap Close e
-    go (Volume contracts) f = let e : keyOf volumeKind (packed (Volume contracts)) ≡ contracts = omega arith in ap Volume e
-    go (Expiration month) f = let e : keyOf expirationKind (packed (Expiration month)) ≡ month = omega arith in ap Expiration e
+    go (Volume contracts) f =
+        let e : keyOf volumeKind (packed (Volume contracts)) ≡ contracts = omega arith in ap Volume e
+    go (Expiration month) f =
+        let e : keyOf expirationKind (packed (Expiration month)) ≡ month = omega arith in ap Expiration e
     go (Strike h ground put call) f =
         let e = strike-fields (packed (Strike h ground put call)) h ground put call f refl in
         λ i. Strike (e .0 i) (e .1 i) (e .2 i) (e .3 i)

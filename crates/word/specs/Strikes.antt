@@ -1,4 +1,5 @@
--- Inner: what is asked of a strike word: whether it has a mark, and whether it may follow another word. Assumes nothing.
+-- Inner: what is asked of a strike word: whether it has a mark, and whether it may follow another word. Assumes
+-- nothing.
 use Prim.Native.Nat.{ℕ, _+_, _-_}
 use mathlib.Core.Bool.{Bool, _&&_, _||_}
 use lib.Dec.{eqb, ltb}

@@ -127,7 +127,8 @@ cast-t24 c =
     let q = limited (reading p .before .before) in
     omega (
       arith,
-      review-count _ _ (start q .pre) (within q) _ _ (found (reading p)) _ (reviewed .review .ensures (reviewable p) .0),
+      review-count _ _ (start q .pre) (within q) _ _ (found (reading p)) _
+          (reviewed .review .ensures (reviewable p) .0),
     )
 
 same-length-5 : tie.Need-same-length-5

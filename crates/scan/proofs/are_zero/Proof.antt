@@ -1,4 +1,5 @@
--- `are_zero` tests every word: the bits of the words passed are in `all`, and what is to be tested is those and the words left.
+-- `are_zero` tests every word: the bits of the words passed are in `all`, and what is to be tested is those and the
+-- words left.
 use Prim.Native.Nat.{_-_, _≤_}
 use mathlib.Core.Path.{_≡_, refl, sym, _∙_}
 use mathlib.Core.Bool.{_&&_}

@@ -38,7 +38,8 @@ passed :
     T (isBetween (a .current) (at .loop .inv .0 .next) (getD (a .s .now) (at .loop .i) 0))
 passed c =
     let at = c .before .before .before in
-    expirations-passed (at .loop .inv .0) (at .before .before .expiration-word .result) (latest (at .before)) (c .if1 .left)
+    expirations-passed (at .loop .inv .0) (at .before .before .expiration-word .result) (latest (at .before))
+    (c .if1 .left)
 
 -- so it is an expiration word
 kind-five :
@@ -70,8 +71,10 @@ expiration-word-requires-2 c κs = search needs
 loop-holds : tie.Need-loop-holds Inv-loop μ-loop
 loop-holds c =
     let a = c .before .before .before .before .args in
-    let told = c .before .before .before .before .pre .1 in
-    (rw (c .expiration-word2 .ensures) (expirations-start (a .current) (a .s .now) (a .from .at) (told .within)), (told, refl))
+    let told = c .before .before .before .before .pre .1 in (
+      rw (c .expiration-word2 .ensures) (expirations-start (a .current) (a .s .now) (a .from .at) (told .within)),
+      (told, refl),
+    )
 
 mul-w : tie.Need-mul-w Inv-loop μ-loop
 mul-w c = search needs
@@ -86,8 +89,10 @@ returns : tie.Need-returns Inv-loop μ-loop
 returns c =
     let out = c .before .before in
     let at = out .before .before .before in
-    expirations-wrong (at .loop .inv .0) (out .before .before .loop-test .taken) (eqb-true _ _ (sym (c .before .is-of-kind .ensures) ∙ c .if2 .taken))
-    (expirations-failed (at .loop .inv .0) (at .before .before .expiration-word .result) (latest (at .before)) (out .if1 .taken))
+    expirations-wrong (at .loop .inv .0) (out .before .before .loop-test .taken)
+    (eqb-true _ _ (sym (c .before .is-of-kind .ensures) ∙ c .if2 .taken))
+    (expirations-failed (at .loop .inv .0) (at .before .before .expiration-word .result) (latest (at .before))
+    (out .if1 .taken))
 
 returns-2 : tie.Need-returns-2 Inv-loop μ-loop
 returns-2 c =

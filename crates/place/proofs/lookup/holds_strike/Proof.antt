@@ -17,7 +17,8 @@ used-requires c κs = search needs
 returns : tie.Need-returns
 returns c =
     let a = c .before .before .before .args in
-    not-used (a .at) (used (factsOf (a .run .now))) (isHolding strikeKind (a .h) (getD (a .run .now) (a .at) 0)) (omega arith)
+    not-used (a .at) (used (factsOf (a .run .now))) (isHolding strikeKind (a .h) (getD (a .run .now) (a .at) 0))
+    (omega arith)
 
 mul-holds : tie.Need-mul-holds
 mul-holds c = omega (arith, book-room _ (c .before .before .before .pre))
@@ -32,7 +33,8 @@ returns-2 : tie.Need-returns-2
 returns-2 c =
     let a = c .before .before .before .before .before .args in
     c .holds .ensures
-    ∙ is-used (a .at) (used (factsOf (a .run .now))) (isHolding strikeKind (a .h) (getD (a .run .now) (a .at) 0)) (omega arith)
+    ∙ is-used (a .at) (used (factsOf (a .run .now))) (isHolding strikeKind (a .h) (getD (a .run .now) (a .at) 0))
+    (omega arith)
 
 pub holds-strike-spec : {M : Type 1} → statement M
 holds-strike-spec =

@@ -1,4 +1,5 @@
--- `own_dollars` counts the own classes word by word: the count and what the words from the index on add are together those of the facts. Assumes nothing.
+-- `own_dollars` counts the own classes word by word: the count and what the words from the index on add are together
+-- those of the facts. Assumes nothing.
 use Prim.Native.Nat.{_-_}
 use native.Mathlib.Omega.{arith}
 use borrow.Author.Needs.{needs}

@@ -1,4 +1,5 @@
--- `expected` stays within the words: the key is less than `above`, so the quotient is less than their number. Assumes nothing.
+-- `expected` stays within the words: the key is less than `above`, so the quotient is less than their number. Assumes
+-- nothing.
 use Prim.Native.Nat.{_-_, _*_, _/_, _≤_, _<_}
 use native.Mathlib.Nat.{mul-le-mul-right, mul-lt-mul-of-pos-left, div-lt-iff-lt-mul}
 use native.Mathlib.Omega.{arith}
@@ -19,7 +20,8 @@ between c =
     true-T inside (not-false inside (c .if1 .left)) in
     (leb→le (a .below) (a .key) (search ands), ltb→lt (a .key) (a .above) (search ands))
 
-there-within : (c : tie.Else1) → let a = c .before .args in a .span * (a .key - a .below) / (a .above - a .below) < a .span
+there-within : (c : tie.Else1) → let a =
+    c .before .args in a .span * (a .key - a .below) / (a .above - a .below) < a .span
 there-within c =
     let a = c .before .args in
     let wide : 0 < a .above - a .below = omega (arith, between c) in

@@ -1,4 +1,5 @@
--- `first` finds the first word by blocks: what is left of the words has it, until the block at the index has it or fewer
+-- `first` finds the first word by blocks: what is left of the words has it, until the block at the index has it or
+-- fewer
 -- words than a block has are left. Assumes nothing.
 use Prim.Native.Nat.{ℕ, _+_, _-_, _≤_}
 use mathlib.Core.Path.{_≡_, ap, _∙_}

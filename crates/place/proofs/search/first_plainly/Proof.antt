@@ -1,4 +1,5 @@
--- `first_plainly` finds the first word: what is left of the words has it, until the word at the index is it or none is left. Assumes nothing.
+-- `first_plainly` finds the first word: what is left of the words has it, until the word at the index is it or none is
+-- left. Assumes nothing.
 use Prim.Native.Nat.{ℕ, _-_}
 use mathlib.Core.Path.{sym, ap, _∙_}
 use native.Mathlib.Omega.{arith}
@@ -33,7 +34,8 @@ returns : tie.Need-returns Inv-loop μ-loop
 returns c =
     let l = c .before .before .before in
     let most = l .before .before .before .args .most in (
-      seek-hit _ _ 0 _ (l .before .loop .inv) (l .loop-test .taken) (ap (λ (k : ℕ). leb k most) (sym (c .before .grade .ensures)) ∙ le-leb _ _ (c .if1 .taken)),
+      seek-hit _ _ 0 _ (l .before .loop .inv) (l .loop-test .taken)
+          (ap (λ (k : ℕ). leb k most) (sym (c .before .grade .ensures)) ∙ le-leb _ _ (c .if1 .taken)),
       omega arith,
     )
 

@@ -125,7 +125,8 @@ product-small c =
     let t = found-of (c .before) in
     let l = in-turn t .loop in
     let few = start (in-turn t) .pre .few in
-    mul-le-mul {n₁ = c .before .before .key-of2 .result} {m₁ = l .high - (next t + 1)} {n₂ = highestClass} {m₂ = longestRun}
+    mul-le-mul {n₁ = c .before .before .key-of2 .result} {m₁ = l .high - (next
+    t + 1)} {n₂ = highestClass} {m₂ = longestRun}
     (omega (arith, held-small c)) (omega (arith, few, l .inv .1))
 
 quotient-small :

@@ -1,4 +1,5 @@
--- `graded_of_16` says which words are of a grade up to `most`: the bits from bit 1 on are the digits of the words before i. Assumes nothing.
+-- `graded_of_16` says which words are of a grade up to `most`: the bits from bit 1 on are the digits of the words
+-- before i. Assumes nothing.
 use Prim.Native.Nat.{ℕ, _-_, _*_, _^_, _≤_, _<_}
 use mathlib.Core.Path.{_≡_, sym, ap, ap₂, _∙_}
 use mathlib.Core.Bool.{cond}
@@ -78,7 +79,9 @@ returns : tie.Need-returns Inv-loop μ-loop
 returns c =
     let s = c .before in
     let a = s .before .before .args in
-    s .loop .inv .1 ∙ ap (λ (l : List ℕ). 2 * binary (map (λ w. leb (gradeOf (a .kind) w) (a .most)) l)) (take-all (s .loop .i) (a .block .now) (omega arith))
+    s .loop .inv .1
+    ∙ ap (λ (l : List ℕ). 2 * binary (map (λ w. leb (gradeOf (a .kind) w) (a .most)) l))
+    (take-all (s .loop .i) (a .block .now) (omega arith))
 
 pub graded-of-16-spec : {M : Type 1} → statement M
 graded-of-16-spec =

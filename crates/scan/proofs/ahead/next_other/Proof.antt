@@ -20,7 +20,8 @@ abbrev μ-loop : tie.MeasureT-loop
 searched :
     (c : tie.At-loop Inv-loop μ-loop)
     → let a = c .before .before .before .before .args in
-    Searched (a .s .now) (suc (a .ahead .at) + nextLength (getD (a .s .now) (a .ahead .at) 0) (drop (suc (a .ahead .at)) (a .s .now)))
+    Searched (a .s .now) (suc (a .ahead .at) + nextLength (getD (a .s .now) (a .ahead .at) 0)
+    (drop (suc (a .ahead .at)) (a .s .now)))
     (c .loop .base) (c .loop .bits)
 searched c =
     let start = c .before .before .before .before in

@@ -14,7 +14,8 @@ use Rattle.scan.proofs.ahead.others_from.Tie as tie
 start-fits :
     (c : tie.Joined2)
     → let a = c .before .before .before .args in
-    (1 ≤ c .if2 .start) × ((c .if2 .start + 64 ≤ length (a .s .now)) × ((c .if2 .start ≤ a .base) × (a .base < c .if2 .start + 64)))
+    (1 ≤ c .if2 .start)
+    × ((c .if2 .start + 64 ≤ length (a .s .now)) × ((c .if2 .start ≤ a .base) × (a .base < c .if2 .start + 64)))
 start-fits c = ⊎-elim (λ w. omega (arith, w .1)) (λ w. omega (arith, w .1)) (c .if2 .came)
 
 others-of-rest-requires : tie.Need-others-of-rest-requires

@@ -1,4 +1,5 @@
--- `others_of_rest` tells the others: where there are more than 32 words, those of the first 32 are the low bits, those of the rest the high ones.
+-- `others_of_rest` tells the others: where there are more than 32 words, those of the first 32 are the low bits, those
+-- of the rest the high ones.
 use Prim.Native.Nat.{_+_, _-_}
 use mathlib.Core.Path.{_≡_, _∙_}
 use native.Mathlib.Omega.{arith}
