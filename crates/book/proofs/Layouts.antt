@@ -11,7 +11,7 @@ use lib.Dec.{T, eqb, leb, leb→le, le→leb, eqb→eq, eqb-refl, eqb·suc-suc, 
 use borrow.Author.Tests.{eqb-true}
 use Rattle.logic.specs.Lists.{sum, every}
 use Rattle.word.specs.Codec.{Word, Head, Invalid, isLegal, packed, reading}
-use Rattle.word.specs.Limits.{isLength, isMonth}
+use Rattle.word.specs.Limits.{isLength, isMonth, longestRun}
 use Rattle.logic.proofs.Tests.{and-intro, ands, parts, T-true}
 use Rattle.word.proofs.Words.{reading-packed}
 use Rattle.book.specs.Facts.{Series, OpenClass, Facts, fresh, expirations, wordsTaken, wordsOf}
@@ -173,9 +173,9 @@ unfolding isWellFormed
 head-legal n f good =
     let month : T (isMonth (f .now)) = search ands in
     let fits : wordsTaken f ≤ n = leb→le (wordsTaken f) n (search ands) in
-    let small : n ≤ 65535 = leb→le n 65535 (search ands) in
+    let small : n ≤ longestRun = leb→le n longestRun (search ands) in
     let low : T (leb 1 (used f)) = le→leb 1 (used f) (omega arith) in
-    let high : T (leb (used f) 65535) = le→leb (used f) 65535 (omega (arith, used-taken f)) in
+    let high : T (leb (used f) longestRun) = le→leb (used f) longestRun (omega (arith, used-taken f)) in
     T-true (isLegal (Head (f .now) (used f))) (search and-intro)
 
 pub factsOf-layout : (n : ℕ) (f : Facts) → T (isWellFormed n f) → factsOf (layout n f) ≡ f

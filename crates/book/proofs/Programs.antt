@@ -6,7 +6,7 @@ use mathlib.Core.List.{List, [], _∷_}
 use native.Mathlib.Omega.{arith}
 use lib.ListN.{length, set}
 use lib.Dec.{T}
-use Rattle.word.specs.Limits.{isDesignation}
+use Rattle.word.specs.Limits.{isDesignation, longestRun}
 use Rattle.word.specs.Programs.{Program, programCount, program, areDesignations}
 use Rattle.logic.proofs.Tests.{and-left, and-right, and-intro}
 
@@ -17,7 +17,7 @@ program-number (suc zero) low high = refl
 program-number (suc (suc zero)) low high = refl
 program-number (suc (suc (suc p))) low high = absurd (omega (arith, high))
 
-pub cap-small : (p : ℕ) → 1 ≤ p → p ≤ programCount → program p .cap < 65535
+pub cap-small : (p : ℕ) → 1 ≤ p → p ≤ programCount → program p .cap < longestRun
 cap-small zero low high = absurd (omega (arith, low))
 cap-small (suc zero) low high = omega arith
 cap-small (suc (suc zero)) low high = omega arith

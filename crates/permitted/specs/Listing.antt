@@ -7,7 +7,7 @@ use mathlib.Core.List.{List, _++_, map}
 use lib.Dec.{leb, ltb}
 use lib.ListN.{getD, length, drop}
 use lib.Seq.{sets}
-use Rattle.word.specs.Limits.{highestStrike}
+use Rattle.word.specs.Limits.{highestStrike, lastMonth, highestPrice}
 use Rattle.word.specs.declared.answer.Answer.{Answer}
 use Rattle.word.specs.declared.answer.Answer.the-variants.{Listed, Refused}
 use Rattle.word.specs.declared.answer.Refusal.the-variants.{OutOfWords}
@@ -47,8 +47,8 @@ permittedBeside s ws = permitted s (map standingOf ws)
 
 -- the close and `now` of a book, and the strikes of an expiration: they rise
 pub record Listable (s : Setting) (ws : List ℕ) : Type 0 where
-  pub close : s .class .close ≤ 999999
-  pub current : s .current ≤ 1023
+  pub close : s .class .close ≤ highestPrice
+  pub current : s .current ≤ lastMonth
   pub rising : Rising (map strikeIn ws)
 
 -- the strikes before the index `from` stand too far below h to bear on it

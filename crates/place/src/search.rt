@@ -5,6 +5,7 @@ ghost use Prim.Native.Nat.{_*_, _<_, _≤_};
 ghost use mathlib.Core.List.{map};
 ghost use lib.Dec.{leb};
 ghost use lib.ListN.{length};
+ghost use Rattle.word.specs.Limits.{longestRun};
 ghost use Rattle.word.specs.Digits.{binary};
 ghost use Rattle.word.specs.Kinds.{gradeOf, kindField};
 ghost use Rattle.place.specs.Search.{firstAt, foundNear, Gradable, Guessable, isFrom, isHolding, isUpTo};
@@ -121,7 +122,7 @@ pub fn found_near(words: &[u32], near: usize, kind: Kind, key: u32) -> usize
 // before, since the search goes up from there; in the middle where they say nothing of it. Any of the words would do: a
 // guess only shortens the search.
 fn expected(span: usize, key: u32, below: u32, above: u32) -> usize
-    requires { ⌜ (0 < span) × (span ≤ 65535) ⌝ }
+    requires { ⌜ (0 < span) × (span ≤ longestRun) ⌝ }
     ensures { λ r. ⌜ r < span ⌝ }
 {
     if !((below <= key) & (key < above)) {

@@ -5,7 +5,7 @@ use mathlib.Core.Bool.{Bool, false, cond, not, _&&_}
 use mathlib.Core.List.{List, [], _∷_, map}
 use lib.Dec.{eqb}
 use lib.ListN.{getD, length}
-use Rattle.word.specs.Limits.{highestStrike}
+use Rattle.word.specs.Limits.{highestStrike, lastMonth, highestPrice}
 use Rattle.word.specs.Answers.{isAccepted}
 use Rattle.word.specs.declared.answer.Refusal.{Refusal}
 use Rattle.word.specs.declared.answer.Refusal.the-variants.{OffGrid, OutOfRange, TooClose}
@@ -71,6 +71,6 @@ permitted s standing = only (isPermittedBeside s standing) (upFrom highestStrike
 
 -- what can be judged: the close and `now` of a book, and a strike
 pub record Judged (s : Setting) (h : ℕ) : Type 0 where
-  pub close : s .class .close ≤ 999999
-  pub current : s .current ≤ 1023
+  pub close : s .class .close ≤ highestPrice
+  pub current : s .current ≤ lastMonth
   pub strike : h ≤ highestStrike

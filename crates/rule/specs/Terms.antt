@@ -3,6 +3,7 @@
 use Prim.Native.Nat.{ℕ, _+_, _*_, _/_}
 use mathlib.Core.Bool.{Bool, not, _||_}
 use lib.Dec.{leb, ltb, eqb}
+use Rattle.word.specs.Limits.{monthsAhead}
 use Rattle.word.specs.Class.{designation}
 use Rattle.word.specs.declared.class.ClassRecord.{ClassRecord}
 use Rattle.rule.specs.declared.terms.Setting.{Setting}
@@ -44,8 +45,5 @@ abbrev pub price : Setting → ℕ
 price s = s .class .close
 
 -- "5 .. m at or below `now` or above `now` + 39"
-abbrev pub farthestAhead : ℕ
-farthestAhead = 39
-
 abbrev pub isOutside : Setting → Bool
-isOutside s = leb (s .month) (s .current) || ltb (s .current + farthestAhead) (s .month)
+isOutside s = leb (s .month) (s .current) || ltb (s .current + monthsAhead) (s .month)

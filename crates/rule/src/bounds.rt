@@ -2,6 +2,7 @@
 // goes by the height.
 ghost use mathlib.Core.Path.{_≡_};
 ghost use Prim.Native.Nat.{_^_, _<_, _≤_, min, max};
+ghost use Rattle.word.specs.Limits.{lastMonth, highestPrice};
 ghost use Rattle.rule.specs.Ends.{fifthAbove, isProgramClass, halfEnd, lowEnd, highEnd, dollarEnd, ladderEnd};
 ghost use Rattle.rule.specs.Ends.{rungs, mostOpen};
 use crate::amounts::FIVE_DOLLARS;
@@ -77,7 +78,7 @@ fn is_program_class(class: ClassRecord) -> bool
 
 // The last strike that Half gives, 0 where it gives none.
 pub fn half_end(s: Setting) -> u32
-    requires { ⌜ s .current ≤ 1023 ⌝ }
+    requires { ⌜ s .current ≤ lastMonth ⌝ }
     ensures { λ r. ⌜ r ≡ halfEnd s ⌝ }
 {
     let class = s.class;
@@ -90,7 +91,7 @@ pub fn half_end(s: Setting) -> u32
 
 // The lowest strike in range on the other grounds; a price of at most $20 sets none.
 pub fn low_end(p: u32) -> u32
-    requires { ⌜ p ≤ 999999 ⌝ }
+    requires { ⌜ p ≤ highestPrice ⌝ }
     ensures { λ r. ⌜ r ≡ lowEnd p ⌝ }
 {
     if LOW_PRICE < p { (p + 99) / 100 } else { 0 }
@@ -98,7 +99,7 @@ pub fn low_end(p: u32) -> u32
 
 // The highest.
 pub fn high_end(s: Setting) -> u32
-    requires { ⌜ (s .class .close ≤ 999999) × (s .current ≤ 1023) ⌝ }
+    requires { ⌜ (s .class .close ≤ highestPrice) × (s .current ≤ lastMonth) ⌝ }
     ensures { λ r. ⌜ r ≡ highEnd s ⌝ }
 {
     let p = s.class.close;
@@ -150,7 +151,7 @@ pub type Rungs = [Rung; RUNGS];
 
 // What the open strikes are multiples of, rung by rung.
 pub fn rungs_of(s: Setting) -> Rungs
-    requires { ⌜ s .current ≤ 1023 ⌝ }
+    requires { ⌜ s .current ≤ lastMonth ⌝ }
     ensures { λ r. ⌜ r ≡ rungs s ⌝ }
 {
     [
@@ -184,7 +185,7 @@ pub fn rungs_of(s: Setting) -> Rungs
 
 // At most so many strikes are open: all that Half gives, and half of those above, rounded up on each rung.
 pub fn most_open(s: Setting) -> u32
-    requires { ⌜ (s .class .close ≤ 999999) × (s .current ≤ 1023) ⌝ }
+    requires { ⌜ (s .class .close ≤ highestPrice) × (s .current ≤ lastMonth) ⌝ }
     ensures { λ r. ⌜ r ≡ mostOpen s ⌝ }
 {
     (half_end(s) + high_end(s) + RUNGS as u32) / 2

@@ -1,7 +1,7 @@
 // The grids of the four grounds, over strikes in cents.
 ghost use mathlib.Core.Path.{_≡_};
 ghost use Prim.Native.Nat.{_≤_};
-ghost use Rattle.word.specs.Limits.{highestStrike};
+ghost use Rattle.word.specs.Limits.{highestStrike, lastMonth};
 ghost use Rattle.rule.specs.Terms.{cents};
 ghost use Rattle.rule.specs.Grids.{ladder, standardGrid, dollarGrid, halfDollars, halfGrid, wingAt, wingGrid};
 use crate::amounts::FIFTY_DOLLARS;
@@ -40,7 +40,7 @@ pub fn on_standard(class: ClassRecord, k: u32) -> bool
 }
 
 pub fn on_dollar(s: Setting, k: u32) -> bool
-    requires { ⌜ s .current ≤ 1023 ⌝ }
+    requires { ⌜ s .current ≤ lastMonth ⌝ }
     ensures { λ r. ⌜ r ≡ dollarGrid s k ⌝ }
 {
     let class = s.class;
@@ -57,7 +57,7 @@ fn on_half_dollars(k: u32) -> bool
 }
 
 pub fn on_half(s: Setting, k: u32) -> bool
-    requires { ⌜ s .current ≤ 1023 ⌝ }
+    requires { ⌜ s .current ≤ lastMonth ⌝ }
     ensures { λ r. ⌜ r ≡ halfGrid s k ⌝ }
 {
     let class = s.class;
@@ -79,7 +79,7 @@ fn is_wing_at(p: u32, l: u32, k: u32) -> bool
 }
 
 pub fn on_wing(s: Setting, k: u32) -> bool
-    requires { ⌜ (s .current ≤ 1023) × (k ≤ cents highestStrike) ⌝ }
+    requires { ⌜ (s .current ≤ lastMonth) × (k ≤ cents highestStrike) ⌝ }
     ensures { λ r. ⌜ r ≡ wingGrid s k ⌝ }
 {
     let class = s.class;

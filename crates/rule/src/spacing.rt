@@ -1,6 +1,7 @@
 // The distance that a new strike keeps from those of its expiration.
 ghost use mathlib.Core.Path.{_≡_};
-ghost use Prim.Native.Nat.{_<_};
+ghost use Prim.Native.Nat.{_^_, _<_};
+ghost use Rattle.word.specs.Kinds.{strikeKind};
 ghost use Rattle.rule.specs.Spacing.{apart, crowds, clears, standingOf};
 ghost use Rattle.rule.specs.Judgement.{Judged};
 use crate::amounts::FIVE_DOLLARS;
@@ -26,7 +27,7 @@ pub fn distance(a: u32, b: u32) -> u32
 
 // Whether a Dollar strike is too near to a Standard strike at an odd multiple of $2.50.
 fn is_crowded(dollar: Strike, standard: Strike) -> bool
-    requires { ⌜ (dollar .0 < 32768) × (standard .0 < 32768) ⌝ }
+    requires { ⌜ (dollar .0 < 2 ^ strikeKind .width) × (standard .0 < 2 ^ strikeKind .width) ⌝ }
     ensures { λ r. ⌜ r ≡ crowds (dollar .0) (standard .0) ⌝ }
 {
     let d = dollar.cents();

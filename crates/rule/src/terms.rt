@@ -1,15 +1,15 @@
 // What the rules read of a class and an expiration.
 ghost use mathlib.Core.Path.{_≡_};
 ghost use Prim.Native.Nat.{_≤_};
+ghost use Rattle.word.specs.Limits.{lastMonth};
 ghost use Rattle.rule.specs.Terms.{isDesignated, isDollarClass, isHalfClass, isLong, isOutside};
 use word::class::ClassRecord;
+use word::limits::MONTHS_AHEAD;
 use word::programs::DOLLAR;
 use word::programs::HALF;
 
-// An expiration is long so many months ahead of the current one, and strikes can be listed up to so many ahead.
+// An expiration is long so many months ahead of the current one.
 const LONG_FROM: u32 = 9;
-
-const FARTHEST_AHEAD: u32 = 39;
 
 // A class and an expiration of it, seen from the current month, document 01's `now`.
 pub struct Setting {
@@ -39,7 +39,7 @@ pub fn is_half_class(class: ClassRecord) -> bool
 }
 
 pub fn is_long(s: Setting) -> bool
-    requires { ⌜ s .current ≤ 1023 ⌝ }
+    requires { ⌜ s .current ≤ lastMonth ⌝ }
     ensures { λ r. ⌜ r ≡ isLong s ⌝ }
 {
     s.current + LONG_FROM <= s.month
@@ -47,8 +47,8 @@ pub fn is_long(s: Setting) -> bool
 
 // Whether nothing can be listed in the expiration's month.
 pub fn is_outside(s: Setting) -> bool
-    requires { ⌜ s .current ≤ 1023 ⌝ }
+    requires { ⌜ s .current ≤ lastMonth ⌝ }
     ensures { λ r. ⌜ r ≡ isOutside s ⌝ }
 {
-    (s.month <= s.current) | (s.current + FARTHEST_AHEAD < s.month)
+    (s.month <= s.current) | (s.current + MONTHS_AHEAD < s.month)
 }

@@ -1,4 +1,4 @@
--- Inner: what is told ahead of a word: which of the next 64 words are others, words that are no next strikes. Assumes
+-- Inner: what is told ahead of a word: which of the next words are others, words that are no next strikes. Assumes
 -- nothing.
 use Prim.Native.Nat.{ℕ, _+_, _-_, _*_, _^_, _<_, _≤_}
 use mathlib.Core.Path.{_≡_}
@@ -6,6 +6,7 @@ use mathlib.Core.Bool.{Bool, not}
 use mathlib.Core.List.{List, [], _∷_}
 use lib.ListN.{length, drop, getD, take}
 use Rattle.word.specs.Digits.{binary}
+use Rattle.word.specs.Kinds.{kindOf, expirationKind}
 use Rattle.word.specs.Strikes.{isNextStrike}
 use Rattle.scan.specs.declared.ahead.Ahead.{Ahead}
 
@@ -18,13 +19,39 @@ others before (w ∷ ws) = not (isNextStrike before w) ∷ others w ws
 abbrev pub otherBits : ℕ → List ℕ → ℕ
 otherBits before ws = binary (others before ws)
 
--- the bits are those of the words from `at` on, as far as 64 words from `base` on reach
+-- how many words are told of at a time: a bit for each in a number of 64 bits
+abbrev pub blockLength : ℕ
+blockLength = 64
+
+-- how many of them at once
+abbrev pub halfBlock : ℕ
+halfBlock = 32
+
+-- from `base` on there are words, and no more than a block in all
+pub record Fewer (ws : List ℕ) (base : ℕ) : Type 0 where
+  pub after : 1 ≤ base
+  pub inside : base < length ws
+  pub few : length ws ≤ blockLength
+
+-- the bits are those of the words from `at` on, as far as the block from `base` on reaches
 pub record Tells (ws : List ℕ) (ahead : Ahead) : Type 0 where
   pub first : 1 ≤ ahead .base
   pub onward : ahead .base ≤ ahead .at
   pub within : ahead .at ≤ length ws
-  pub reached : ahead .at < length ws → ahead .at < ahead .base + 64
+  pub reached : ahead .at < length ws → ahead .at < ahead .base + blockLength
   pub told :
       ahead .bits
       ≡ 2 ^ (ahead .at - ahead .base)
-      * otherBits (getD ws (ahead .at - 1) 0) (take (ahead .base + 64 - ahead .at) (drop (ahead .at) ws))
+      * otherBits (getD ws (ahead .at - 1) 0) (take (ahead .base + blockLength - ahead .at) (drop (ahead .at) ws))
+
+-- the same, and `to` is a later index
+pub record Passable (ws : List ℕ) (ahead : Ahead) (to : ℕ) : Type 0 where
+  pub tells : Tells ws ahead
+  pub later : ahead .at ≤ to
+  pub inside : to ≤ length ws
+
+-- the same, and an expiration word stands at `at`
+pub record AtExpiration (ws : List ℕ) (ahead : Ahead) : Type 0 where
+  pub tells : Tells ws ahead
+  pub inside : ahead .at < length ws
+  pub kind : kindOf (getD ws (ahead .at) 0) ≡ expirationKind .number

@@ -1,15 +1,20 @@
-// Which words are no next strikes, told 64 words at a time: so that a stretch of strikes is passed at once, however
-// long it is.
+// Which words are no next strikes, told a block of words at a time: so that a stretch of strikes is passed at once,
+// however long it is.
 ghost use mathlib.Core.Path.{_≡_};
 ghost use Prim.Native.Nat.{_+_, _-_, _<_, _≤_, suc};
 ghost use lib.ListN.{drop, getD, length, take};
 ghost use Rattle.word.specs.Kinds.{kindOf, expirationKind};
 ghost use Rattle.scan.specs.NextStrikes.{nextLength};
-ghost use Rattle.scan.specs.Ahead.{otherBits, Tells};
+ghost use Rattle.scan.specs.Ahead.{AtExpiration, Fewer, Passable, Tells, blockLength, halfBlock, otherBits};
 use word::strike::is_next_strike;
 
-// The others, words that are no next strikes, from `at` on: `bits` has one bit for each of the 64 words from `base` on,
-// lowest first, which is 1 for an other.
+// How many words are told of at a time, and how many of them at once.
+const BLOCK: usize = 64;
+
+const HALF: usize = 32;
+
+// The others, words that are no next strikes, from `at` on: `bits` has one bit for each word of the block from `base`
+// on, lowest first, which is 1 for an other.
 pub struct Ahead {
     pub base: usize,
     pub bits: u64,
@@ -18,7 +23,7 @@ pub struct Ahead {
 
 // The others among the words after the first, a bit for each.
 fn others_few(s: &[u32]) -> u32
-    requires { ⌜ (1 ≤ length (now s)) × (length (now s) ≤ 33) ⌝ }
+    requires { ⌜ (1 ≤ length (now s)) × (length (now s) ≤ halfBlock + 1) ⌝ }
     ensures { λ r. ⌜ r ≡ otherBits (getD (now (s .entry)) 0 0) (drop 1 (now (s .entry))) ⌝ }
 {
     let mut bits = 0;
@@ -37,12 +42,12 @@ fn others_few(s: &[u32]) -> u32
 
 // The same of 32 words: the constant lets it compile to tests of many words at a time.
 fn others_of_32(s: &[u32]) -> u32
-    requires { ⌜ length (now s) ≡ 33 ⌝ }
+    requires { ⌜ length (now s) ≡ halfBlock + 1 ⌝ }
     ensures { λ r. ⌜ r ≡ otherBits (getD (now (s .entry)) 0 0) (drop 1 (now (s .entry))) ⌝ }
 {
     let mut bits = 0;
     let mut i = 0;
-    while i < 32 {
+    while i < HALF {
         let bit = if is_next_strike(s[i], s[i + 1]) {
             0
         } else {
@@ -54,43 +59,43 @@ fn others_of_32(s: &[u32]) -> u32
     bits
 }
 
-// The others among the 64 words from `base` on.
+// The others among the words of the block from `base` on.
 fn others_of_64(s: &[u32], base: usize) -> u64
-    requires { ⌜ (1 ≤ base) × (base + 64 ≤ length (now s)) ⌝ }
-    ensures { λ r. ⌜ r ≡ otherBits (getD (now (s .entry)) (base - 1) 0) (take 64 (drop base (now (s .entry)))) ⌝ }
+    requires { ⌜ (1 ≤ base) × (base + blockLength ≤ length (now s)) ⌝ }
+    ensures { λ r. ⌜ r ≡ otherBits (getD (now (s .entry)) (base - 1) 0) (take blockLength (drop base (now (s .entry)))) ⌝ }
 {
     let before = base - 1;
-    let last = base + 31;
-    let middle = base + 32;
-    let end = base + 64;
-    others_of_32(&s[before..middle]) as u64 | (others_of_32(&s[last..end]) as u64) << 32
+    let last = before + HALF;
+    let middle = base + HALF;
+    let end = base + BLOCK;
+    others_of_32(&s[before..middle]) as u64 | (others_of_32(&s[last..end]) as u64) << HALF
 }
 
 // The others from `base` on among few words.
 fn others_of_rest(s: &[u32], base: usize) -> u64
-    requires { ⌜ (1 ≤ base) × ((base < length (now s)) × (length (now s) ≤ 64)) ⌝ }
+    requires { ⌜ Fewer (now s) base ⌝ }
     ensures { λ r. ⌜ r ≡ otherBits (getD (now (s .entry)) (base - 1) 0) (drop base (now (s .entry))) ⌝ }
 {
     let n = s.len();
     let before = base - 1;
-    if n - base < 32 {
+    if n - base < HALF {
         return others_few(&s[before..n]) as u64;
     }
-    let last = base + 31;
-    let middle = base + 32;
-    others_of_32(&s[before..middle]) as u64 | (others_few(&s[last..n]) as u64) << 32
+    let last = before + HALF;
+    let middle = base + HALF;
+    others_of_32(&s[before..middle]) as u64 | (others_few(&s[last..n]) as u64) << HALF
 }
 
-// The others among at most 64 words from `base` on. Where fewer are left, they are the last of 64.
+// The others among the words of the block from `base` on. Where fewer are left, they are the last of a block.
 fn others_from(s: &[u32], base: usize) -> u64
     requires { ⌜ (1 ≤ base) × (base < length (now s)) ⌝ }
-    ensures { λ r. ⌜ r ≡ otherBits (getD (now (s .entry)) (base - 1) 0) (take 64 (drop base (now (s .entry)))) ⌝ }
+    ensures { λ r. ⌜ r ≡ otherBits (getD (now (s .entry)) (base - 1) 0) (take blockLength (drop base (now (s .entry)))) ⌝ }
 {
     let n = s.len();
-    if n <= 64 {
+    if n <= BLOCK {
         return others_of_rest(s, base);
     }
-    let start = if n - base < 64 { n - 64 } else { base };
+    let start = if n - base < BLOCK { n - BLOCK } else { base };
     others_of_64(s, start) >> (base - start)
 }
 
@@ -115,11 +120,11 @@ pub fn look_ahead(s: &[u32], at: usize) -> Ahead
 
 // What is ahead of a later word.
 pub fn skip_to(s: &[u32], ahead: Ahead, at: usize) -> Ahead
-    requires { ⌜ Tells (now s) ahead × ((ahead .at ≤ at) × (at ≤ length (now s))) ⌝ }
+    requires { ⌜ Passable (now s) ahead at ⌝ }
     ensures { λ r. ⌜ Tells (now (s .entry)) r × (r .at ≡ at) ⌝ }
 {
     let base = ahead.base;
-    if base + 64 <= at {
+    if base + BLOCK <= at {
         return look_ahead(s, at);
     }
     let passed = at - base;
@@ -132,7 +137,7 @@ pub fn skip_to(s: &[u32], ahead: Ahead, at: usize) -> Ahead
 
 // What is ahead of the next other after the word `ahead.at`, which is one.
 pub fn next_other(s: &[u32], ahead: Ahead) -> Ahead
-    requires { ⌜ Tells (now s) ahead × ((ahead .at < length (now s)) × (kindOf (getD (now s) (ahead .at) 0) ≡ expirationKind .number)) ⌝ }
+    requires { ⌜ AtExpiration (now s) ahead ⌝ }
     ensures { λ r. ⌜ Tells (now (s .entry)) r
         × (r .at
         ≡ suc (ahead .at)
@@ -142,7 +147,7 @@ pub fn next_other(s: &[u32], ahead: Ahead) -> Ahead
     let mut base = ahead.base;
     let mut bits = ahead.bits & (ahead.bits - 1);
     while bits == 0 {
-        base += 64;
+        base += BLOCK;
         if n <= base {
             return Ahead {
                 base: n,

@@ -7,6 +7,7 @@ use mathlib.Core.List.{List, map}
 use native.Mathlib.Omega.{arith}
 use lib.Dec.{leb→le}
 use lib.ListN.{length, take, drop}
+use Rattle.word.specs.Limits.{highestPrice}
 use Rattle.word.specs.declared.class.ClassRecord.{ClassRecord}
 use Rattle.word.specs.declared.answer.Answer.{Answer}
 use Rattle.word.specs.declared.answer.Answer.the-variants.{Refused}
@@ -58,7 +59,7 @@ module _ {w : List ℕ} {at : ℕ} {r : StrikeSearch} {m h : ℕ} (x : Sought w 
   strike-most = let t = x .strike in leb→le h 19999 (search ands)
 
   module _ (figures : ClassRecord) (g : figures ≡ figuresAt at w) where
-    pub class-close : figures .close ≤ 999999
+    pub class-close : figures .close ≤ highestPrice
     class-close = close-most w (x .book) c (x .begins .is-open) at (x .begins .place) figures g
 
     -- the ways out

@@ -7,6 +7,7 @@ use mathlib.Core.List.{List}
 use lib.Dec.{T, leb→le}
 use lib.ListN.{length}
 use borrow.Author.Tests.{eq-eqb, ne-eqb}
+use Rattle.word.specs.Limits.{highestPrice}
 use Rattle.word.specs.declared.class.ClassRecord.{ClassRecord}
 use Rattle.rule.specs.declared.terms.Setting.{Setting}
 use Rattle.book.specs.Facts.{isOpen}
@@ -35,10 +36,10 @@ module _ (w : List ℕ) (book : T (isBook w)) (c : ℕ) (o : T (isOpen c (factsO
     close-is : figures .close ≡ seen .class .figures .close
     close-is i = figures-are i .close
 
-    pub close-most : figures .close ≤ 999999
+    pub close-most : figures .close ≤ highestPrice
     close-most =
         let good = class-good (length w) (factsOf w) c (book-good w book) o in
-        rw close-is (leb→le (class (factsOf w) c .figures .close) 999999 (search ands))
+        rw close-is (leb→le (class (factsOf w) c .figures .close) highestPrice (search ands))
 
     pub close-none : figures .close ≡ 0 → hasNoClose seen ≡ true
     close-none e = eq-eqb (seen .class .figures .close) 0 (sym close-is ∙ e)

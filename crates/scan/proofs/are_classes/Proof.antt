@@ -150,7 +150,11 @@ skip-to-requires : tie.Need-skip-to-requires Inv-loop μ-loop
 skip-to-requires c κs =
     let passed = figured (numbered (tallied (c .before))) in
     let at = turn passed in
-    (at .loop .inv .1 .0, (omega (arith, at .loop .inv .1 .1), omega (arith, passed .before .before .if1 .left)))
+    record {
+      tells = at .loop .inv .1 .0;
+      later = omega (arith, at .loop .inv .1 .1);
+      inside = omega (arith, passed .before .before .if1 .left);
+    }
 
 expirations-end-requires : tie.Need-expirations-end-requires Inv-loop μ-loop
 expirations-end-requires c κs =

@@ -25,12 +25,12 @@ searched :
     (c .loop .base) (c .loop .bits)
 searched c =
     let start = c .before .before .before .before in
-    c .loop .inv _ (searched-start (start .args .s .now) (start .pre .0) (start .pre .1 .0) (start .pre .1 .1))
+    c .loop .inv _ (searched-start (start .args .s .now) (start .pre .tells) (start .pre .inside) (start .pre .kind))
 
 sub-bits : tie.Need-sub-bits Inv-loop μ-loop
 sub-bits c =
     let start = c .before .before in
-    expiration-some (start .args .s .now) (start .pre .0) (start .pre .1 .0) (start .pre .1 .1)
+    expiration-some (start .args .s .now) (start .pre .tells) (start .pre .inside) (start .pre .kind)
 
 loop-holds : tie.Need-loop-holds Inv-loop μ-loop
 loop-holds c = λ end searched. searched

@@ -2,6 +2,7 @@
 use Prim.Native.Nat.{_+_, _-_}
 use mathlib.Core.Path.{_≡_, _∙_}
 use native.Mathlib.Omega.{arith}
+use Rattle.scan.specs.Ahead.{blockLength, halfBlock}
 use Rattle.scan.proofs.OtherBits.{bitsAt, bits-part, bits-joined}
 use borrow.Author.Needs.{needs}
 use Rattle.scan.proofs.ahead.others_of_64.Statement.{statement}
@@ -55,17 +56,24 @@ others-of-32-requires-2 c κs = search needs
 cast-result-2 : tie.Need-cast-result-2
 cast-result-2 c = search needs
 
+shl-result : tie.Need-shl-result
+shl-result c = search needs
+
+-- where the function begins, from where the second half is lent
+abbrev start : tie.After-others-of-32-arg2 → tie.Start
+start c = c .before .before .before .before
+
 returns : tie.Need-returns
 returns c =
-    let a = c .before .before .before .before .before .args in
+    let a = start (c .before) .args in
     let s = a .s .now in
-    let low : c .before .before .others-of-32 .result ≡ bitsAt s (a .base) 32 =
+    let low : c .before .before .others-of-32 .result ≡ bitsAt s (a .base) halfBlock =
     c .before .before .others-of-32 .ensures
-    ∙ bits-part s (a .base - 1) (a .base + 32) (a .base) 32 (omega arith) (omega arith) (omega arith) in
-    let high : c .others-of-322 .result ≡ bitsAt s (a .base + 32) 32 =
+    ∙ bits-part s (a .base - 1) (a .base + halfBlock) (a .base) halfBlock (omega arith) (omega arith) (omega arith) in
+    let high : c .others-of-322 .result ≡ bitsAt s (a .base + halfBlock) halfBlock =
     c .others-of-322 .ensures
-    ∙ bits-part s (a .base + 31) (a .base + 64) (a .base + 32) 32 (omega arith) (omega arith) (omega arith) in
-    rw (low, high) (bits-joined s (a .base) 32 (omega arith))
+    ∙ bits-part s (a .base - 1 + halfBlock) (a .base + blockLength) (a .base + halfBlock) halfBlock (omega arith) (omega arith) (omega arith) in
+    rw (low, high) (bits-joined s (a .base) halfBlock (omega arith))
 
 pub others-of-64-spec : {M : Type 1} → statement M
 others-of-64-spec =
@@ -87,4 +95,5 @@ others-of-64-spec =
     part-others-of-32-end-2
     others-of-32-requires-2
     cast-result-2
+    shl-result
     returns)

@@ -4,6 +4,7 @@ use Prim.Native.Nat.{_+_, _-_}
 use mathlib.Core.Path.{_≡_, _∙_}
 use native.Mathlib.Omega.{arith}
 use lib.ListN.{length}
+use Rattle.scan.specs.Ahead.{halfBlock}
 use Rattle.scan.proofs.OtherBits.{bitsAt, bits-part, bits-joined, bits-whole}
 use borrow.Author.Needs.{needs}
 use Rattle.scan.proofs.ahead.others_of_rest.Statement.{statement}
@@ -83,18 +84,26 @@ others-few-requires-2 c κs = search needs
 cast-result-3 : tie.Need-cast-result-3
 cast-result-3 c = search needs
 
+shl-result : tie.Need-shl-result
+shl-result c = search needs
+
+-- where the function begins, from where there are words for more than a half
+abbrev start : tie.Else1 → tie.Start
+start c = c .before .before
+
 returns-2 : tie.Need-returns-2
 returns-2 c =
-    let a = c .before .before .before .before .before .before .args in
+    let half = c .before .before in
+    let a = start (half .before .before) .args in
     let s = a .s .now in
-    let rest = length s - (a .base + 32) in
-    let low : c .before .before .others-of-32 .result ≡ bitsAt s (a .base) 32 =
-    c .before .before .others-of-32 .ensures
-    ∙ bits-part s (a .base - 1) (a .base + 32) (a .base) 32 (omega arith) (omega arith) (omega arith) in
-    let high : c .others-few2 .result ≡ bitsAt s (a .base + 32) rest =
+    let rest = length s - (a .base + halfBlock) in
+    let low : half .others-of-32 .result ≡ bitsAt s (a .base) halfBlock =
+    half .others-of-32 .ensures
+    ∙ bits-part s (a .base - 1) (a .base + halfBlock) (a .base) halfBlock (omega arith) (omega arith) (omega arith) in
+    let high : c .others-few2 .result ≡ bitsAt s (a .base + halfBlock) rest =
     c .others-few2 .ensures
-    ∙ bits-part s (a .base + 31) (length s) (a .base + 32) rest (omega arith) (omega arith) (omega arith) in
-    rw (low, high) (bits-joined s (a .base) rest (omega arith)) ∙ bits-whole s (a .base) (32 + rest) (omega arith)
+    ∙ bits-part s (a .base - 1 + halfBlock) (length s) (a .base + halfBlock) rest (omega arith) (omega arith) (omega arith) in
+    rw (low, high) (bits-joined s (a .base) rest (omega arith)) ∙ bits-whole s (a .base) (halfBlock + rest) (omega arith)
 
 pub others-of-rest-spec : {M : Type 1} → statement M
 others-of-rest-spec =
@@ -123,4 +132,5 @@ others-of-rest-spec =
     part-others-few-end-2
     others-few-requires-2
     cast-result-3
+    shl-result
     returns-2)

@@ -28,7 +28,7 @@ returns-2 : tie.Need-returns-2
 returns-2 c =
     let start = c .before .before .before in
     let a = start .args in
-    (tells-later (a .s .now) (a .at) (start .pre .0) (omega arith) (omega arith) (omega arith), refl)
+    (tells-later (a .s .now) (a .at) (start .pre .tells) (start .pre .later) (start .pre .inside) (omega arith), refl)
 
 pub skip-to-spec : {M : Type 1} → statement M
 skip-to-spec =
