@@ -26,7 +26,7 @@ use Rattle.book.proofs.Views.{viewAfter, call-elsewhere, call-here}
 use Rattle.book.proofs.Keep.{step-keeps, after-well-formed}
 use Rattle.book.proofs.Permission.{listing-exactly}
 use Rattle.logic.proofs.Parts.{only-absent, only-both, only-either-way, some-both}
-use Rattle.book.proofs.Expirations.{stander}
+use Rattle.book.proofs.SeriesParts.{stander}
 
 -- ---- the series at one month and strike
 

@@ -21,7 +21,7 @@ use Rattle.book.proofs.Forms.{areSeries, well}
 use Rattle.book.proofs.ClassLaws.{isNumbered, class-order, number-of}
 use Rattle.book.proofs.Layouts.{seriesWords-append}
 use Rattle.logic.proofs.Parts.{every-kept, isUnder, isEqual, isOver, distinct-parts, single}
-use Rattle.book.proofs.Expirations.{monthOf, series-words}
+use Rattle.book.proofs.SeriesParts.{monthOf, series-words}
 
 -- ---- classes
 

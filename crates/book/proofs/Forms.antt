@@ -14,7 +14,7 @@ use Rattle.book.specs.Facts.{Series, Facts, isBelow, precedes, owned, wo
 use Rattle.book.specs.Books.{isSeries, isClass, isCapKept, isWellFormed}
 use Rattle.logic.proofs.Tests.{and-intro, ands}
 use Rattle.logic.proofs.Lists.{every-at, every-places}
-use Rattle.book.proofs.Programs.{program-number}
+use Rattle.book.proofs.ProgramTable.{program-number}
 
 -- the series of a class
 abbrev pub areSeries : ℕ → List Series → Bool

@@ -36,7 +36,7 @@ use Rattle.book.specs.Permission.{factsWithStrike}
 use Rattle.logic.proofs.Tests.{and-intro, ands, true-T, nor-left, nor-right, not-not}
 use Rattle.logic.proofs.Lists.{every-imply, every-map, length-only, sum-map, same-keys, every-inserted, rises-inserted, sum-inserted}
 use Rattle.logic.proofs.Parts.{only-all, map-same}
-use Rattle.book.proofs.Programs.{designations-length, designations-set}
+use Rattle.book.proofs.ProgramTable.{designations-length, designations-set}
 use Rattle.book.proofs.Forms.{areSeries, Well, well, well-formed}
 use Rattle.book.proofs.Layouts.{fresh-well-formed}
 use Rattle.book.proofs.SeriesLaws.{expirations-only, series-only, markedAt, series-marked, expirations-marked, series-inserted}

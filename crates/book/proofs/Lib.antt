@@ -1,5 +1,5 @@
 -- The laws that other crates cite.
-pub mod Programs
+pub mod ProgramTable
 pub mod Forms
 pub mod LegalWords
 pub mod SeriesLaws
@@ -15,7 +15,7 @@ pub mod Examples
 pub mod Answered
 pub mod Permission
 pub mod Added
-pub mod Expirations
+pub mod SeriesParts
 pub mod ClassWords
 pub mod Splices
 pub mod Runs

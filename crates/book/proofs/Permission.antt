@@ -12,7 +12,7 @@ use Rattle.word.specs.declared.answer.Answer.{Answer}
 use Rattle.word.specs.declared.answer.Answer.the-variants.{Ground, Listed, Refused}
 use Rattle.word.specs.declared.answer.Refusal.the-variants.{BeyondLimits, NotOpen, MonthOutside, NoClose, OutOfWords}
 use Rattle.word.specs.Answers.{answerNumber, answerValue, isAccepted}
-use Rattle.word.specs.Limits.{isClassNumber, isMonth}
+use Rattle.word.specs.Limits.{isClassNumber, isMonth, highestStrike}
 use Rattle.logic.proofs.Tests.{ands, parts, T-true, at-most}
 use Rattle.logic.proofs.Numbers.{only-rises, only-exactly}
 use Rattle.logic.specs.Lists.{some, Rising}
@@ -200,7 +200,7 @@ module _ {w w′ : List ℕ} {r : Answer} (book : T (isBook w)) where
 -- the permitted list rises, so that it holds no strike twice
 pub permitted-rises : (m : ℕ) (v : View) → Rising (permittedIn m v)
 unfolding permittedIn
-permitted-rises m v = only-rises (λ h. noneApplies (judging m h v)) 19999 1
+permitted-rises m v = only-rises (λ h. noneApplies (judging m h v)) highestStrike 1
 
 -- it holds a strike exactly when `J` would accept it
 pub permitted-exactly :
@@ -210,7 +210,7 @@ unfolding permittedIn effectOn
 permitted-exactly c m h f limits =
     let class : isClassNumber c ≡ true = search parts in
     let month : isMonth m ≡ true = search parts in
-    only-exactly (λ i. noneApplies (judging m i (viewOf c f))) 19999 1 h
-    ∙ ap (λ (t : Bool). leb 1 h && t && noneApplies (judging m h (viewOf c f))) (leb·suc-suc h 19999)
+    only-exactly (λ i. noneApplies (judging m i (viewOf c f))) highestStrike 1 h
+    ∙ ap (λ (t : Bool). leb 1 h && t && noneApplies (judging m h (viewOf c f))) (leb·suc-suc h highestStrike)
     ∙ (rw (class, month))
     ∙ judged-exactly 0 c m h f

@@ -6,6 +6,7 @@ use mathlib.Core.List.{List, [], _∷_}
 use Prim.Native.Nat.{ℕ, _+_, _-_, _≤_, _<_}
 use native.Mathlib.Omega.{arith}
 use lib.Dec.{eqb}
+use Rattle.word.specs.Limits.{highestStrike}
 use Rattle.word.specs.declared.answer.Answer.{Answer}
 use Rattle.word.specs.declared.answer.Answer.the-variants.{Ground, Refused}
 use Rattle.word.specs.Answers.{answerValue, isAccepted}
@@ -132,7 +133,7 @@ module _ (m : ℕ) (v : View) where
       go false false false true = refl
       go false false false false = refl
 
-  beyond : (h : ℕ) → highEnd (setting v m) < h → h ≤ 19999 → noneApplies (judging m h v) ≡ false
+  beyond : (h : ℕ) → highEnd (setting v m) < h → h ≤ highestStrike → noneApplies (judging m h v) ≡ false
   beyond h l most =
       judged-none h
       ∙ go (isNotOpen v) (isOutside (setting v m)) (isStanding v m h) (hasNoClose v)
@@ -146,14 +147,14 @@ module _ (m : ℕ) (v : View) where
 
   -- the permitted strikes are found among those up to the bound of the rules
   pub permitted-short :
-      (b : ℕ) → highEnd (setting v m) ≤ b → b ≤ 19999
+      (b : ℕ) → highEnd (setting v m) ≤ b → b ≤ highestStrike
       → permittedIn m v ≡ only (λ h. noneApplies (judging m h v)) (upFrom b 1)
   unfolding permittedIn
   permitted-short b l k =
       let test : ℕ → Bool = λ h. noneApplies (judging m h v) in
-      let e : 19999 ≡ b + (19999 - b) = omega arith in
+      let e : highestStrike ≡ b + (highestStrike - b) = omega arith in
       ap (λ (n : ℕ). only test (upFrom n 1)) e
-      ∙ only-short test b (19999 - b) 1 (λ x j i. beyond x (omega arith) (omega arith))
+      ∙ only-short test b (highestStrike - b) 1 (λ x j i. beyond x (omega arith) (omega arith))
 
   standing-is : (h : ℕ) → isStanding v m h ≡ some (λ t. eqb (t .strike) h) (standingIn v m)
   standing-is h =
@@ -169,7 +170,7 @@ module _ (m : ℕ) (v : View) where
       isNotOpen v ≡ false → isOutside (setting v m) ≡ false → hasNoClose v ≡ false
       → permittedIn m v ≡ permitted (setting v m) (standingIn v m)
   unfolding permittedIn permitted
-  permitted-beside opened inside priced = λ i. only (λ h. tested h i) (upFrom 19999 1)
+  permitted-beside opened inside priced = λ i. only (λ h. tested h i) (upFrom highestStrike 1)
     where
       go :
           (stands : Bool) (a : Answer)

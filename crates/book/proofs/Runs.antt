@@ -8,10 +8,9 @@ use native.Mathlib.Omega.{arith}
 use lib.ListN.{length, take, drop, getD, replicate, length-append, length-map}
 use lib.Seq.{take-at, drop-at, getD-append-add}
 use lib.Dec.{T, eqb, ltb}
-use borrow.Author.Tests.{ltb-true, ltb-false, eqb-true, eqb-false, lt-ltb, le-ltb, eq-eqb, ne-eqb}
+use borrow.Author.Tests.{ltb-true, ltb-false, lt-ltb, le-ltb}
 use Rattle.word.specs.Codec.{Word, Head, packed}
 use Rattle.word.specs.Strikes.{marks, isMarkedIn}
-use Rattle.word.proofs.Fields.{field-packed}
 use Rattle.word.proofs.Words.{strike-fields}
 use Rattle.logic.specs.Lists.{every, some, only}
 use Rattle.rule.specs.Spacing.{standingOf}
@@ -28,7 +27,7 @@ use Rattle.logic.proofs.Lists.{every-only, length-only}
 use Rattle.book.proofs.Forms.{areSeries, well}
 use Rattle.book.proofs.Layouts.{used-taken}
 use Rattle.logic.proofs.Parts.{only-both, some-both, isUnder, isEqual, isOver}
-use Rattle.book.proofs.Expirations.{monthOf, strikeOf, low, high, strike-parts, Stander, stander}
+use Rattle.book.proofs.SeriesParts.{monthOf, strikeOf, low, high, strike-parts, Stander, stander}
 use Rattle.logic.proofs.Splits.{some-length}
 use Rattle.book.proofs.ClassWords.{series-good, book-words}
 

@@ -1,6 +1,6 @@
 -- What each edit of facts makes of their words: new ones in place of old ones, between words that stay; and how many
 -- words they then take. By the classes and the series on either side. Assumes nothing.
-use Prim.Native.Nat.{ℕ, suc, _+_, _-_, _≤_}
+use Prim.Native.Nat.{ℕ, _+_, _-_, _≤_}
 use mathlib.Core.Path.{_≡_, refl, sym, ap, _∙_, subst}
 use mathlib.Core.Bool.{Bool, true, false, cond, not}
 use mathlib.Core.List.{List, [], _∷_, _++_, map, append-assoc}
@@ -26,7 +26,7 @@ use Rattle.book.proofs.Layouts.{seriesWords-append, used-taken}
 use Rattle.book.proofs.SeriesLaws.{markedAt}
 use Rattle.book.proofs.ClassLaws.{number-of}
 use Rattle.logic.proofs.Parts.{only-absent, every-kept, some-only, only-both, some-after, inserted-between, isUnder, isEqual, isOver, distinct-parts}
-use Rattle.book.proofs.Expirations.{monthOf, strikeOf, low, placed, high, around, others, wordsBefore, wordsAfter, length-before, around-words, left-words, alone-words, strike-parts, Stander, stander, placed-words, inserted-around, removed-around, alone-says, marked-around}
+use Rattle.book.proofs.SeriesParts.{monthOf, strikeOf, low, placed, high, around, others, wordsBefore, wordsAfter, length-before, around-words, left-words, alone-words, strike-parts, Stander, stander, placed-words, inserted-around, removed-around, alone-says, marked-around}
 use Rattle.book.proofs.ClassWords.{classes-apart, numbers-rise, series-good, class-parts, class-put}
 
 -- the words of g are those of f, with `new` in place of `old` from the index `at` of the run on

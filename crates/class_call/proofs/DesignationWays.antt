@@ -25,7 +25,7 @@ use Rattle.book.specs.Calls.{on, callD, Condition, firstOr, claiming, effectOn,
 use Rattle.book.specs.Made.{Made}
 use Rattle.logic.proofs.Tests.{ands, and-intro, T-true}
 use Rattle.logic.proofs.Lists.{every-at}
-use Rattle.book.proofs.Programs.{designations-set}
+use Rattle.book.proofs.ProgramTable.{designations-set}
 use Rattle.book.proofs.Order.{granted-answer}
 use Rattle.book.proofs.Answered.{made-refused}
 use Rattle.edit.specs.Asked.{Storable}

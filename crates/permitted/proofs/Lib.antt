@@ -1,4 +1,4 @@
-pub mod Strikes
+pub mod StandingStrikes
 pub mod Trying
-pub mod Parts
+pub mod RungByRung
 pub mod Filled

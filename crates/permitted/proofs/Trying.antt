@@ -23,7 +23,7 @@ use Rattle.rule.proofs.Open.{permitted-open}
 use Rattle.permitted.specs.declared.Progress.{Progress}
 use Rattle.permitted.specs.declared.Range.{Range}
 use Rattle.permitted.specs.Listing.{strikeIn, strikeFrom, permittedBetween, above, Behind, Triable, Continuable, Continued}
-use Rattle.permitted.proofs.Strikes.{strike-found}
+use Rattle.permitted.proofs.StandingStrikes.{strike-found}
 
 pub closed-refused : (s : Setting) (ws : List ℕ) (h : ℕ) → (T (isOpenStrike s h) → ⊥) →
     isPermittedBeside s (map standingOf ws) h ≡ false

@@ -15,7 +15,7 @@ use Rattle.word.specs.Head.{firstPlace}
 use Rattle.word.specs.Kinds.{keyOf, classKind, expirationKind, strikeKind, kindField}
 use Rattle.word.specs.declared.class.ClassRecord.{ClassRecord}
 use Rattle.word.specs.Codec.{Word, Head, Class, Expiration, isLegal, packed}
-use Rattle.word.proofs.Words.{legal-fits, kindIn, kind-packed, class-fields}
+use Rattle.word.proofs.Words.{legal-fits, kindIn, kind-packed}
 use Rattle.logic.specs.Lists.{every, only}
 use Rattle.book.specs.Facts.{Series, OpenClass, Facts, number, isOpen, inMonth}
 use Rattle.word.specs.Figures.{figuresWords, figuresAt, figuresLength}
@@ -28,13 +28,13 @@ use Rattle.word.proofs.RawWords.{fits}
 use Rattle.logic.proofs.Lists.{every-imply, every-map, every-true}
 use Rattle.book.proofs.Layouts.{seriesWords-append, words-legal}
 use Rattle.logic.proofs.Parts.{only-absent, every-kept, some-both, isUnder, isEqual, isOver, distinct-parts}
-use Rattle.book.proofs.Expirations.{monthOf, strikeOf, series-words, low, placed, high, strike-parts}
+use Rattle.book.proofs.SeriesParts.{monthOf, strikeOf, series-words, low, placed, high, strike-parts}
 use Rattle.logic.proofs.Splits.{every-split}
 use Rattle.book.proofs.ClassWords.{class-good, series-good, class-words, numbers-rise}
 use Rattle.book.proofs.Runs.{bookWords, run-parts, run-part, run-word}
 use Rattle.place.specs.Search.{firstAt, isNoLower, isUpTo, isFrom, isHolding, Rises}
 use Rattle.place.proofs.Heads.{book-good, book-form, book-is, book-room, book-long}
-use Rattle.place.proofs.Words.{keyIn, first-from, isKeyed, key-said, from-packed, isEnding, up-to-packed}
+use Rattle.place.proofs.KeyedWords.{keyIn, first-from, isKeyed, key-said, from-packed, isEnding, up-to-packed}
 use Rattle.place.proofs.Laid.{begins, first-after, kinds-packed, stops-anywhere, ends-there, from-there, two-parts, sought, found, every-series, not-from, strikes-laid, class-kinds, no-class, classes-laid}
 use Rattle.place.proofs.Rising.{ordered-rises, ordered-packed, classes-ordered}
 

@@ -19,11 +19,11 @@ use Rattle.logic.proofs.Tests.{and-intro, ands, T-true}
 use Rattle.logic.proofs.Lists.{every-imply, every-map, every-true}
 use Rattle.logic.proofs.Parts.{every-kept, isUnder, isEqual, isOver, not-under}
 use Rattle.logic.proofs.Splits.{every-split, leads, some-leads}
-use Rattle.book.proofs.Expirations.{strikeOf}
+use Rattle.book.proofs.SeriesParts.{strikeOf}
 use Rattle.book.proofs.ClassWords.{classes-apart}
 use Rattle.place.specs.Search.{firstAt, isFrom}
 use Rattle.place.proofs.Firsts.{first-beyond}
-use Rattle.place.proofs.Words.{keyIn, kindNumbered, isKeyed, from-packed, isEnding}
+use Rattle.place.proofs.KeyedWords.{keyIn, kindNumbered, isKeyed, from-packed, isEnding}
 
 -- ---- packed words
 

@@ -1,10 +1,10 @@
 -- The laws that the functions' proofs and other crates cite.
 pub mod Firsts
-pub mod Near
+pub mod FoundNear
 pub mod Heads
-pub mod Words
+pub mod KeyedWords
 pub mod Laid
 pub mod Rising
 pub mod Found
-pub mod Answers
+pub mod LookedUp
 pub mod Owned

@@ -21,7 +21,7 @@ use Rattle.book.specs.Layout.{strikeWord, expirationUnless, seriesWords, classe
 use Rattle.book.specs.Books.{isBook}
 use Rattle.word.proofs.RawWords.{fits}
 use Rattle.logic.proofs.Tests.{ands}
-use Rattle.book.proofs.Programs.{cap-small}
+use Rattle.book.proofs.ProgramTable.{cap-small}
 use Rattle.book.proofs.Forms.{well}
 use Rattle.word.specs.Kinds.{isOfKind, classKind}
 use Rattle.place.proofs.Heads.{book-good, book-room}

@@ -18,7 +18,7 @@ use Rattle.book.specs.Layout.{strikeWord, expirationUnless, seriesWords, classe
 use Rattle.logic.proofs.Lists.{every-true, every-at, ordered}
 use Rattle.word.specs.Kinds.{isOfKind, keyOf, classKind}
 use Rattle.place.specs.Search.{firstAt, isFrom, Rises}
-use Rattle.place.proofs.Words.{keyIn, kindNumbered, key-said}
+use Rattle.place.proofs.KeyedWords.{keyIn, kindNumbered, key-said}
 use Rattle.place.proofs.Laid.{no-class, every-class}
 
 -- ---- words in their order

@@ -19,9 +19,9 @@ use Rattle.book.proofs.Forms.{areSeries}
 use Rattle.book.proofs.Layouts.{seriesWords-append, words-legal}
 use Rattle.logic.proofs.Parts.{every-kept, isUnder, isEqual, isOver, not-under}
 use Rattle.logic.proofs.Splits.{every-split}
-use Rattle.book.proofs.Expirations.{monthOf, month-parts, series-apart}
+use Rattle.book.proofs.SeriesParts.{monthOf, month-parts, series-apart}
 use Rattle.place.specs.Search.{firstAt, isUpTo}
-use Rattle.place.proofs.Words.{isEnding, up-to-packed}
+use Rattle.place.proofs.KeyedWords.{isEnding, up-to-packed}
 use Rattle.place.proofs.Laid.{first-after, every-series, not-from}
 
 -- ---- the search for the next class

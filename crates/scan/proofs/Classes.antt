@@ -19,7 +19,7 @@ use Rattle.book.specs.Facts.{OpenClass}
 use Rattle.book.specs.Books.{isClass}
 use Rattle.logic.proofs.Tests.{true-T, nors}
 use Rattle.scan.specs.Stretches.{mayFollow, SeriesThen, ClassesWhere, Classes, SeriesEnd}
-use Rattle.scan.proofs.Figures.{FiguresThen, figures, classes-length}
+use Rattle.scan.proofs.FiguresFirst.{FiguresThen, figures, classes-length}
 
 -- the classes after the head are what they are after those before i, of which `last` is the last number
 pub record Walked (now : ℕ) (ws : List ℕ) (i last dollars halves : ℕ) : Type 0 where

@@ -2,11 +2,11 @@
 pub mod ExpirationWords
 pub mod NextStrikes
 pub mod Series
-pub mod Expirations
-pub mod Figures
+pub mod ExpirationLoop
+pub mod FiguresFirst
 pub mod Classes
 pub mod Zeros
-pub mod Books
+pub mod BookParts
 pub mod FreshBooks
 pub mod OtherBits
 pub mod Others

@@ -3,7 +3,6 @@
 ghost use mathlib.Core.Path.{_≡_};
 ghost use Prim.Native.Nat.{_+_, _-_, _<_, _≤_, suc};
 ghost use lib.ListN.{drop, getD, length, take};
-ghost use Rattle.word.specs.Kinds.{kindOf, expirationKind};
 ghost use Rattle.scan.specs.NextStrikes.{nextLength};
 ghost use Rattle.scan.specs.Ahead.{AtExpiration, Fewer, Passable, Tells, blockLength, halfBlock, otherBits};
 use word::strike::is_next_strike;

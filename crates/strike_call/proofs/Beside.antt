@@ -25,7 +25,7 @@ use Rattle.logic.proofs.Lists.{every-at, every-map, every-true}
 use Rattle.logic.proofs.Parts.{isUnder, isOver}
 use Rattle.logic.proofs.Splits.{every-split}
 use Rattle.book.proofs.ClassWords.{book-words}
-use Rattle.book.proofs.Expirations.{monthOf}
+use Rattle.book.proofs.SeriesParts.{monthOf}
 use Rattle.book.proofs.Runs.{bookWords, run-word, strikes-within, strikes-part, strikes-good, expiration-strikes, expiration-length}
 use Rattle.place.proofs.Heads.{book-good, book-form, book-is, book-room, book-long}
 use Rattle.place.proofs.Laid.{kinds-packed}

@@ -7,7 +7,7 @@ use mathlib.Core.List.{List, map}
 use native.Mathlib.Omega.{arith}
 use lib.Dec.{leb→le}
 use lib.ListN.{length, take, drop}
-use Rattle.word.specs.Limits.{highestPrice}
+use Rattle.word.specs.Limits.{highestPrice, highestStrike}
 use Rattle.word.specs.declared.class.ClassRecord.{ClassRecord}
 use Rattle.word.specs.declared.answer.Answer.{Answer}
 use Rattle.word.specs.declared.answer.Answer.the-variants.{Refused}
@@ -23,7 +23,7 @@ use Rattle.logic.proofs.Tests.{ands}
 use Rattle.book.proofs.Permits.{judged-answer}
 use Rattle.book.proofs.Runs.{strike-within}
 use Rattle.place.specs.declared.lookup.StrikeSearch.{StrikeSearch}
-use Rattle.word.specs.Figures.{figuresAt}
+use Rattle.word.specs.Figures.{figuresAt, figuresLength}
 use Rattle.place.proofs.Heads.{book-good, book-room}
 use Rattle.place.proofs.Found.{begins-room}
 use Rattle.strike_call.specs.Judging.{Sought, judged}
@@ -48,15 +48,15 @@ module _ {w : List ℕ} {at : ℕ} {r : StrikeSearch} {m h : ℕ} (x : Sought w 
   opened = class-open w (x .book) c (x .begins .is-open)
 
   -- what follows of the run and the numbers
-  pub class-words : at + 2 < length w
+  pub class-words : at + figuresLength ≤ length w
   class-words = omega (arith, begins-room w (x .book) at (x .begins), book-room w (x .book))
 
   pub place-among : (1 ≤ r .at) × (r .at ≤ used (factsOf w))
   place-among =
       omega (arith, place-is, strike-within (length w) (factsOf w) c m (book-good w (x .book)) (x .begins .is-open) h)
 
-  pub strike-most : h ≤ 19999
-  strike-most = let t = x .strike in leb→le h 19999 (search ands)
+  pub strike-most : h ≤ highestStrike
+  strike-most = let t = x .strike in leb→le h highestStrike (search ands)
 
   module _ (figures : ClassRecord) (g : figures ≡ figuresAt at w) where
     pub class-close : figures .close ≤ highestPrice

@@ -4,5 +4,5 @@ pub mod StrikeWords
 pub mod Settings
 pub mod Standing
 pub mod Judgements
-pub mod Listing
+pub mod ListedStrikes
 pub mod Permitting

@@ -25,7 +25,7 @@ use Rattle.book.proofs.Layouts.{book-facts}
 use Rattle.logic.proofs.Lists.{every-at, every-mapped}
 use Rattle.logic.proofs.Parts.{only-absent, only-both, every-kept, isUnder, isEqual, isOver}
 use Rattle.book.proofs.ClassWords.{series-good}
-use Rattle.book.proofs.Expirations.{monthOf, strikeOf, low, placed, high, strike-parts, strikes-rise}
+use Rattle.book.proofs.SeriesParts.{monthOf, strikeOf, low, placed, high, strike-parts, strikes-rise}
 use Rattle.book.proofs.Runs.{strikes-standing}
 use Rattle.strike_call.proofs.Beside.{isStrikeAt, strike-there, strike-below}
 

@@ -6,7 +6,6 @@ use mathlib.Core.Bool.{Bool, _&&_}
 use mathlib.Core.List.{List}
 use native.Mathlib.Omega.{arith}
 use lib.Dec.{T, eqb, leb, ltb, leb→le, ltb→lt, lt→ltb, le→leb, eqb→eq}
-use lib.ListN.{getD}
 use lib.Pow.{shr-shr}
 use Rattle.word.specs.declared.class.ClassRecord.{ClassRecord}
 use Rattle.word.specs.declared.kind.Kind.{Kind}

@@ -9,7 +9,7 @@ use borrow.Author.Needs.{needs}
 use borrow.Author.Tests.{eq-eqb, ne-eqb}
 use Rattle.logic.proofs.Walks.{Cleared, cleared-none, cleared-next, cleared-not, cleared-all}
 use Rattle.permitted.specs.Listing.{strikeIn}
-use Rattle.permitted.proofs.Strikes.{absent-words}
+use Rattle.permitted.proofs.StandingStrikes.{absent-words}
 use Rattle.permitted.proofs.is_absent.Statement.{statement}
 use Rattle.permitted.proofs.is_absent.Tie as tie
 

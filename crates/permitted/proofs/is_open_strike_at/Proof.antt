@@ -4,7 +4,7 @@ use native.Mathlib.Omega.{arith}
 use mathlib.Core.Path.{_∙_, sym}
 use borrow.Author.Needs.{needs}
 use Rattle.rule.proofs.Near.{reach-most}
-use Rattle.permitted.proofs.Strikes.{open-permitted, standing-refused}
+use Rattle.permitted.proofs.StandingStrikes.{open-permitted, standing-refused}
 use Rattle.permitted.proofs.is_open_strike_at.Statement.{statement}
 use Rattle.permitted.proofs.is_open_strike_at.Tie as tie
 

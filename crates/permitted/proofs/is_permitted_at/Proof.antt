@@ -2,7 +2,7 @@
 -- rest. Assumes nothing.
 use mathlib.Core.Path.{_∙_, sym}
 use borrow.Author.Needs.{needs}
-use Rattle.permitted.proofs.Strikes.{ahead-found, near-permits}
+use Rattle.permitted.proofs.StandingStrikes.{ahead-found, near-permits}
 use Rattle.permitted.proofs.is_permitted_at.Statement.{statement}
 use Rattle.permitted.proofs.is_permitted_at.Tie as tie
 

@@ -5,7 +5,7 @@ use lib.ListN.{length}
 use lib.Seq.{length-sets}
 use borrow.Author.Needs.{needs}
 use Rattle.rule.specs.Ends.{lowEnd}
-use Rattle.permitted.proofs.Parts.{range-climbs, range-done}
+use Rattle.permitted.proofs.RungByRung.{range-climbs, range-done}
 use Rattle.permitted.proofs.write_permitted.Statement.{statement}
 use Rattle.permitted.proofs.write_permitted.Tie as tie
 

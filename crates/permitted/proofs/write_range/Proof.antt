@@ -6,7 +6,7 @@ use mathlib.Core.Logic.{⊎-elim}
 use lib.ListN.{length}
 use lib.Seq.{length-sets}
 use borrow.Author.Needs.{needs}
-use Rattle.permitted.proofs.Parts.{Going, going-start, going-passed, going-can, going-on, going-done}
+use Rattle.permitted.proofs.RungByRung.{Going, going-start, going-passed, going-can, going-on, going-done}
 use Rattle.permitted.proofs.write_range.Statement.{statement}
 use Rattle.permitted.proofs.write_range.Tie as tie
 

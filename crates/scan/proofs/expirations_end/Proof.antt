@@ -12,7 +12,7 @@ use Rattle.word.specs.Codec.{Expiration, packed}
 use Rattle.scan.specs.NextStrikes.{nextLength}
 use Rattle.scan.specs.Ahead.{Tells}
 use Rattle.scan.proofs.ExpirationWords.{isBetween, between-kind}
-use Rattle.scan.proofs.Expirations.{Expirations, expirations-start, expirations-done, expirations-stop, expirations-passed, expirations-failed, expirations-wrong, expirations-empty, expirations-outside, expirations-more}
+use Rattle.scan.proofs.ExpirationLoop.{Expirations, expirations-start, expirations-done, expirations-stop, expirations-passed, expirations-failed, expirations-wrong, expirations-empty, expirations-outside, expirations-more}
 use Rattle.scan.proofs.expirations_end.Statement.{statement}
 use Rattle.scan.proofs.expirations_end.Tie as tie
 

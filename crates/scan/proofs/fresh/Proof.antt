@@ -8,7 +8,7 @@ use lib.ListN.{length, length-replicate}
 use borrow.Author.Needs.{needs}
 use borrow.Author.Tests.{not-true, not-false}
 use Rattle.word.specs.Limits.{isLength}
-use Rattle.scan.proofs.Books.{some-words}
+use Rattle.scan.proofs.BookParts.{some-words}
 use Rattle.scan.proofs.FreshBooks.{begun-not, begun}
 use Rattle.scan.proofs.fresh.Statement.{statement}
 use Rattle.scan.proofs.fresh.Tie as tie

@@ -13,7 +13,7 @@ use Rattle.word.specs.Head.{firstPlace, monthIn, isHead}
 use Rattle.word.specs.Limits.{isLength}
 use Rattle.logic.proofs.Tests.{true-T}
 use Rattle.scan.specs.Stretches.{Classes}
-use Rattle.scan.proofs.Books.{front, used-front, some-words, head-within, wrong-length, wrong-head, wrong-classes, zeros-left}
+use Rattle.scan.proofs.BookParts.{front, used-front, some-words, head-within, wrong-length, wrong-head, wrong-classes, zeros-left}
 use Rattle.scan.proofs.is_book.Statement.{statement}
 use Rattle.scan.proofs.is_book.Tie as tie
 

@@ -12,7 +12,7 @@ use Rattle.book.proofs.Answered.{made-beyond, made-not-open}
 use Rattle.book.proofs.OpenPlaces.{place-none, place-begins}
 use Rattle.strike_call.specs.Judging.{Sought}
 use Rattle.strike_call.proofs.Standing.{passed}
-use Rattle.strike_call.proofs.Listing.{judge-done}
+use Rattle.strike_call.proofs.ListedStrikes.{judge-done}
 use Rattle.strike_call.proofs.judge_strike.Statement.{statement}
 use Rattle.strike_call.proofs.judge_strike.Tie as tie
 

@@ -19,7 +19,7 @@ use Rattle.place.proofs.Heads.{book-room, book-long}
 use Rattle.edit.specs.Asked.{Insertable}
 use Rattle.strike_call.specs.Judging.{Sought, judged}
 use Rattle.strike_call.proofs.Standing.{passed}
-use Rattle.strike_call.proofs.Listing.{Permits, permits, no-ground, list-refused, out-of-words, list-done}
+use Rattle.strike_call.proofs.ListedStrikes.{Permits, permits, no-ground, list-refused, out-of-words, list-done}
 use Rattle.strike_call.proofs.list_strike.Statement.{statement}
 use Rattle.strike_call.proofs.list_strike.Tie as tie
 

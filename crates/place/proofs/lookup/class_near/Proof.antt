@@ -13,7 +13,7 @@ use Rattle.word.specs.Limits.{isClassNumber}
 use Rattle.logic.proofs.Tests.{parts, T-true}
 use Rattle.word.proofs.RangeTests.{between-high}
 use Rattle.place.specs.Search.{isHolding}
-use Rattle.place.proofs.Near.{near-holds}
+use Rattle.place.proofs.FoundNear.{near-holds}
 use Rattle.place.proofs.Heads.{book-room}
 use Rattle.place.proofs.Found.{body-short, body-kinds, class-rises, class-sought}
 use Rattle.place.proofs.lookup.class_near.Statement.{statement}

@@ -7,7 +7,7 @@ use Rattle.word.specs.Kinds.{strikeKind}
 use Rattle.book.specs.Layout.{used, factsOf}
 use Rattle.place.specs.Search.{isHolding}
 use Rattle.place.proofs.Heads.{book-room}
-use Rattle.place.proofs.Answers.{not-used, is-used}
+use Rattle.place.proofs.LookedUp.{not-used, is-used}
 use Rattle.place.proofs.lookup.holds_strike.Statement.{statement}
 use Rattle.place.proofs.lookup.holds_strike.Tie as tie
 

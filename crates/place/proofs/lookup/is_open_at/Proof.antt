@@ -7,7 +7,7 @@ use lib.Dec.{eqb}
 use borrow.Author.Needs.{needs}
 use Rattle.place.proofs.Heads.{book-room}
 use Rattle.place.proofs.Found.{class-found}
-use Rattle.place.proofs.Answers.{not-used, is-used}
+use Rattle.place.proofs.LookedUp.{not-used, is-used}
 use Rattle.place.proofs.lookup.is_open_at.Statement.{statement}
 use Rattle.place.proofs.lookup.is_open_at.Tie as tie
 

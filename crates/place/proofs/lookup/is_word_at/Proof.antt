@@ -5,7 +5,7 @@ use lib.ListN.{getD}
 use borrow.Author.Needs.{needs}
 use Rattle.book.specs.Layout.{used, factsOf}
 use Rattle.place.proofs.Heads.{book-room}
-use Rattle.place.proofs.Answers.{not-used, is-used}
+use Rattle.place.proofs.LookedUp.{not-used, is-used}
 use Rattle.place.proofs.lookup.is_word_at.Statement.{statement}
 use Rattle.place.proofs.lookup.is_word_at.Tie as tie
 

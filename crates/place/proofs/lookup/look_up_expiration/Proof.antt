@@ -8,7 +8,7 @@ use borrow.Author.Needs.{needs}
 use Rattle.word.specs.Limits.{lastMonth}
 use Rattle.book.specs.Layout.{used, factsOf}
 use Rattle.place.proofs.Heads.{book-room}
-use Rattle.place.proofs.Answers.{used-there, no-expiration, its-strikes}
+use Rattle.place.proofs.LookedUp.{used-there, no-expiration, its-strikes}
 use Rattle.place.proofs.lookup.look_up_expiration.Statement.{statement}
 use Rattle.place.proofs.lookup.look_up_expiration.Tie as tie
 

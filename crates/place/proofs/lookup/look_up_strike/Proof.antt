@@ -5,12 +5,12 @@ use native.Mathlib.Omega.{arith}
 use lib.Dec.{leb→le}
 use lib.ListN.{length}
 use borrow.Author.Needs.{needs}
-use Rattle.word.specs.Limits.{isStrike, lastMonth}
+use Rattle.word.specs.Limits.{isStrike, lastMonth, highestStrike}
 use Rattle.word.proofs.RangeTests.{between-high}
 use Rattle.book.specs.Layout.{used, factsOf}
 use Rattle.logic.proofs.Tests.{T-true}
 use Rattle.place.proofs.Heads.{book-room}
-use Rattle.place.proofs.Answers.{used-there, no-strike, its-strike}
+use Rattle.place.proofs.LookedUp.{used-there, no-strike, its-strike}
 use Rattle.place.proofs.lookup.look_up_strike.Statement.{statement}
 use Rattle.place.proofs.lookup.look_up_strike.Tie as tie
 
@@ -29,7 +29,7 @@ stands c = c .before .before
 
 -- the strike fits its field
 strike-small : (s : tie.Start) → s .args .h < 2 ^ 28
-strike-small s = omega (arith, between-high 1 19999 (s .args .h) (T-true (isStrike (s .args .h)) (s .pre .1)))
+strike-small s = omega (arith, between-high 1 highestStrike (s .args .h) (T-true (isStrike (s .args .h)) (s .pre .1)))
 
 month-small : (s : tie.Start) → s .args .m ≤ lastMonth
 month-small s = leb→le (s .args .m) lastMonth (s .pre .0 .month)

@@ -17,7 +17,7 @@ use Rattle.word.proofs.Fields.{field-less}
 use Rattle.word.specs.Kinds.{isOfKind}
 use Rattle.place.specs.Search.{isFrom}
 use Rattle.place.proofs.Firsts.{part-passes, Seeking, seek-start, seek-before, seek-hit, seek-end, seek-rest}
-use Rattle.place.proofs.Words.{part-from}
+use Rattle.place.proofs.KeyedWords.{part-from}
 use Rattle.place.proofs.search.first_rising.Statement.{statement}
 use Rattle.place.proofs.search.first_rising.Tie as tie
 

@@ -19,7 +19,7 @@ use Rattle.book.specs.Books.{isBook}
 use Rattle.book.specs.Views.{viewOf, class, isStanding}
 use Rattle.book.specs.Places.{classPlace, hasExpiration, expirationPlace, strikesPlace, strikesEnd, strikePlace}
 use Rattle.logic.proofs.Parts.{isUnder, isEqual, some-both}
-use Rattle.book.proofs.Expirations.{monthOf, strikeOf}
+use Rattle.book.proofs.SeriesParts.{monthOf, strikeOf}
 use Rattle.place.specs.Search.{firstAt, isHolding, isUpTo}
 use Rattle.place.specs.Lookups.{expirationOf, strikeSearchOf}
 use Rattle.place.proofs.Found.{none-in, expiration-sought, expiration-found, strikes-ended, strike-sought, strike-found}
