@@ -1,10 +1,9 @@
 // What a new designation asks, by its program.
 ghost use mathlib.Core.List.{[], _∷_, _++_};
 ghost use mathlib.Core.Path.{_≡_};
-ghost use Prim.Native.Nat.{_≤_};
 ghost use lib.Dec.{T};
 ghost use Rattle.word.specs.declared.answer.Answer.the-variants.{Done};
-ghost use Rattle.word.specs.Programs.{programCount};
+ghost use Rattle.word.specs.Programs.{IsProgram};
 ghost use Rattle.book.specs.Books.{isBook};
 ghost use Rattle.book.specs.Calls.{capping, claiming, firstOr, isCapReached};
 ghost use Rattle.book.specs.Layout.{factsOf};
@@ -18,7 +17,7 @@ use word::programs::is_qualified;
 
 // Whether the program's cap is reached, by its own counter.
 fn is_cap_reached(run: &[u32], p: u32) -> bool
-    requires { ⌜ T (isBook (now run)) × ((1 ≤ p) × (p ≤ programCount)) ⌝ }
+    requires { ⌜ T (isBook (now run)) × IsProgram p ⌝ }
     ensures { λ r. ⌜ r ≡ isCapReached p (factsOf (now (run .entry))) ⌝ }
 {
     if p == DOLLAR {
@@ -29,7 +28,7 @@ fn is_cap_reached(run: &[u32], p: u32) -> bool
 
 // What a designation draws: nothing unless it is newly 1, and then 8, 9 or 10.
 pub fn claim_of(run: &[u32], figures: ClassRecord, p: u32, d: u32) -> Answer
-    requires { ⌜ T (isBook (now run)) × ((1 ≤ p) × (p ≤ programCount)) ⌝ }
+    requires { ⌜ T (isBook (now run)) × IsProgram p ⌝ }
     ensures { λ r. ⌜ r
         ≡ firstOr Done (claiming p d figures ++ (capping p d figures (factsOf (now (run .entry))) ∷ [])) ⌝ }
 {

@@ -9,7 +9,7 @@ use lib.ListN.{length, take, drop, getD}
 use lib.Dec.{T, eqb, ltb}
 use borrow.Author.Tests.{not-true, not-false, ltb-true, lt-ltb, le-ltb}
 use Rattle.word.specs.Limits.{lastMonth}
-use Rattle.word.specs.Kinds.{expirationKind, strikeKind}
+use Rattle.word.specs.Kinds.{expirationKind, strikeKind, kindField}
 use Rattle.word.specs.Codec.{Expiration as ExpirationWord, packed}
 use Rattle.logic.proofs.Tests.{parts}
 use Rattle.logic.specs.Lists.{some, only}
@@ -115,7 +115,7 @@ module _
         λ i. record { from = place-stands i; to = to i }
 
     pub its-strike :
-        (h k : ℕ) (standing : Bool) → h < 2 ^ 28
+        (h k : ℕ) (standing : Bool) → h < 2 ^ kindField .low
         → k ≡ firstAt (isUpTo strikeKind h) (take (end - (place + 1)) (drop (place + 1) ws))
         → standing ≡ (ltb (place + 1 + k) (used facts) && isHolding strikeKind h (getD ws (place + 1 + k) 0))
         → record { at = place + 1 + k; expiration = true; standing = standing } ≡ strikeSearchOf c m h facts

@@ -73,11 +73,14 @@ pub record Rises (kind : Kind) (key : ℕ) (ws : List ℕ) : Type 0 where
       (i : ℕ) → i < length ws → isOfKind kind (getD ws i 0) ≡ true → keyOf kind (getD ws i 0) ≡ key
       → i ≡ firstAt (isFrom kind key) ws
 
+-- a guess multiplies a key of at most so many bits by a count of words
+abbrev pub guessWidth : ℕ
+guessWidth = 14
+
 -- words among which the first of the kind from the key on can be sought by guesses
 pub record Guessable (kind : Kind) (key : ℕ) (ws : List ℕ) : Type 0 where
   pub is-kind : kind .number < 16
-  -- a guess multiplies a key by a count of words
-  pub narrow : kind .width ≤ 14
+  pub narrow : kind .width ≤ guessWidth
   pub small : key < 2 ^ kind .width
   pub no-lower : T (every (isNoLower kind) ws)
   pub few : length ws ≤ longestRun

@@ -2,7 +2,6 @@
 -- nothing.
 use Prim.Native.Nat.{ℕ, suc, _+_, _-_, _*_, _/_, _%_, _^_, _<_, _≤_}
 use mathlib.Core.Path.{_≡_, refl, sym, _∙_}
-use mathlib.Core.Bool.{false}
 use mathlib.Core.List.{List}
 use native.Mathlib.Omega.{arith}
 use native.Mathlib.Nat.{mul-zero, mul-div-right, mul-assoc, pos-of-ne-zero, one-le-mul, eq-of-mul-eq-mul-left}
@@ -10,12 +9,11 @@ use lib.ListN.{length, drop, getD}
 use lib.Pow.{pow-pos, pow-add}
 use lib.Bits.{bitAnd}
 use lib.Count.{trailingZeros}
-use lib.Dec.{eqb}
-use borrow.Author.Tests.{ne-eqb}
+use Rattle.word.proofs.RawWords.{no-strike}
 use Rattle.word.specs.Kinds.{kindOf, expirationKind}
 use Rattle.word.proofs.Digits.{trailing-lowest, and-lowest}
 use Rattle.scan.specs.NextStrikes.{nextLength}
-use Rattle.scan.specs.Ahead.{Tells}
+use Rattle.scan.specs.Ahead.{Tells, blockLength}
 use Rattle.scan.specs.declared.ahead.Ahead.{Ahead}
 use Rattle.scan.proofs.OtherBits.{bitsAt, bitAt, nextAt, FirstOther, bits-end, bits-step, bits-later, bits-cleared, next-on, next-all, first-other}
 
@@ -27,14 +25,14 @@ module _ (ws : List ℕ) where
         onward = omega arith;
         within = omega arith;
         reached = λ l. omega arith;
-        told = rw (bits-end ws at (at + 64 - at) (omega arith)) (sym (mul-zero (2 ^ (at - at))));
+        told = rw (bits-end ws at (at + blockLength - at) (omega arith)) (sym (mul-zero (2 ^ (at - at))));
       }
 
   pub tells-start :
-      (at : ℕ) → 1 ≤ at → at < length ws → Tells ws (record { base = at; bits = bitsAt ws at 64; at = at })
+      (at : ℕ) → 1 ≤ at → at < length ws → Tells ws (record { base = at; bits = bitsAt ws at blockLength; at = at })
   tells-start at h l =
       let none : at - at ≡ 0 = omega arith in
-      let all : at + 64 - at ≡ 64 = omega arith in
+      let all : at + blockLength - at ≡ blockLength = omega arith in
       record {
         first = h;
         onward = omega arith;
@@ -44,7 +42,7 @@ module _ (ws : List ℕ) where
       }
 
   pub tells-later :
-      {ahead : Ahead} (at : ℕ) → Tells ws ahead → ahead .at ≤ at → at ≤ length ws → at < ahead .base + 64
+      {ahead : Ahead} (at : ℕ) → Tells ws ahead → ahead .at ≤ at → at ≤ length ws → at < ahead .base + blockLength
       → Tells ws (record {
         base = ahead .base;
         bits = ahead .bits / 2 ^ (at - ahead .base) * 2 ^ (at - ahead .base) % 2 ^ 64;
@@ -53,8 +51,8 @@ module _ (ws : List ℕ) where
   tells-later {ahead} at t l m h =
       let g = ahead .at - ahead .base in
       let j = at - ahead .at in
-      let k = ahead .base + 64 - at in
-      let parts : ahead .base + 64 - ahead .at ≡ j + k = omega arith in
+      let k = ahead .base + blockLength - at in
+      let parts : ahead .base + blockLength - ahead .at ≡ j + k = omega arith in
       let passed : at - ahead .base ≡ g + j = omega arith in
       let here : ahead .at + j ≡ at = omega arith in
       record {
@@ -68,35 +66,37 @@ module _ (ws : List ℕ) where
       }
 
   -- the words from the start of the search up to `from` are next strikes, `bits` tells the others from there on, as far
-  -- as 64 words from `base` on
+  -- as the block from `base` on
   -- reach, and `end` is the next other
   pub record Searched (end base bits : ℕ) : Type 0 where
     pub from : ℕ
     pub first : 1 ≤ base
     pub onward : base ≤ from
     pub within : from ≤ length ws
-    pub near : from ≤ base + 64
-    pub told : bits ≡ 2 ^ (from - base) * bitsAt ws from (base + 64 - from)
+    pub near : from ≤ base + blockLength
+    pub told : bits ≡ 2 ^ (from - base) * bitsAt ws from (base + blockLength - from)
     pub reaches : from + nextAt ws from ≡ end
 
   module _ {end base bits : ℕ} (searched : Searched end base bits) where
-    told-none : bits ≡ 0 → bitsAt ws (searched .from) (base + 64 - searched .from) ≡ 0
+    told-none : bits ≡ 0 → bitsAt ws (searched .from) (base + blockLength - searched .from) ≡ 0
     told-none e =
         let g = searched .from - base in
-        let x = bitsAt ws (searched .from) (base + 64 - searched .from) in
+        let x = bitsAt ws (searched .from) (base + blockLength - searched .from) in
         eq-of-mul-eq-mul-left (2 ^ g) (pow-pos g) x 0 (sym (searched .told) ∙ e ∙ sym (mul-zero (2 ^ g)))
 
-    pub searched-on : bits ≡ 0 → base + 64 < length ws → Searched end (base + 64) (bitsAt ws (base + 64) 64)
+    pub searched-on :
+        bits ≡ 0 → base + blockLength < length ws
+        → Searched end (base + blockLength) (bitsAt ws (base + blockLength) blockLength)
     searched-on e l =
-        let k = base + 64 - searched .from in
-        let onward : searched .from + k ≡ base + 64 = omega arith in
+        let k = base + blockLength - searched .from in
+        let onward : searched .from + k ≡ base + blockLength = omega arith in
         record {
-          from = base + 64;
+          from = base + blockLength;
           first = omega arith;
           onward = omega arith;
           within = omega arith;
           near = omega arith;
-          told = tells-start (base + 64) (omega arith) l .told;
+          told = tells-start (base + blockLength) (omega arith) l .told;
           reaches =
               omega (
                 arith,
@@ -105,24 +105,24 @@ module _ (ws : List ℕ) where
               );
         }
 
-    pub searched-all : bits ≡ 0 → length ws ≤ base + 64 → length ws ≡ end
+    pub searched-all : bits ≡ 0 → length ws ≤ base + blockLength → length ws ≡ end
     searched-all e l =
-        let k = base + 64 - searched .from in
+        let k = base + blockLength - searched .from in
         sym (next-all ws k (searched .from) (searched .within) (omega arith) (told-none e)) ∙ searched .reaches
 
-    pub searched-first : (bits ≡ 0 → ⊥) → FirstOther ws (searched .from) (base + 64 - searched .from)
+    pub searched-first : (bits ≡ 0 → ⊥) → FirstOther ws (searched .from) (base + blockLength - searched .from)
     searched-first e =
-        first-other ws (base + 64 - searched .from) (searched .from)
+        first-other ws (base + blockLength - searched .from) (searched .from)
         (pos-of-ne-zero (λ z. e (searched .told ∙ rw z (mul-zero (2 ^ (searched .from - base))))))
 
     pub searched-found :
-        FirstOther ws (searched .from) (base + 64 - searched .from)
+        FirstOther ws (searched .from) (base + blockLength - searched .from)
         → Tells ws (record { base = base; bits = bits; at = base + trailingZeros 64 bits })
         × (base + trailingZeros 64 bits ≡ end)
     searched-found other =
         let i = searched .from in
         let g = i - base in
-        let k = base + 64 - i in
+        let k = base + blockLength - i in
         let m = nextAt ws i in
         let odd = 1 + 2 * other .higher in
         let told : bits ≡ 2 ^ (g + m) * odd =
@@ -131,7 +131,7 @@ module _ (ws : List ℕ) where
         rw told (trailing-lowest (g + m) 64 (other .higher) (omega arith)) in
         let place : base + trailingZeros 64 bits ≡ i + m = omega arith in
         let passed : i + m - base ≡ g + m = omega arith in
-        let left : base + 64 - (i + m) ≡ k - m = omega arith in
+        let left : base + blockLength - (i + m) ≡ k - m = omega arith in
         let all : m + (k - m) ≡ k = omega arith in
         let later : odd ≡ bitsAt ws (i + m) (k - m) =
         sym (mul-div-right odd (pow-pos m)) ∙ rw (all, other .told) at (bits-later ws m i (k - m)) in
@@ -151,15 +151,15 @@ module _ (ws : List ℕ) {ahead : Ahead} (tells : Tells ws ahead) (l : ahead .at
   -- the word at `at` is an other, since it is no strike: its bit is the lowest that is 1
   expiration-told :
       ahead .bits
-      ≡ 2 ^ (ahead .at - ahead .base) * (1 + 2 * bitsAt ws (suc (ahead .at)) (ahead .base + 64 - suc (ahead .at)))
+      ≡ 2 ^ (ahead .at - ahead .base) * (1 + 2 * bitsAt ws (suc (ahead .at))
+      (ahead .base + blockLength - suc (ahead .at)))
   expiration-told =
       let i = ahead .at in
       let w = getD ws i 0 in
-      let kind : w / 2 ^ 28 ≡ 5 = e in
-      let strike : eqb (w / 2 ^ 20) (6 * 2 ^ 8) ≡ false = ne-eqb (w / 2 ^ 20) (6 * 2 ^ 8) (λ z. omega arith) in
-      let one : bitAt ws i ≡ 1 = rw strike in
-      let more : ahead .base + 64 - i ≡ suc (ahead .base + 64 - suc i) = omega (arith, tells .reached l) in
-      tells .told ∙ rw (more, bits-step ws i (ahead .base + 64 - suc i) l, one)
+      let one : bitAt ws i ≡ 1 = rw (no-strike w e) in
+      let more : ahead .base + blockLength - i ≡ suc (ahead .base + blockLength - suc i) =
+      omega (arith, tells .reached l) in
+      tells .told ∙ rw (more, bits-step ws i (ahead .base + blockLength - suc i) l, one)
 
   pub expiration-some : 1 ≤ ahead .bits
   expiration-some = rw expiration-told (one-le-mul (pow-pos (ahead .at - ahead .base)) (omega arith))
@@ -179,6 +179,6 @@ module _ (ws : List ℕ) {ahead : Ahead} (tells : Tells ws ahead) (l : ahead .at
         onward = omega arith;
         within = l;
         near = omega (arith, tells .reached l);
-        told = rw (expiration-told, passed) (and-lowest g (bitsAt ws (suc i) (ahead .base + 64 - suc i)));
+        told = rw (expiration-told, passed) (and-lowest g (bitsAt ws (suc i) (ahead .base + blockLength - suc i)));
         reaches = rw before refl;
       }

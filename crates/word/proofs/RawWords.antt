@@ -2,11 +2,12 @@
 -- Assumes nothing.
 use Prim.Native.Nat.{ℕ, _+_, _-_, _*_, _/_, _^_, _≤_, _<_}
 use mathlib.Core.Path.{_≡_, sym, ap, _∙_, subst}
-use mathlib.Core.Bool.{Bool, _&&_}
+use mathlib.Core.Bool.{Bool, false, _&&_}
 use mathlib.Core.List.{List}
 use native.Mathlib.Omega.{arith}
 use lib.Dec.{T, eqb, leb, ltb, leb→le, ltb→lt, lt→ltb, le→leb, eqb→eq}
 use lib.Pow.{shr-shr}
+use borrow.Author.Tests.{ne-eqb}
 use Rattle.word.specs.declared.class.ClassRecord.{ClassRecord}
 use Rattle.word.specs.declared.kind.Kind.{Kind}
 use Rattle.word.specs.Programs.{designationIn, designationsIn, designationWidth, dollarProgram, halfProgram}
@@ -50,6 +51,11 @@ head-bare w now used small e = bare-test headKind (end usedField) w (omega arith
 -- a word of a strike's kind with no bit beside a strike's
 abbrev pub IsStrike : ℕ → Type 0
 IsStrike w = IsBare strikeKind (end callField) w
+
+-- an expiration word is none
+pub no-strike : (w : ℕ) → kindOf w ≡ expirationKind .number → isBare strikeKind (end callField) w ≡ false
+no-strike w e =
+    ne-eqb (w / 2 ^ end callField) (strikeKind .number * 2 ^ (kindField .low - end callField)) (λ z. omega arith)
 
 -- a strike word whose strike is above the one before it
 abbrev pub isStrikeAbove : ℕ → ℕ → Bool

@@ -1,6 +1,6 @@
 -- Document 01, "program p (1 for $1, 2 for $0.50)", "at most 150 classes with $1 designation 1 and at most 20 with ..",
 -- "A new d of 1 needs a close below 5,000 for $1, or ..": one row for each program. Assumes nothing.
-use Prim.Native.Nat.{ℕ, _-_}
+use Prim.Native.Nat.{ℕ, _-_, _≤_}
 use mathlib.Core.Bool.{Bool, true, false, _&&_}
 use mathlib.Core.List.{List, [], _∷_, map}
 use lib.ListN.{length, getD}
@@ -66,6 +66,10 @@ programCount = length programs
 
 abbrev pub isProgram : ℕ → Bool
 isProgram p = between 1 programCount p
+
+-- the same, as a premise
+abbrev pub IsProgram : ℕ → Type 0
+IsProgram p = (1 ≤ p) × (p ≤ programCount)
 
 -- the program of the number p; of no program's number, one that no call looks at
 abbrev pub program : ℕ → Program

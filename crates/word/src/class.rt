@@ -1,8 +1,7 @@
 // The class record: what the book holds of a class beside its series.
 ghost use mathlib.Core.Path.{_≡_};
-ghost use Prim.Native.Nat.{_≤_};
 ghost use Rattle.word.specs.Class.{opened, withClose, withVolume, designation, withDesignation};
-ghost use Rattle.word.specs.Programs.{programCount};
+ghost use Rattle.word.specs.Programs.{IsProgram};
 use crate::programs::DOLLAR;
 
 pub struct ClassRecord {
@@ -53,7 +52,7 @@ impl ClassRecord {
 
     // The designation in the program p.
     pub fn designation(self, p: u32) -> u32
-        requires { ⌜ (1 ≤ p) × (p ≤ programCount) ⌝ }
+        requires { ⌜ IsProgram p ⌝ }
         ensures { λ r. ⌜ r ≡ designation p self ⌝ }
     {
         let designations = self.designations;
@@ -64,7 +63,7 @@ impl ClassRecord {
     }
 
     pub fn with_designation(self, p: u32, d: u32) -> ClassRecord
-        requires { ⌜ (1 ≤ p) × (p ≤ programCount) ⌝ }
+        requires { ⌜ IsProgram p ⌝ }
         ensures { λ r. ⌜ r ≡ withDesignation p d self ⌝ }
     {
         let mut designations = self.designations;

@@ -1,7 +1,6 @@
 // The programs, $1 first: their numbers, where their designations stand in a class word, and what qualifies for them.
 ghost use mathlib.Core.Path.{_≡_};
-ghost use Prim.Native.Nat.{_≤_};
-ghost use Rattle.word.specs.Programs.{isProgram, program, programCount};
+ghost use Rattle.word.specs.Programs.{isProgram, program, IsProgram};
 use crate::class::ClassRecord;
 use crate::field::Field;
 
@@ -41,7 +40,7 @@ pub fn is_program(p: u32) -> bool
 
 // Whether the close and the volume qualify for the program.
 pub fn is_qualified(figures: ClassRecord, p: u32) -> bool
-    requires { ⌜ (1 ≤ p) × (p ≤ programCount) ⌝ }
+    requires { ⌜ IsProgram p ⌝ }
     ensures { λ r. ⌜ r ≡ program p .qualifies figures ⌝ }
 {
     if p == DOLLAR {

@@ -1,6 +1,6 @@
 -- `expirations_end` finds the end of a class's series: each way through the loop is one law of the loop.
-use Prim.Native.Nat.{suc, _+_, _-_}
-use mathlib.Core.Path.{_≡_, refl, sym, _∙_}
+use Prim.Native.Nat.{ℕ, suc, _+_, _-_}
+use mathlib.Core.Path.{_≡_, refl, sym, ap, _∙_}
 use native.Mathlib.Omega.{arith}
 use lib.ListN.{length, drop, getD}
 use lib.Dec.{T}
@@ -23,6 +23,22 @@ Inv-loop current s latest least₀ ahead₀ i₀ least ahead i =
 abbrev μ-loop : tie.MeasureT-loop
 μ-loop current s latest least₀ ahead₀ i₀ least ahead i = length s - i
 
+-- where the function begins, from where the last word is made
+abbrev read : tie.After-expiration-word Inv-loop μ-loop → tie.Start Inv-loop μ-loop
+read c = c .before .before .before
+
+-- where the function begins, from a turn of the loop
+abbrev start : tie.At-loop Inv-loop μ-loop → tie.Start Inv-loop μ-loop
+start c = read (c .before .before)
+
+-- the turn of the loop, from where the word at i has passed the comparison
+abbrev turn : tie.Else1 Inv-loop μ-loop → tie.At-loop Inv-loop μ-loop
+turn c = c .before .before .before
+
+-- where the next other is known, from where the strikes are tested
+abbrev ahead-of : tie.After-are-strikes Inv-loop μ-loop → tie.After-next-other Inv-loop μ-loop
+ahead-of c = c .before .before .before .before
+
 -- the last word that the loop compares with is that of the last month
 latest :
     (c : tie.After-expiration-word2 Inv-loop μ-loop)
@@ -33,8 +49,8 @@ latest c = rw (c .before .expiration-word .ensures, c .before .before .latest-mo
 -- the word at i passed the comparison
 passed :
     (c : tie.Else1 Inv-loop μ-loop)
-    → let at = c .before .before .before in
-    let a = at .before .before .before .before .before .args in
+    → let at = turn c in
+    let a = start at .args in
     T (isBetween (a .current) (at .loop .inv .0 .next) (getD (a .s .now) (at .loop .i) 0))
 passed c =
     let at = c .before .before .before in
@@ -44,20 +60,24 @@ passed c =
 -- so it is an expiration word
 kind-five :
     (c : tie.Else1 Inv-loop μ-loop)
-    → let at = c .before .before .before in
-    kindOf (getD (at .before .before .before .before .before .args .s .now) (at .loop .i) 0) ≡ expirationKind .number
+    → let at = turn c in
+    kindOf (getD (start at .args .s .now) (at .loop .i) 0) ≡ expirationKind .number
 kind-five c =
-    let at = c .before .before .before in
-    let a = at .before .before .before .before .before .args in
+    let at = turn c in
+    let a = start at .args in
     between-kind (a .current) (at .loop .inv .0 .next) (getD (a .s .now) (at .loop .i) 0) (passed c)
 
 -- and its strikes end at the next other
 ends :
     (c : tie.After-next-other Inv-loop μ-loop)
-    → let at = c .before .before .before .before in
-    let s = at .before .before .before .before .before .args .s .now in
+    → let at = turn (c .before) in
+    let s = start at .args .s .now in
     c .next-other .result .at ≡ suc (at .loop .i) + nextLength (getD s (at .loop .i) 0) (drop (suc (at .loop .i)) s)
-ends c = rw (← c .before .before .before .before .loop .inv .1 .1) (c .next-other .ensures .1)
+ends c =
+    let at = turn (c .before) in
+    let s = start at .args .s .now in
+    c .next-other .ensures .1
+    ∙ ap (λ (k : ℕ). suc k + nextLength (getD s k 0) (drop (suc k) s)) (at .loop .inv .1 .1)
 
 latest-month-requires : tie.Need-latest-month-requires Inv-loop μ-loop
 latest-month-requires c κs = search needs
@@ -147,21 +167,21 @@ are-strikes-requires c κs = search needs
 
 returns-4 : tie.Need-returns-4 Inv-loop μ-loop
 returns-4 c =
-    let found = c .before .before .before .before .before in
+    let found = ahead-of (c .before) in
     let test = found .before in
     let at = test .before .before .before in
     expirations-outside (at .loop .inv .0) (test .before .before .loop-test .taken) (kind-five test)
     (found .next-other .result .at) (ends found) (rw (c .before .are-strikes .ensures) at (c .if4 .taken))
 
 add-least : tie.Need-add-least Inv-loop μ-loop
-add-least c = omega (arith, kind-five (c .before .before .before .before .before .before))
+add-least c = omega (arith, kind-five (ahead-of (c .before) .before))
 
 loop-less : tie.Need-loop-less Inv-loop μ-loop
 loop-less c = search needs
 
 loop-again : tie.Need-loop-again Inv-loop μ-loop
 loop-again c =
-    let found = c .before .before .before .before .before in
+    let found = ahead-of (c .before) in
     let test = found .before in
     let at = test .before .before .before in (
       expirations-more (at .loop .inv .0) (test .before .before .loop-test .taken) (kind-five test)

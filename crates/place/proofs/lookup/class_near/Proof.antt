@@ -8,6 +8,7 @@ use native.Mathlib.Omega.{arith}
 use lib.ListN.{take, drop, getD}
 use borrow.Author.Needs.{needs}
 use borrow.Author.Tests.{eqb-true}
+use Rattle.word.specs.Head.{firstPlace}
 use Rattle.word.specs.Kinds.{classKind}
 use Rattle.word.specs.Limits.{isClassNumber}
 use Rattle.logic.proofs.Tests.{parts, T-true}
@@ -31,11 +32,11 @@ abbrev near : tie.After-found-near → tie.After-used
 near c = lent (c .before .before)
 
 abbrev words : tie.After-used → List ℕ
-words c = take (c .used .result - 1) (drop 1 (start c .args .run .now))
+words c = take (c .used .result - firstPlace) (drop firstPlace (start c .args .run .now))
 
 -- ---- what is known there
 
-number-small : (s : tie.Start) → s .args .c < 2 ^ 14
+number-small : (s : tie.Start) → s .args .c < 2 ^ classKind .width
 number-small s = omega (arith, between-high 1 16383 (s .args .c) (T-true (isClassNumber (s .args .c)) (s .pre .1)))
 
 -- a word that is found near by holds the number

@@ -31,7 +31,8 @@ holds-requires c κs = search needs
 
 returns-2 : tie.Need-returns-2
 returns-2 c =
-    let a = c .before .before .before .before .before .args in
+    let read = c .before in
+    let a = read .before .before .before .before .args in
     c .holds .ensures
     ∙ is-used (a .at) (used (factsOf (a .run .now))) (isHolding strikeKind (a .h) (getD (a .run .now) (a .at) 0))
     (omega arith)

@@ -5,6 +5,7 @@ use native.Mathlib.Omega.{arith}
 use lib.Dec.{leb→le}
 use lib.ListN.{length}
 use borrow.Author.Needs.{needs}
+use Rattle.word.specs.Kinds.{kindField}
 use Rattle.word.specs.Limits.{isStrike, lastMonth, highestStrike}
 use Rattle.word.proofs.RangeTests.{between-high}
 use Rattle.book.specs.Layout.{used, factsOf}
@@ -28,7 +29,7 @@ stands c = c .before .before
 -- ---- what is known there
 
 -- the strike fits its field
-strike-small : (s : tie.Start) → s .args .h < 2 ^ 28
+strike-small : (s : tie.Start) → s .args .h < 2 ^ kindField .low
 strike-small s = omega (arith, between-high 1 highestStrike (s .args .h) (T-true (isStrike (s .args .h)) (s .pre .1)))
 
 month-small : (s : tie.Start) → s .args .m ≤ lastMonth

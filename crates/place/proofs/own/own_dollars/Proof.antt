@@ -17,14 +17,18 @@ abbrev μ-loop : tie.MeasureT-loop
 used-requires : tie.Need-used-requires Inv-loop μ-loop
 used-requires c κs = search needs
 
+-- where the function begins, from a turn of the loop
+abbrev start : tie.At-loop Inv-loop μ-loop → tie.Start Inv-loop μ-loop
+start c = c .before .before .before
+
 loop-holds : tie.Need-loop-holds Inv-loop μ-loop
 loop-holds c = count-start _ (c .before .before .pre) 1 tt
 
 mul-designation-in : tie.Need-mul-designation-in Inv-loop μ-loop
-mul-designation-in c = omega (arith, book-room _ (c .before .before .before .before .pre))
+mul-designation-in c = omega (arith, book-room _ (start (c .before) .pre))
 
 shared-slice-read-designation-in : tie.Need-shared-slice-read-designation-in Inv-loop μ-loop
-shared-slice-read-designation-in c = omega (arith, book-room _ (c .before .before .before .before .before .pre))
+shared-slice-read-designation-in c = omega (arith, book-room _ (start (c .before .before) .pre))
 
 designation-in-requires : tie.Need-designation-in-requires Inv-loop μ-loop
 designation-in-requires c κs = search needs
@@ -32,10 +36,10 @@ designation-in-requires c κs = search needs
 counted-requires : tie.Need-counted-requires Inv-loop μ-loop
 counted-requires c κs =
     let l = c .before .before .before in
-    count-small _ (l .before .before .before .pre) 1 tt _ _ (l .loop .inv)
+    count-small _ (start l .pre) 1 tt _ _ (l .loop .inv)
 
 add-i : tie.Need-add-i Inv-loop μ-loop
-add-i c = omega (arith, book-room _ (c .before .before .before .before .before .before .before .pre))
+add-i c = omega (arith, book-room _ (start (c .before .before .before .before) .pre))
 
 loop-less : tie.Need-loop-less Inv-loop μ-loop
 loop-less c = search needs
@@ -43,11 +47,11 @@ loop-less c = search needs
 loop-again : tie.Need-loop-again Inv-loop μ-loop
 loop-again c =
     let l = c .before .before .before .before in
-    count-more _ (l .before .before .before .pre) 1 tt _ _ (l .loop .inv) _ _ (omega arith)
+    count-more _ (start l .pre) 1 tt _ _ (l .loop .inv) _ _ (omega arith)
     (c .before .designation-in .ensures) (c .counted .ensures)
 
 returns : tie.Need-returns Inv-loop μ-loop
-returns c = count-done _ (c .before .before .before .before .pre) 1 tt _ _ (c .before .loop .inv) (omega arith)
+returns c = count-done _ (start (c .before) .pre) 1 tt _ _ (c .before .loop .inv) (omega arith)
 
 pub own-dollars-spec : {M : Type 1} → statement M
 own-dollars-spec =

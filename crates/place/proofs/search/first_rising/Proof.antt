@@ -12,10 +12,10 @@ use lib.ListN.{length, getD}
 use lib.Pow.{pow-mono}
 use borrow.Author.Needs.{needs}
 use Rattle.logic.proofs.Tests.{parts}
-use Rattle.word.specs.Limits.{highestClass, longestRun}
+use Rattle.word.specs.Limits.{longestRun}
 use Rattle.word.proofs.Fields.{field-less}
-use Rattle.word.specs.Kinds.{isOfKind}
-use Rattle.place.specs.Search.{isFrom}
+use Rattle.word.specs.Kinds.{isOfKind, kindField}
+use Rattle.place.specs.Search.{isFrom, guessWidth}
 use Rattle.place.proofs.Firsts.{part-passes, Seeking, seek-start, seek-before, seek-hit, seek-end, seek-rest}
 use Rattle.place.proofs.KeyedWords.{part-from}
 use Rattle.place.proofs.search.first_rising.Statement.{statement}
@@ -67,8 +67,8 @@ words c = start (in-turn c) .args .words .now
 
 -- ---- what is known there
 
-key-small : (s : tie.Start Inv-loop μ-loop) → s .args .key < 2 ^ 14
-key-small s = omega (arith, s .pre .small, pow-mono {i = s .args .kind .width} {j = 14} (s .pre .narrow))
+key-small : (s : tie.Start Inv-loop μ-loop) → s .args .key < 2 ^ guessWidth
+key-small s = omega (arith, s .pre .small, pow-mono {i = s .args .kind .width} {j = guessWidth} (s .pre .narrow))
 
 -- the guess is within the words left
 guess-within : (c : tie.Joined4 Inv-loop μ-loop) → middle c < turn-of c .loop .high
@@ -106,27 +106,28 @@ passed c =
     (omega (arith, rises .below _ (omega (arith, next-within t)) (of-kind t) (omega (arith, held))))
 
 -- what it holds
-held-small : (c : tie.Then7 Inv-loop μ-loop) → c .before .before .key-of2 .result < 2 ^ 14
+held-small : (c : tie.Then7 Inv-loop μ-loop) → c .before .before .key-of2 .result < 2 ^ guessWidth
 held-small c =
     let t = found-of (c .before) in
     let s = start (in-turn t) in
     omega (
       arith,
       c .before .before .key-of2 .ensures,
-      field-less (getD (words t) (next t) 0) (record { low = 0; width = s .args .kind .width }) 14 (s .pre .narrow),
+      field-less (getD (words t) (next t) 0) (record { low = 0; width = s .args .kind .width }) guessWidth
+          (s .pre .narrow),
     )
 
 -- .. times the words left after it is a small number
 product-small :
     (c : tie.Then7 Inv-loop μ-loop)
     → let t = found-of (c .before) in
-    c .before .before .key-of2 .result * (in-turn t .loop .high - (next t + 1)) ≤ highestClass * longestRun
+    c .before .before .key-of2 .result * (in-turn t .loop .high - (next t + 1)) ≤ 2 ^ guessWidth * longestRun
 product-small c =
     let t = found-of (c .before) in
     let l = in-turn t .loop in
     let few = start (in-turn t) .pre .few in
     mul-le-mul {n₁ = c .before .before .key-of2 .result} {m₁ = l .high - (next
-    t + 1)} {n₂ = highestClass} {m₂ = longestRun}
+    t + 1)} {n₂ = 2 ^ guessWidth} {m₂ = longestRun}
     (omega (arith, held-small c)) (omega (arith, few, l .inv .1))
 
 quotient-small :
@@ -313,7 +314,7 @@ returns-4 c =
     let a = s .args in
     let low = l .loop .low in
     let left = length (a .words .now) - low in
-    let small : a .key < 2 ^ 28 = omega (arith, key-small s) in
+    let small : a .key < 2 ^ kindField .low = omega (arith, key-small s) in
     seek-rest _ _ _ (l .loop .inv .2) _
     (c .first2 .ensures .0 ∙ part-from (a .kind) (a .key) small (a .words .now) left low (s .pre .no-lower))
 

@@ -27,11 +27,15 @@ Inv-loop block kind most bits₀ i₀ bits i =
 abbrev μ-loop : tie.MeasureT-loop
 μ-loop block kind most bits₀ i₀ bits i = 16 - i
 
+-- the turn of the loop, from where the word's bit is chosen
+abbrev turn : tie.Joined1 Inv-loop μ-loop → tie.At-loop Inv-loop μ-loop
+turn c = c .before .before .before .before
+
 -- the bit of the word at i
 word-bit :
     (c : tie.Joined1 Inv-loop μ-loop)
-    → let l = c .before .before .before .before .loop in
-    let a = c .before .before .before .before .before .before .args in
+    → let l = turn c .loop in
+    let a = turn c .before .before .args in
     c .if1 .bit ≡ 2 * cond {A = ℕ} (leb (gradeOf (a .kind) (getD (a .block .now) (l .i) 0)) (a .most)) (2 ^ l .i) 0
 word-bit c =
     let k = c .before in
@@ -68,7 +72,7 @@ loop-less c = search needs
 
 loop-again : tie.Need-loop-again Inv-loop μ-loop
 loop-again c =
-    let s = c .before .before .before .before .before in
+    let s = turn (c .before) in
     let a = s .before .before .args in (
       omega arith,
       ap₂ bitOr (s .loop .inv .1) (word-bit (c .before))

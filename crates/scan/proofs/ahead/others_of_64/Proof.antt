@@ -72,7 +72,8 @@ returns c =
     ∙ bits-part s (a .base - 1) (a .base + halfBlock) (a .base) halfBlock (omega arith) (omega arith) (omega arith) in
     let high : c .others-of-322 .result ≡ bitsAt s (a .base + halfBlock) halfBlock =
     c .others-of-322 .ensures
-    ∙ bits-part s (a .base - 1 + halfBlock) (a .base + blockLength) (a .base + halfBlock) halfBlock (omega arith) (omega arith) (omega arith) in
+    ∙ bits-part s (a .base - 1 + halfBlock) (a .base + blockLength) (a .base + halfBlock) halfBlock (omega arith)
+    (omega arith) (omega arith) in
     rw (low, high) (bits-joined s (a .base) halfBlock (omega arith))
 
 pub others-of-64-spec : {M : Type 1} → statement M

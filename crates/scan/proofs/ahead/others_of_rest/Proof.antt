@@ -102,8 +102,10 @@ returns-2 c =
     ∙ bits-part s (a .base - 1) (a .base + halfBlock) (a .base) halfBlock (omega arith) (omega arith) (omega arith) in
     let high : c .others-few2 .result ≡ bitsAt s (a .base + halfBlock) rest =
     c .others-few2 .ensures
-    ∙ bits-part s (a .base - 1 + halfBlock) (length s) (a .base + halfBlock) rest (omega arith) (omega arith) (omega arith) in
-    rw (low, high) (bits-joined s (a .base) rest (omega arith)) ∙ bits-whole s (a .base) (halfBlock + rest) (omega arith)
+    ∙ bits-part s (a .base - 1 + halfBlock) (length s) (a .base + halfBlock) rest (omega arith) (omega arith)
+    (omega arith) in
+    rw (low, high) (bits-joined s (a .base) rest (omega arith))
+    ∙ bits-whole s (a .base) (halfBlock + rest) (omega arith)
 
 pub others-of-rest-spec : {M : Type 1} → statement M
 others-of-rest-spec =
