@@ -36,11 +36,12 @@ use Rattle.book.specs.Permission.{factsWithStrike}
 use Rattle.logic.proofs.Tests.{and-intro, ands, true-T, nor-left, nor-right, not-not}
 use Rattle.logic.proofs.Lists.{every-imply, every-map, length-only, sum-map, same-keys, every-inserted, rises-inserted, sum-inserted}
 use Rattle.logic.proofs.Parts.{only-all, map-same}
+use Rattle.book.proofs.ClassWords.{class-good, series-good}
 use Rattle.book.proofs.ProgramTable.{designations-length, designations-set}
 use Rattle.book.proofs.Forms.{areSeries, Well, well, well-formed}
 use Rattle.book.proofs.Layouts.{fresh-well-formed}
 use Rattle.book.proofs.SeriesLaws.{expirations-only, series-only, markedAt, series-marked, expirations-marked, series-inserted}
-use Rattle.book.proofs.ClassLaws.{isNumbered, class-order, number-of, every-of, every-put, rises-put, sum-put}
+use Rattle.book.proofs.ClassLaws.{isNumbered, class-order, number-of, every-put, rises-put, sum-put}
 
 -- ---- designations
 
@@ -90,11 +91,8 @@ module _
   is-open : T (isOpen c (f .classes))
   is-open = not-not (isOpen c (f .classes)) o
 
-  class-limits : T (isClass (f .now) (class f c))
-  class-limits = every-of (isClass (f .now)) c (f .classes) (search and-intro) (w .limits)
-
-  class-series : T (areSeries (f .now) (class f c .series))
-  class-series = let t = class-limits in search ands
+  good : T (isWellFormed n f)
+  good = well-formed n f w
 
   class-number : number (class f c) ≡ c
   class-number = number-of c (f .classes)
@@ -130,7 +128,7 @@ module _
       → ((p : ℕ) → T (isProgram p) → owned p (putClass (withFigures r (class f c)) (f .classes)) ≤ program p .cap)
       → Well n (update (withFigures r (class f c)) f)
   keep-figures r e t caps =
-      let s = class-series in
+      let s = series-good n f c good is-open in
       keep-update (withFigures r (class f c)) (search and-intro)
       (omega (arith, sum-after wordsOf (withFigures r (class f c)) e, w .room)) caps
 
@@ -138,7 +136,7 @@ module _
       (ss : List Series) → T (areSeries (f .now) ss) → wordsTaken (update (withSeries ss (class f c)) f) ≤ n
       → Well n (update (withSeries ss (class f c)) f)
   keep-series ss t room =
-      let l = class-limits in
+      let l = class-good n f c good is-open in
       let r : T (areFigures (class f c .figures)) = search ands in
       keep-update (withSeries ss (class f c)) (search and-intro) room
       (λ p k. cap-kept (withSeries ss (class f c)) class-number p k (omega arith))
@@ -151,7 +149,7 @@ module _
   keep-only : (keep : Series → Bool) → Well n (update (withSeries (only keep (class f c .series)) (class f c)) f)
   keep-only keep =
       let ss = class f c .series in
-      keep-series (only keep ss) (series-only (f .now) (f .now) keep (λ s k t. t) ss class-series)
+      keep-series (only keep ss) (series-only (f .now) (f .now) keep (λ s k t. t) ss (series-good n f c good is-open))
       (fewer-words (only keep ss) (omega (arith, expirations-only keep ss, length-only keep ss)))
 
   keep-marks :
@@ -159,20 +157,20 @@ module _
       → Well n (update (withSeries (map (markedAt m h a b) (class f c .series)) (class f c)) f)
   keep-marks m h a b ma mb =
       let ss = class f c .series in
-      keep-series (map (markedAt m h a b) ss) (series-marked m h a b (f .now) ma mb ss class-series)
+      keep-series (map (markedAt m h a b) ss) (series-marked m h a b (f .now) ma mb ss (series-good n f c good is-open))
       (fewer-words (map (markedAt m h a b) ss)
       (omega (arith, expirations-marked m h a b ss, length-map ss (markedAt m h a b))))
 
   keep-close : (p : ℕ) → T (isClose p) → Well n (update (withFigures (withClose p (class f c .figures)) (class f c)) f)
   keep-close p t =
-      let l = class-limits in
+      let l = class-good n f c good is-open in
       keep-figures (withClose p (class f c .figures)) class-number (search (ands, and-intro) depth 12)
       (λ q k. cap-kept (withFigures (withClose p (class f c .figures)) (class f c)) class-number q k (omega arith))
 
   keep-volume :
       (v : ℕ) → T (isVolume v) → Well n (update (withFigures (withVolume v (class f c .figures)) (class f c)) f)
   keep-volume v t =
-      let l = class-limits in
+      let l = class-good n f c good is-open in
       keep-figures (withVolume v (class f c .figures)) class-number (search (ands, and-intro) depth 12)
       (λ q k. cap-kept (withFigures (withVolume v (class f c .figures)) (class f c)) class-number q k (omega arith))
 
@@ -189,11 +187,11 @@ module _
       y = withFigures (withDesignation p d r) (class f c)
 
       all : T (areDesignations programs (r .designations))
-      all = let l = class-limits in search ands
+      all = let l = class-good n f c good is-open in search ands
 
       figures : T (areFigures (withDesignation p d r))
       figures =
-          let l = class-limits in
+          let l = class-good n f c good is-open in
           let each = designations-set programs (r .designations) (p - 1) d t all in
           search (ands, and-intro) depth 12
 
@@ -349,7 +347,7 @@ keep-strike n c m h f w number o month strike inside new room =
     let t : T (isSeries (f .now) s) = search and-intro depth 12 in
     let ss = class f c .series in
     keep-series n f c w number o (insertSeries s ss)
-    (series-inserted (f .now) s ss t new (class-series n f c w number o)) room
+    (series-inserted (f .now) s ss t new (series-good n f c (good n f c w number o) (is-open n f c w number o))) room
 
 -- ---- every call
 

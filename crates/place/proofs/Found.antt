@@ -45,7 +45,7 @@ module _
     (m : ℕ) (P : List Word → Type 0) (none : P [])
     (of-class : (number : ℕ) (ds : List ℕ) (ws : List Word) → P (Class number ds ∷ ws))
     (of-month : (n : ℕ) (ws : List Word) → m < n → P (Expiration n ∷ ws)) where
-  later-begin :
+  pub later-begin :
       (ss : List Series) (xs : List OpenClass) → T (every (isOver monthOf m) ss)
       → P (seriesWords 0 ss (classesWords xs []))
   later-begin [] [] t = none

@@ -5,31 +5,32 @@ use mathlib.Core.Path.{_≡_, refl, sym, ap, ap₂, _∙_, subst}
 use mathlib.Core.Bool.{Bool, true, false, cond, not, _&&_, and-false}
 use mathlib.Core.List.{List, [], _∷_, _++_, map, append-assoc}
 use native.Mathlib.Omega.{arith}
-use lib.Dec.{T, eqb, leb, ltb, eqb·zero-suc, le→leb}
+use lib.Dec.{T, eqb, leb, ltb, le→leb}
 use lib.ListN.{length, getD, take, drop, replicate, length-append, length-drop, length-map}
 use lib.Seq.{getD-take, getD-drop, length-take-le}
 use borrow.Author.Tests.{ltb-true, ltb-false, lt-ltb, le-ltb, eq-eqb, ne-eqb}
 use Rattle.word.specs.Limits.{lastMonth, longestRun}
 use Rattle.word.specs.Kinds.{kindOf, isOfKind, strikeKind}
-use Rattle.word.specs.Codec.{Word, Head, Close, Volume, Expiration, isLegal, packed}
+use Rattle.word.specs.Codec.{Word, Head, Class, Expiration, isLegal, packed}
 use Rattle.word.proofs.Words.{legal-fits, kindIn, kind-packed}
 use Rattle.logic.specs.Lists.{every, only}
+use Rattle.book.proofs.Layouts.{seriesWords-append}
 use Rattle.book.specs.Facts.{Series, OpenClass, number, isOpen, inMonth}
-use Rattle.word.specs.Figures.{classWord, figuresWords}
+use Rattle.word.specs.Figures.{figuresWords}
 use Rattle.book.specs.Layout.{strikeWord, expirationUnless, seriesWords, classesWords, used, factsOf}
 use Rattle.book.specs.Books.{isSeries, isBook}
 use Rattle.book.specs.Views.{class}
 use Rattle.book.specs.Places.{hasExpiration, strikesPlace, strikesEnd}
 use Rattle.logic.proofs.Tests.{and-intro, ands, parts, T-true}
 use Rattle.logic.proofs.Lists.{every-at, every-map, every-true}
-use Rattle.logic.proofs.Parts.{isUnder, isOver}
+use Rattle.logic.proofs.Parts.{isUnder, isOver, every-kept}
 use Rattle.logic.proofs.Splits.{every-split}
 use Rattle.book.proofs.ClassWords.{book-words}
 use Rattle.book.proofs.SeriesParts.{monthOf}
 use Rattle.book.proofs.Runs.{bookWords, run-word, strikes-within, strikes-part, strikes-good, expiration-strikes, expiration-length}
 use Rattle.place.proofs.Heads.{book-good, book-form, book-is, book-room, book-long}
 use Rattle.place.proofs.Laid.{kinds-packed}
-use Rattle.place.proofs.Found.{legal}
+use Rattle.place.proofs.Found.{legal, later-begin}
 
 -- whether the words used have a strike there
 abbrev pub isStrikeAt : List ℕ → ℕ → Bool
@@ -87,25 +88,30 @@ module _ (w : List ℕ) (book : T (isBook w)) where
       (run-word (length w) (factsOf w) i 0 before (x ∷ rest) e (omega arith)) in
       kind-packed x (getD w i 0) fits (sym word)
 
-  -- the word after those of an expiration's strikes is no strike
+  -- no strike stands at i, between some words and others
+  abbrev NoStrike : ℕ → List Word → List Word → Type 0
+  NoStrike i before rest =
+      bookWords (length w) (factsOf w) ≡ before ++ rest → i ≡ length before → isOfKind strikeKind (getD w i 0) ≡ false
+
+  -- the word after those of an expiration's strikes is none
   kind-after :
-      (i : ℕ) (before : List Word) (ss : List Series) (xs : List OpenClass)
-      → bookWords (length w) (factsOf w) ≡ before ++ (seriesWords 0 ss [] ++ classesWords xs []) → i ≡ length before
-      → isOfKind strikeKind (getD w i 0) ≡ false
-  kind-after i before [] [] e d =
-      let word : getD w i 0 ≡ 0 =
-      subst (λ (l : List ℕ). getD l i 0 ≡ 0) (book-is w book)
-      (run-word (length w) (factsOf w) i 0 before [] e (omega arith) ∙ zeros-first (length w - used (factsOf w))) in
-      ap (isOfKind strikeKind) word
-  kind-after i before [] (x ∷ xs) e d =
-      ap (λ (k : ℕ). eqb k 6)
-      (kind-at i before
-      (Close (x .figures .close) ∷ Volume (x .figures .volume) ∷ seriesWords 0 (x .series) (classesWords xs []))
-      (classWord (x .figures)) e d)
-  kind-after i before (s ∷ ss) xs e d =
-      ap (λ (k : ℕ). eqb k 6)
-      (kind-at i before (strikeWord s ∷ (seriesWords (suc (s .month)) ss [] ++ classesWords xs []))
-      (Expiration (s .month)) (rw (eqb·zero-suc (s .month)) at e) d)
+      (m i : ℕ) (before : List Word) (ss : List Series) (xs : List OpenClass) → T (every (isOver monthOf m) ss)
+      → NoStrike i before (seriesWords 0 ss (classesWords xs []))
+  kind-after m i before = later-begin m (NoStrike i before) none of-class of-month
+    where
+      none : NoStrike i before []
+      none e d =
+          ap (isOfKind strikeKind)
+          (subst (λ (l : List ℕ). getD l i 0 ≡ 0) (book-is w book)
+          (run-word (length w) (factsOf w) i 0 before [] e (omega arith) ∙ zeros-first (length w - used (factsOf w))))
+
+      of-class : (number : ℕ) (ds : List ℕ) (rest : List Word) → NoStrike i before (Class number ds ∷ rest)
+      of-class number ds rest e d =
+          ap (λ (k : ℕ). eqb k (strikeKind .number)) (kind-at i before rest (Class number ds) e d)
+
+      of-month : (n : ℕ) (rest : List Word) → m < n → NoStrike i before (Expiration n ∷ rest)
+      of-month n rest l e d =
+          ap (λ (k : ℕ). eqb k (strikeKind .number)) (kind-at i before rest (Expiration n) e d)
 
 -- ---- the words beside the strikes of an expiration
 
@@ -147,7 +153,7 @@ module _ (w : List ℕ) (book : T (isBook w)) (c m : ℕ) (o : T (isOpen c (fact
       let good = strikes-good (length w) (factsOf w) c m (book-good w book) o in
       subst (λ (l : List ℕ). T (every (isOfKind strikeKind) (take (to - from) (drop from l)))) (book-is w book)
       (rw (strikes-part (length w) (factsOf w) c m (book-good w book) o)
-      (kinds-packed (λ k. eqb k 6) (map strikeWord here)
+      (kinds-packed (λ k. eqb k (strikeKind .number)) (map strikeWord here)
       (every-map (isSeries (factsOf w .now)) isLegal strikeWord (λ s t. search (ands, and-intro)) here good)
       (every-map (λ s. true) (λ x. eqb (kindIn x) (strikeKind .number)) strikeWord (λ s t. tt) here (every-true here))))
 
@@ -168,9 +174,13 @@ module _ (w : List ℕ) (book : T (isBook w)) (c m : ℕ) (o : T (isOpen c (fact
   kind-end : isOfKind strikeKind (getD w to 0) ≡ false
   kind-end =
       let word : List Word = expirationUnless (not (hasExpiration c m (factsOf w))) m [] in
-      kind-after w book to (before ++ (word ++ map strikeWord here))
-      (only (isOver monthOf m) (class (factsOf w) c .series)) (only (isOver number c) (factsOf w .classes))
-      (around ∙ regrouped before word (map strikeWord here) after)
+      let later = only (isOver monthOf m) (class (factsOf w) c .series) in
+      let above = only (isOver number c) (factsOf w .classes) in
+      let front = before ++ (word ++ map strikeWord here) in
+      kind-after w book m to front later above (every-kept (isOver monthOf m) (class (factsOf w) c .series))
+      (around
+      ∙ regrouped before word (map strikeWord here) after
+      ∙ ap (λ (l : List Word). front ++ l) (sym (seriesWords-append 0 later [] (classesWords above []))))
       (simp length-append
       (omega (
         arith,
@@ -201,7 +211,7 @@ module _ (w : List ℕ) (book : T (isBook w)) (c m : ℕ) (o : T (isOpen c (fact
     where
       first : isOfKind strikeKind (getD w (from - 1) 0) ≡ false
       first =
-          ap (λ (n : ℕ). eqb n 6)
+          ap (λ (n : ℕ). eqb n (strikeKind .number))
           (kind-at w book (from - 1) before (map strikeWord here ++ after) (Expiration m)
           (around ∙ ap (λ (b : Bool). before ++ (expirationUnless (not b) m [] ++ (map strikeWord here ++ after))) has)
           (omega (arith, before-length, ap (λ (b : Bool). cond {A = ℕ} b 1 0) has)))
