@@ -84,8 +84,13 @@ isBeyondMarked s ss =
     every (λ t. ltb (t .strike) (s .strike)) (markedWith s ss)
     || every (λ t. ltb (s .strike) (t .strike)) (markedWith s ss)
 
+-- ".. with |K − P| above 500", in cents
+abbrev pub reviewDistance : ℕ
+reviewDistance = 500
+
 -- "It removes each strike of ground 1 or 3 with |K − P| above 500, both marks 0, and h above .. or below .."
 abbrev pub isReviewed : OpenClass → Series → Bool
 isReviewed x s =
     (eqb (s .ground) 1 || eqb (s .ground) 3)
-    && (ltb 500 (apart (cents (s .strike)) (x .figures .close)) && (not (isMarked s) && isBeyondMarked s (x .series)))
+    && (ltb reviewDistance (apart (cents (s .strike)) (x .figures .close))
+    && (not (isMarked s) && isBeyondMarked s (x .series)))
