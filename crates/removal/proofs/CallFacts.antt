@@ -1,11 +1,12 @@
 -- Review on the run of a book gives the layout of the changed facts: the words of one class's series are compacted,
 -- between words that stay. Assumes nothing.
-use Prim.Native.Nat.{ℕ, suc, _+_, _-_, _≤_}
+use Prim.Native.Nat.{ℕ, _+_, _-_, _≤_}
 use mathlib.Core.Path.{_≡_, refl, ap, _∙_}
 use mathlib.Core.List.{List, [], _∷_, _++_, map}
 use native.Mathlib.Omega.{arith}
 use lib.Dec.{T}
 use lib.ListN.{length, replicate, length-append, length-map}
+use Rattle.word.specs.Head.{firstPlace}
 use Rattle.word.specs.Codec.{Word, Head, packed}
 use Rattle.logic.specs.Lists.{every}
 use Rattle.book.specs.Facts.{Series, Facts, withSeries}
@@ -22,8 +23,8 @@ use Rattle.place.proofs.Heads.{book-good, book-room, book-long, book-month}
 use Rattle.place.proofs.Found.{class-room}
 use Rattle.removal.specs.Asked.{Removable, Reviewable}
 use Rattle.removal.specs.Compaction.{beginning, compacted, Parted, headed, RemovedFrom}
-use Rattle.removal.proofs.Parts.{zeros-joined}
-use Rattle.removal.proofs.Expirations.{staying, leaving}
+use Rattle.removal.proofs.LentParts.{zeros-joined}
+use Rattle.removal.proofs.StayingSeries.{staying, leaving}
 use Rattle.removal.proofs.Kept.{Leaves, compacted-series}
 use Rattle.removal.proofs.Reviewed.{review-leaves, review-removes}
 
@@ -44,18 +45,18 @@ module _
       let d = zeros ws t s in
       let before = length-map old packed in
       let after = length-map new packed in
-      let long : used f ≡ suc (length a + (length b + length c)) =
-      ap suc (ap length (s .was) ∙ simp (length-append, length-map)) in
+      let long : used f ≡ firstPlace + (length a + (length b + length c)) =
+      ap (λ (n : ℕ). firstPlace + n) (ap length (s .was) ∙ simp (length-append, length-map)) in
       let P : Parted ws from to (used f) (packed (Head (f .now) (used f))) a b c d =
       record {
         whole = run-was ws t s;
-        first = first ∙ place-is ws t s;
+        first = omega (arith, place-is ws t s);
         last = omega arith;
         used = omega (arith, place-is ws t s);
       } in
       let Q = R (packed (Head (f .now) (used f))) a b c d P in
       let fewer : length k ≤ length b = rw (← L .words) (Q .fewer) in
-      let count : suc (length a + (length k + length c)) ≡ used g = omega (arith, used-spliced s) in
+      let count : firstPlace + (length a + (length k + length c)) ≡ used g = omega (arith, used-spliced s) in
       let freed =
       zeros-joined (length b - length k) (length ws - used f) (length ws - used g)
       (omega (arith, used-spliced s, book-room ws t)) in (

@@ -1,4 +1,5 @@
--- The steps of a compaction write no more than is read, and the loop of them gives the compacted words: each step by kind, the loop by the law of moving. Assumes nothing.
+-- The steps of a compaction write no more than is read, and the loop of them gives the compacted words: each step by
+-- kind, the loop by the law of moving. Assumes nothing.
 use Prim.Native.Nat.{ℕ, _+_, _-_, _≤_, _<_}
 use mathlib.Core.Path.{_≡_, refl, ap}
 use mathlib.Core.Bool.{Bool, cond}
@@ -8,13 +9,15 @@ use lib.Dec.{eqb}
 use lib.ListN.{length, getD, take, drop, replicate}
 use lib.Seq.{sets, length-take-le}
 use borrow.Rule.Slice.PartMut.{putMid}
-use Rattle.word.specs.Kinds.{kindOf}
+use Rattle.word.specs.Field.{field}
+use Rattle.word.specs.Kinds.{kindOf, keyOf, expirationKind, strikeKind, groundField, putField, callField}
+use Rattle.word.specs.Codec.{Word}
 use Rattle.removal.specs.declared.compaction.CompactionState.{CompactionState}
 use Rattle.removal.specs.declared.compaction.Step.{Step}
-use Rattle.removal.specs.Runs.{Pass}
+use Rattle.removal.specs.Rewriting.{Pass}
 use Rattle.removal.specs.Marks.{said}
-use Rattle.removal.specs.Compaction.{stays, expirationStep, strikeStep, reviewedStep, otherStep, stepAt, stepWords, ran, beginning, compacted, Compacted}
-use Rattle.removal.proofs.Said.{choose, by-other, by-each}
+use Rattle.removal.specs.Compaction.{stays, expirationStep, strikeStep, reviewedStep, otherStep, stepOf, stepAt, stepWords, ran, beginning, compacted, Compacted}
+use Rattle.removal.proofs.Said.{choose, said-is, by-other, by-each}
 use Rattle.removal.proofs.Moving.{Moving, move-start, move-more, move-done, move-count, move-zeroed}
 
 -- an expiration that waits has left room for its word
@@ -50,9 +53,22 @@ sound-step close k w ws =
     (record { two = omega arith; room = omega arith; one = omega arith })
     (said w)
 
+pub step-strike :
+    (close : ℕ) (k : CompactionState) (w : ℕ) (ws : List ℕ) → kindOf w ≡ strikeKind .number
+    → stepAt close k w ws
+    ≡ reviewedStep close k w (keyOf strikeKind w) (field w groundField) (field w putField) (field w callField)
+unfolding stepAt
+step-strike close k w ws e = ap (λ (x : Word). stepOf close k x w ws) (said-is w (strikeKind .number) e)
+
+pub step-expiration :
+    (close : ℕ) (k : CompactionState) (w : ℕ) (ws : List ℕ) → kindOf w ≡ expirationKind .number
+    → stepAt close k w ws ≡ expirationStep k w ws
+unfolding stepAt
+step-expiration close k w ws e = ap (λ (x : Word). stepOf close k x w ws) (said-is w (expirationKind .number) e)
+
 pub step-other :
-    (close : ℕ) (k : CompactionState) (w : ℕ) (ws : List ℕ) → (kindOf w ≡ strikeKind .number → ⊥) → (kindOf w ≡ expirationKind .number → ⊥)
-    → stepAt close k w ws ≡ otherStep k w
+    (close : ℕ) (k : CompactionState) (w : ℕ) (ws : List ℕ) → (kindOf w ≡ strikeKind .number → ⊥)
+    → (kindOf w ≡ expirationKind .number → ⊥) → stepAt close k w ws ≡ otherStep k w
 unfolding stepAt
 step-other close k w ws n m =
     by-other (expirationStep k w ws) (reviewedStep close k w) (otherStep k w) w n (λ e. absurd (m e))

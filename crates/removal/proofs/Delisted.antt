@@ -9,6 +9,8 @@ use lib.Dec.{T}
 use lib.ListN.{length, set, replicate, length-append, length-map}
 use lib.Seq.{drop-at}
 use borrow.Rule.Slice.PartMut.{midOf, putMid}
+use Rattle.word.specs.Limits.{lastMonth, longestRun}
+use Rattle.word.specs.Head.{firstPlace}
 use Rattle.word.specs.Codec.{Word, Head, packed}
 use Rattle.book.specs.Facts.{Facts}
 use Rattle.book.specs.Layout.{strikeWord, expirationUnless, used, layout, factsOf}
@@ -19,9 +21,9 @@ use Rattle.book.proofs.Splices.{Spliced, used-spliced, place-inside, delisting}
 use Rattle.book.proofs.SplicedRuns.{front, back, zeros, place-is, run-was, run-is}
 use Rattle.book.proofs.Runs.{standing-within}
 use Rattle.place.proofs.Heads.{book-good, book-room, book-long, book-month}
-use Rattle.removal.specs.Runs.{closed}
+use Rattle.removal.specs.Rewriting.{closed}
 use Rattle.removal.specs.Asked.{Delistable}
-use Rattle.removal.proofs.Parts.{zeros-joined, part-is, put-part}
+use Rattle.removal.proofs.LentParts.{zeros-joined, part-is, put-part}
 
 -- ---- k words less from `at` on
 
@@ -87,11 +89,11 @@ module _
 
 -- the numbers that delisting reckons with: `end` of a run's `long` words are used, and the strike's is one of them
 pub record Reckoned (at end month long : ℕ) : Type 0 where
-  pub after : 2 ≤ at
+  pub after : firstPlace < at
   pub inside : at < end
   pub room : end ≤ long
-  pub short : long ≤ 65535
-  pub current : month ≤ 1023
+  pub short : long ≤ longestRun
+  pub current : month ≤ lastMonth
 
 module _
     (ws : List ℕ) (at : ℕ) (alone : Bool) (x : Delistable ws at alone) (end month : ℕ)
@@ -113,18 +115,17 @@ module _
 
   -- the strike's word taken out, and its expiration's where it is alone behind that
   pub delisted :
-      (b : Bool) → alone ≡ b → (from head : ℕ) (part : List ℕ) → from ≡ at - cond {A = ℕ} b 1 0
+      (b : Bool) → alone ≡ b → (from : ℕ) (part : List ℕ) → from ≡ at - cond {A = ℕ} b 1 0
       → part ≡ closed (cond {A = ℕ} b 2 1) (midOf from (end - from) ws)
-      → head ≡ packed (Head month (end - cond {A = ℕ} b 2 1))
-      → set (putMid from (end - from) ws part) 0 head
+      → set (putMid from (end - from) ws part) 0 (packed (Head month (end - cond {A = ℕ} b 2 1)))
       ≡ layout (length ws) (update (strikeRemoved (x .month) (x .strike) (class (factsOf ws) (x .class))) (factsOf ws))
-  delisted b is from head part place moved counted =
+  delisted b is from part place moved =
       let d =
       delisting (length ws) (factsOf ws) (x .class) good (x .is-open) (x .month) (x .strike) b (x .standing)
       (sym is ∙ x .last) in
       let k = cond {A = ℕ} b 2 1 in
       let e = place ∙ ap (λ (i : ℕ). i - cond {A = ℕ} b 1 0) (x .place) in
-      (λ i. set (putMid from (end - from) ws (moved i)) 0 (counted i))
+      (λ i. set (putMid from (end - from) ws (moved i)) 0 (packed (Head month (end - k))))
       ∙ (λ i.
       set (putMid (e i) (all i - e i) ws (closed k (midOf (e i) (all i - e i) ws))) 0
       (packed (Head (now i) (all i - k))))

@@ -1,4 +1,5 @@
--- The words of a class whose earlier months go: its three words and those of the months from m on, where the search for what stays and the search for the next class stop. Assumes nothing.
+-- The words of a class whose earlier months go: those of its figures and of the months from m on, where the search for
+-- what stays and the search for the next class stop. Assumes nothing.
 use Prim.Native.Nat.{ℕ, _^_, _<_}
 use mathlib.Core.Path.{_≡_, refl, sym, ap, _∙_, subst}
 use mathlib.Core.Bool.{Bool, not}
@@ -7,6 +8,7 @@ use native.Mathlib.Omega.{arith}
 use lib.ListN.{length}
 use lib.Dec.{T, leb, ltb→lt, leb·zero, eqb·zero-suc}
 use borrow.Author.Tests.{lt-leb}
+use Rattle.word.specs.Kinds.{kindField, classKind, expirationKind}
 use Rattle.word.specs.Codec.{Word, isLegal, packed}
 use Rattle.logic.specs.Lists.{every, only}
 use Rattle.book.specs.Facts.{Series, inMonth, OpenClass, number, withSeries}
@@ -26,14 +28,20 @@ use Rattle.place.proofs.Laid.{first-after, every-series, not-from}
 
 -- ---- the search for the next class
 
+-- a class word, or one of a lower kind
+abbrev isClassWord : Word → Bool
+isClassWord w = isEnding (classKind .number) 0 w
+
 next-class :
     (ss : List Series) (xs : List OpenClass) → T (every isLegal (seriesWords 0 ss [] ++ classesWords xs []))
-    → firstAt (isUpTo classKind 0) (map packed (seriesWords 0 ss [] ++ classesWords xs [])) ≡ length (seriesWords 0 ss [])
+    → firstAt (isUpTo classKind 0) (map packed (seriesWords 0 ss [] ++ classesWords xs []))
+    ≡ length (seriesWords 0 ss [])
 next-class ss xs legal =
-    first-after (isUpTo classKind 0) (isEnding (classKind .number) 0) (up-to-packed (classKind .number) 0 (omega arith) (omega arith)) (seriesWords 0 ss [])
-    (classesWords xs []) legal (every-series (λ w. not (isEnding (classKind .number) 0 w)) 0 ss [] (every-true ss) tt) (stops xs)
+    first-after (isUpTo classKind 0) isClassWord (up-to-packed (classKind .number) 0 (omega arith) (omega arith))
+    (seriesWords 0 ss []) (classesWords xs []) legal
+    (every-series (λ w. not (isClassWord w)) 0 ss [] (every-true ss) tt) (stops xs)
   where
-    stops : (ys : List OpenClass) → firstAt (isEnding (classKind .number) 0) (classesWords ys []) ≡ 0
+    stops : (ys : List OpenClass) → firstAt isClassWord (classesWords ys []) ≡ 0
     stops [] = refl
     stops (y ∷ ys) = rw (leb·zero (number y))
 
@@ -48,7 +56,8 @@ module _ (m : ℕ) where
 
   -- series of earlier months, then others
   later-after :
-      (earlier ss : List Series) → T (every (isUnder monthOf m) earlier) → T (every isLater ss) → later (earlier ++ ss) ≡ ss
+      (earlier ss : List Series) → T (every (isUnder monthOf m) earlier) → T (every isLater ss)
+      → later (earlier ++ ss) ≡ ss
   later-after [] [] t u = refl
   later-after [] (s ∷ ss) t u =
       rw (T-true (isLater s) (search ands)) (ap (λ (l : List Series). s ∷ l) (later-after [] ss tt (search ands)))
@@ -62,22 +71,28 @@ module _ (m : ℕ) where
       let here = inMonth m ss in
       let after = only (isOver monthOf m) ss in
       let parts = month-parts now m ss good in
-      let from = not-under monthOf m here after (every-kept (isEqual monthOf m) ss) (every-kept (isOver monthOf m) ss) in
+      let from =
+      not-under monthOf m here after (every-kept (isEqual monthOf m) ss) (every-kept (isOver monthOf m) ss) in
       parts
       ∙ ap (λ (l : List Series). earlier ++ l)
       (sym (ap later parts ∙ later-after earlier (here ++ after) (every-kept (isUnder monthOf m) ss) from))
 
   -- ---- the search for what stays
 
+  -- the word of an expiration from m on, or one of a lower kind
+  abbrev isLaterWord : Word → Bool
+  isLaterWord w = isEnding (expirationKind .number) m w
+
   passes-earlier :
-      (ss : List Series) → T (every (isUnder monthOf m) ss) → T (every (λ w. not (isEnding (expirationKind .number) m w)) (seriesWords 0 ss []))
+      (ss : List Series) → T (every (isUnder monthOf m) ss)
+      → T (every (λ w. not (isLaterWord w)) (seriesWords 0 ss []))
   passes-earlier ss t =
-      every-series (λ w. not (isEnding (expirationKind .number) m w)) 0 ss []
+      every-series (λ w. not (isLaterWord w)) 0 ss []
       (every-imply (isUnder monthOf m) (λ s. not (leb m (s .month))) (λ s u. not-from (s .month) m u) ss t) tt
 
   stops-later :
       (ss : List Series) (xs : List OpenClass) → T (every isLater ss)
-      → firstAt (isEnding (expirationKind .number) m) (seriesWords 0 ss (classesWords xs [])) ≡ 0
+      → firstAt isLaterWord (seriesWords 0 ss (classesWords xs [])) ≡ 0
   stops-later [] [] t = refl
   stops-later [] (x ∷ xs) t = refl
   stops-later (s ∷ ss) xs t = rw (eqb·zero-suc (s .month), T-true (isLater s) (search ands))
@@ -99,7 +114,8 @@ module _ (m : ℕ) where
     pub next : firstAt (isUpTo classKind 0) (map packed (staying ++ classesWords xs [])) ≡ length staying
 
   pub class-parts :
-      m < 2 ^ 28 → (now : ℕ) (x : OpenClass) (xs : List OpenClass) → T (every (isClass now) (x ∷ xs)) → ClassParts x xs
+      m < 2 ^ kindField .low → (now : ℕ) (x : OpenClass) (xs : List OpenClass) → T (every (isClass now) (x ∷ xs))
+      → ClassParts x xs
   class-parts small now x xs good =
       let ss = x .series in
       let rest = classesWords xs [] in
@@ -125,9 +141,11 @@ module _ (m : ℕ) where
         staying = staying;
         are = are;
         left =
-            ap (λ (l : List Word). figures ++ l) (seriesWords-append 0 (later ss) [] (classesWords (map keptFrom xs) []));
+            ap (λ (l : List Word). figures ++ l)
+            (seriesWords-append 0 (later ss) [] (classesWords (map keptFrom xs) []));
         stays =
-            first-after (isUpTo expirationKind m) (isEnding (expirationKind .number) m) (up-to-packed (expirationKind .number) m small (omega arith)) going (staying ++ rest)
-            legal (passes-earlier earlier before) (ap (firstAt (isEnding (expirationKind .number) m)) (sym apart) ∙ stops-later (later ss) xs kept);
+            first-after (isUpTo expirationKind m) isLaterWord
+            (up-to-packed (expirationKind .number) m small (omega arith)) going (staying ++ rest) legal
+            (passes-earlier earlier before) (ap (firstAt isLaterWord) (sym apart) ∙ stops-later (later ss) xs kept);
         next = next-class (later ss) xs (every-split isLegal going (staying ++ rest) legal .1);
       }

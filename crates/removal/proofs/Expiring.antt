@@ -1,12 +1,16 @@
--- The loop of an expiry, class by class: what is written, what is still to be moved and what the classes ahead will leave are together the words that stay. Assumes nothing.
+-- The loop of an expiry, class by class: what is written, what is still to be moved and what the classes ahead will
+-- leave are together the words that stay. Assumes nothing.
 use Prim.Native.Nat.{ℕ, suc, _+_, _-_, _^_, _≤_, _<_}
 use mathlib.Core.Path.{_≡_, refl, sym, ap, _∙_}
+use mathlib.Core.Bool.{Bool}
 use mathlib.Core.List.{List, [], _∷_, _++_, map, map-append, append-assoc, append-nil}
 use native.Mathlib.Omega.{arith}
 use lib.Dec.{T}
 use lib.ListN.{length, take, drop, set, replicate, length-append, length-map}
 use lib.Seq.{drop-drop, drop-at, length-take-le}
 use borrow.Rule.Slice.PartMut.{putMid, mid-len}
+use Rattle.word.specs.Kinds.{kindField, classKind, expirationKind}
+use Rattle.word.specs.Head.{firstPlace}
 use Rattle.word.specs.Codec.{Word, Head, packed}
 use Rattle.logic.specs.Lists.{every}
 use Rattle.book.specs.Facts.{OpenClass, Facts}
@@ -20,8 +24,8 @@ use Rattle.place.specs.Search.{firstAt, isUpTo}
 use Rattle.place.proofs.Heads.{book-form, book-is, book-room}
 use Rattle.place.proofs.Found.{body}
 use Rattle.removal.specs.Expiry.{MovedTo}
-use Rattle.removal.proofs.Parts.{zeros-joined}
-use Rattle.removal.proofs.Stretches.{stretch, drop-later, stretch-parts, stretch-known}
+use Rattle.removal.proofs.LentParts.{zeros-joined}
+use Rattle.removal.proofs.MovedStretches.{stretch, drop-later, stretch-parts, stretch-known}
 use Rattle.removal.proofs.Expired.{keptFrom, class-parts}
 
 module _ (m : ℕ) (ws : List ℕ) where
@@ -36,9 +40,20 @@ module _ (m : ℕ) (ws : List ℕ) where
   abbrev whole : List ℕ
   whole = packed (Head (facts .now) (used facts)) ∷ left (facts .classes)
 
+  -- the index after the figures of a class
+  abbrev listed : ℕ → ℕ
+  listed at = at + figuresLength
+
+  -- by these tests what stays of a class is sought, and then the next class
+  abbrev isStaying : ℕ → Bool
+  isStaying w = isUpTo expirationKind m w
+
+  abbrev isNext : ℕ → Bool
+  isNext w = isUpTo classKind 0 w
+
   pub record Expiring (run : List ℕ) (written kept at : ℕ) : Type 0 where
     pub long : length run ≡ length ws
-    pub begun : 1 ≤ written
+    pub begun : firstPlace ≤ written
     pub behind : written ≤ kept
     pub passed : kept ≤ at
     pub within : at ≤ used facts
@@ -49,11 +64,11 @@ module _ (m : ℕ) (ws : List ℕ) where
     pub ahead : stretch at (used facts) ws ≡ map packed (classesWords classes [])
     pub made : take written run ++ (stretch kept at ws ++ left classes) ≡ whole
 
-  pub expire-start : T (isBook ws) → Expiring ws 1 1 1
+  pub expire-start : T (isBook ws) → Expiring ws firstPlace firstPlace firstPlace
   expire-start book =
       let words = classesWords (facts .classes) [] in
-      let first : take 1 ws ≡ packed (Head (facts .now) (used facts)) ∷ [] =
-      ap (take 1)
+      let first : take firstPlace ws ≡ packed (Head (facts .now) (used facts)) ∷ [] =
+      ap (take firstPlace)
       (sym (book-is ws book)
       ∙ run-parts (length ws) facts (Head (facts .now) (used facts) ∷ []) words []
       (ap (λ (l : List Word). Head (facts .now) (used facts) ∷ l) (sym (append-nil words)))) in
@@ -75,18 +90,20 @@ module _ (m : ℕ) (ws : List ℕ) where
 
   -- the words of the class at `at`, by what goes and what stays, and those of the classes after it
   pub record AtClass (run : List ℕ) (written kept at : ℕ) : Type 0 where
-    pub three : at + figuresLength ≤ used facts
+    pub room : listed at ≤ used facts
     pub going : List Word
     pub staying : List Word
     pub after : List OpenClass
     pub good : T (every (isClass (facts .now)) after)
-    pub words : stretch (at + figuresLength) (used facts) ws ≡ map packed going ++ (map packed staying ++ map packed (classesWords after []))
-    pub stays : firstAt (isUpTo expirationKind m) (stretch (at + figuresLength) (used facts) ws) ≡ length going
-    pub next : firstAt (isUpTo classKind 0) (map packed staying ++ map packed (classesWords after [])) ≡ length staying
-    pub made : take written run ++ (stretch kept (at + figuresLength) ws ++ (map packed staying ++ left after)) ≡ whole
+    pub words :
+        stretch (listed at) (used facts) ws
+        ≡ map packed going ++ (map packed staying ++ map packed (classesWords after []))
+    pub stays : firstAt isStaying (stretch (listed at) (used facts) ws) ≡ length going
+    pub next : firstAt isNext (map packed staying ++ map packed (classesWords after [])) ≡ length staying
+    pub made : take written run ++ (stretch kept (listed at) ws ++ (map packed staying ++ left after)) ≡ whole
 
   module _ {run : List ℕ} {written kept at : ℕ} (E : Expiring run written kept at) where
-    pub at-class : m < 2 ^ 28 → at < used facts → AtClass run written kept at
+    pub at-class : m < 2 ^ kindField .low → at < used facts → AtClass run written kept at
     at-class small l = go (E .classes) (E .good) (E .ahead) (E .made)
       where
         go :
@@ -100,7 +117,7 @@ module _ (m : ℕ) (ws : List ℕ) where
             let rest = p .going ++ (p .staying ++ classesWords xs []) in
             let words : stretch at (used facts) ws ≡ map packed figures ++ map packed rest =
             ahead ∙ ap (map packed) (p .are) ∙ map-append packed figures rest in
-            let three : at + figuresLength ≤ used facts =
+            let room : listed at ≤ used facts =
             omega (
               arith,
               mid-len at (used facts) ws (E .room),
@@ -108,75 +125,81 @@ module _ (m : ℕ) (ws : List ℕ) where
               length-append (map packed figures) (map packed rest),
             ) in
             let known =
-            stretch-known at (at + figuresLength) (used facts) ws (omega arith) three (E .room) (map packed figures) (map packed rest) words
-            (omega arith) in
-            let apart : map packed rest ≡ map packed (p .going) ++ (map packed (p .staying) ++ map packed (classesWords xs [])) =
+            stretch-known at (listed at) (used facts) ws (omega arith) room (E .room) (map packed figures)
+            (map packed rest) words (omega arith) in
+            let apart :
+            map packed rest
+            ≡ map packed (p .going) ++ (map packed (p .staying) ++ map packed (classesWords xs [])) =
             simp map-append in
             record {
-              three = three;
+              room = room;
               going = p .going;
               staying = p .staying;
               after = xs;
               good = search ands;
               words = known .1 ∙ apart;
-              stays = ap (firstAt (isUpTo expirationKind m)) (known .1) ∙ p .stays;
+              stays = ap (firstAt isStaying) (known .1) ∙ p .stays;
               next =
-                  ap (firstAt (isUpTo classKind 0)) (sym (map-append packed (p .staying) (classesWords xs []))) ∙ p .next;
+                  ap (firstAt isNext) (sym (map-append packed (p .staying) (classesWords xs []))) ∙ p .next;
               made =
                   ap (λ (l : List ℕ). take written run ++ (l ++ (map packed (p .staying) ++ left xs)))
-                  (stretch-parts kept at (at + figuresLength) ws (E .passed) (omega arith)
+                  (stretch-parts kept at (listed at) ws (E .passed) (omega arith)
                   ∙ ap (λ (l : List ℕ). stretch kept at ws ++ l) (known .0))
-                  ∙ regroup (take written run) (stretch kept at ws) figures (p .staying) (classesWords (map (keptFrom m) xs) [])
+                  ∙ regroup (take written run) (stretch kept at ws) figures (p .staying)
+                  (classesWords (map (keptFrom m) xs) [])
                   ∙ ap (λ (l : List Word). take written run ++ (stretch kept at ws ++ map packed l)) (sym (p .left))
                   ∙ made;
             }
           where
             regroup :
                 (a b : List ℕ) (f s r : List Word)
-                → a ++ ((b ++ map packed f) ++ (map packed s ++ map packed r)) ≡ a ++ (b ++ map packed (f ++ (s ++ r)))
+                → a ++ ((b ++ map packed f) ++ (map packed s ++ map packed r))
+                ≡ a ++ (b ++ map packed (f ++ (s ++ r)))
             regroup a b f s r = simp (map-append, append-assoc)
 
     -- where what stays begins
     module _
         (C : AtClass run written kept at) (stays : ℕ)
-        (e : stays ≡ at + figuresLength + firstAt (isUpTo expirationKind m) (stretch (at + figuresLength) (used facts) run)) where
-      there : stays ≡ at + figuresLength + length (C .going)
+        (e : stays ≡ listed at + firstAt isStaying (stretch (listed at) (used facts) run)) where
+      there : stays ≡ listed at + length (C .going)
       there =
           let l = E .passed in
           e
-          ∙ ap (λ (l : List ℕ). at + figuresLength + firstAt (isUpTo expirationKind m) (take (used facts - (at + figuresLength)) l))
-          (drop-later kept (at + figuresLength) run ws (omega arith) (E .unread))
-          ∙ ap (λ (k : ℕ). at + figuresLength + k) (C .stays)
+          ∙ ap (λ (l : List ℕ). listed at + firstAt isStaying (take (used facts - listed at) l))
+          (drop-later kept (listed at) run ws (omega arith) (E .unread))
+          ∙ ap (λ (k : ℕ). listed at + k) (C .stays)
 
       -- the turn is done: what is written now, and what is still to be moved
       expire-next :
-          (run′ : List ℕ) (written′ kept′ next : ℕ) → length run′ ≡ length ws → 1 ≤ written′ → written′ ≤ kept′
+          (run′ : List ℕ) (written′ kept′ next : ℕ) → length run′ ≡ length ws → firstPlace ≤ written′ → written′ ≤ kept′
           → kept′ ≤ stays → drop kept′ run′ ≡ drop kept′ ws
-          → take written′ run′ ++ stretch kept′ stays ws ≡ take written run ++ stretch kept (at + figuresLength) ws
-          → next ≡ stays + firstAt (isUpTo classKind 0) (stretch stays (used facts) run′)
+          → take written′ run′ ++ stretch kept′ stays ws ≡ take written run ++ stretch kept (listed at) ws
+          → next ≡ stays + firstAt isNext (stretch stays (used facts) run′)
           → Expiring run′ written′ kept′ next
       expire-next run′ written′ kept′ next long begun behind passed unread same n =
           let staying = map packed (C .staying) in
           let rest = map packed (classesWords (C .after) []) in
-          let parts : length (stretch (at + figuresLength) (used facts) ws) ≡ length (C .going) + (length (C .staying) + length rest) =
+          let parts :
+          length (stretch (listed at) (used facts) ws)
+          ≡ length (C .going) + (length (C .staying) + length rest) =
           ap length (C .words) ∙ simp (length-append, length-map) in
-          let size : length (stretch (at + figuresLength) (used facts) ws) ≡ used facts - (at + figuresLength) =
-          mid-len (at + figuresLength) (used facts) ws (E .room) in
-          let three = C .three in
+          let size : length (stretch (listed at) (used facts) ws) ≡ used facts - listed at =
+          mid-len (listed at) (used facts) ws (E .room) in
+          let room = C .room in
           let gone = length-map (C .going) packed in
           let stood = length-map (C .staying) packed in
           let from-stays =
-          stretch-known (at + figuresLength) stays (used facts) ws (omega (arith, there)) (omega (arith, there)) (E .room)
+          stretch-known (listed at) stays (used facts) ws (omega (arith, there)) (omega (arith, there)) (E .room)
           (map packed (C .going)) (staying ++ rest) (C .words) (omega (arith, there)) .1 in
           let to : next ≡ stays + length (C .staying) =
           n
-          ∙ ap (λ (l : List ℕ). stays + firstAt (isUpTo classKind 0) (take (used facts - stays) l))
+          ∙ ap (λ (l : List ℕ). stays + firstAt isNext (take (used facts - stays) l))
           (drop-later kept′ stays run′ ws passed unread)
-          ∙ ap (λ (l : List ℕ). stays + firstAt (isUpTo classKind 0) l) from-stays
+          ∙ ap (λ (l : List ℕ). stays + firstAt isNext l) from-stays
           ∙ ap (λ (k : ℕ). stays + k) (C .next) in
           let known =
-          stretch-known stays next (used facts) ws (omega arith) (omega (arith, there)) (E .room) staying rest from-stays
-          (omega arith) in
+          stretch-known stays next (used facts) ws (omega arith) (omega (arith, there)) (E .room) staying rest
+          from-stays (omega arith) in
           record {
             long = long;
             begun = begun;
@@ -194,7 +217,7 @@ module _ (m : ℕ) (ws : List ℕ) where
                 ∙ ap (λ (l : List ℕ). stretch kept′ stays ws ++ l) (known .0))
                 ∙ regroup (take written′ run′) (stretch kept′ stays ws) staying (left (C .after))
                 ∙ ap (λ (l : List ℕ). l ++ (staying ++ left (C .after))) same
-                ∙ append-assoc (take written run) (stretch kept (at + figuresLength) ws) (staying ++ left (C .after))
+                ∙ append-assoc (take written run) (stretch kept (listed at) ws) (staying ++ left (C .after))
                 ∙ C .made;
           }
         where
@@ -203,19 +226,19 @@ module _ (m : ℕ) (ws : List ℕ) where
 
       -- no month goes
       pub expire-stay :
-          (next : ℕ) → stays ≤ at + figuresLength → next ≡ stays + firstAt (isUpTo classKind 0) (stretch stays (used facts) run)
+          (next : ℕ) → stays ≤ listed at → next ≡ stays + firstAt isNext (stretch stays (used facts) run)
           → Expiring run written kept next
       expire-stay next l n =
           let p = E .passed in
-          let q : stays ≡ at + figuresLength = omega (arith, there) in
+          let q : stays ≡ listed at = omega (arith, there) in
           expire-next run written kept next (E .long) (E .begun) (E .behind) (omega arith) (E .unread)
           (ap (λ (k : ℕ). take written run ++ stretch kept k ws) q) n
 
       -- the words before those that go are moved
       pub expire-move :
           (run′ : List ℕ) (written′ next : ℕ) → length run′ ≡ length run → stays ≤ used facts
-          → MovedTo written kept (at + figuresLength) run run′ → written′ ≡ written + (at + figuresLength - kept)
-          → next ≡ stays + firstAt (isUpTo classKind 0) (stretch stays (used facts) run′)
+          → MovedTo written kept (listed at) run run′ → written′ ≡ written + (listed at - kept)
+          → next ≡ stays + firstAt isNext (stretch stays (used facts) run′)
           → Expiring run′ written′ stays next
       expire-move run′ written′ next long l M w n =
           let p = E .passed in
@@ -223,13 +246,13 @@ module _ (m : ℕ) (ws : List ℕ) where
           let d = E .behind in
           let none : stays - stays ≡ 0 = omega arith in
           expire-next run′ written′ stays next (long ∙ E .long) (omega arith) (omega (arith, there)) (omega arith)
-          (drop-later (at + figuresLength) stays run′ ws (omega (arith, there))
-          (M .past ∙ drop-later kept (at + figuresLength) run ws (omega arith) (E .unread)))
+          (drop-later (listed at) stays run′ ws (omega (arith, there))
+          (M .past ∙ drop-later kept (listed at) run ws (omega arith) (E .unread)))
           (ap (λ (k : ℕ). take written′ run′ ++ take k (drop stays ws)) none
           ∙ append-nil (take written′ run′)
           ∙ ap (λ (k : ℕ). take k run′) w
           ∙ M .front
-          ∙ ap (λ (l : List ℕ). take written run ++ take (at + figuresLength - kept) l) (E .unread))
+          ∙ ap (λ (l : List ℕ). take written run ++ take (listed at - kept) l) (E .unread))
           n
 
     -- ---- no class is left
@@ -240,15 +263,15 @@ module _ (m : ℕ) (ws : List ℕ) where
 
     -- what is left is moved, the words after it are zeroed, and the head is written
     pub expire-done :
-        T (isBook ws) → used facts ≤ at → (run′ : List ℕ) (r : ℕ) → length run′ ≡ length run
-        → MovedTo written kept (used facts) run run′ → r ≡ written + (used facts - kept)
-        → (zs : List ℕ) → zs ≡ replicate (length (stretch r (used facts) run′)) 0
-        → set (putMid r (used facts - r) run′ zs) 0 (packed (Head m r)) ≡ layout (length ws) (monthSet m facts)
+        T (isBook ws) → (end : ℕ) → end ≡ used facts → end ≤ at → (run′ : List ℕ) (r : ℕ) → length run′ ≡ length run
+        → MovedTo written kept end run run′ → r ≡ written + (end - kept) → (zs : List ℕ)
+        → zs ≡ replicate (length (stretch r end run′)) 0
+        → set (putMid r (end - r) run′ zs) 0 (packed (Head m r)) ≡ layout (length ws) (monthSet m facts)
     unfolding monthSet layout
-    expire-done book l run′ r long M count zs z =
+    expire-done book end e l run′ r long M count zs z =
         let n = length ws in
-        let end = used facts in
         let g = monthSet m facts in
+        let words = Head (facts .now) (used facts) ∷ classesWords (facts .classes) [] in
         let passed = E .passed in
         let within = E .within in
         let behind = E .behind in
@@ -258,7 +281,7 @@ module _ (m : ℕ) (ws : List ℕ) where
         let empty : length (classesWords (E .classes) []) ≡ 0 =
         omega (
           arith,
-          mid-len at end ws room,
+          mid-len at (used facts) ws room,
           ap length (E .ahead),
           length-map (classesWords (E .classes) []) packed,
         ) in
@@ -273,18 +296,18 @@ module _ (m : ℕ) (ws : List ℕ) where
         let all : r ≡ used g =
         sym (length-take-le r run′ (omega arith))
         ∙ ap length front
-        ∙ ap suc (length-map (classesWords (g .classes) []) packed) in
-        let past : drop end run′ ≡ replicate (n - end) 0 =
+        ∙ ap suc (length-map (classesWords (g .classes) []) packed)
+        ∙ omega arith in
+        let past : drop end run′ ≡ replicate (n - used facts) 0 =
         M .past
         ∙ drop-later kept end run ws (omega arith) (E .unread)
         ∙ ap (drop end) (sym (book-is ws book))
-        ∙ drop-at (map packed (Head (facts .now) end ∷ classesWords (facts .classes) [])) (replicate (n - end) 0) end
-        (length-map (Head (facts .now) end ∷ classesWords (facts .classes) []) packed) in
+        ∙ drop-at (map packed words) (replicate (n - used facts) 0) end (length-map words packed ∙ omega arith) in
         let to : r + (end - r) ≡ end = omega arith in
-        let rest : drop (end - r) (drop r run′) ≡ replicate (n - end) 0 =
+        let rest : drop (end - r) (drop r run′) ≡ replicate (n - used facts) 0 =
         drop-drop (end - r) r run′ ∙ ap (λ (k : ℕ). drop k run′) to ∙ past in
         let zeros : zs ≡ replicate (end - r) 0 =
         z ∙ ap (λ (k : ℕ). replicate k 0) (mid-len r end run′ (omega arith)) in
-        let freed = zeros-joined (end - r) (n - end) (n - used g) (omega arith) in
+        let freed = zeros-joined (end - r) (n - used facts) (n - used g) (omega arith) in
         (λ i. set (front i ++ (zeros i ++ rest i)) 0 (packed (Head m (all i))))
         ∙ ap (λ (l : List ℕ). packed (Head m (used g)) ∷ (left (facts .classes) ++ l)) freed

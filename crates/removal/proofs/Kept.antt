@@ -1,4 +1,5 @@
--- A compaction of the words of series leaves the words of those that stay: by induction on the series, where p is the month read last and q the month written last. Assumes nothing.
+-- A compaction of the words of series leaves the words of those that stay: by induction on the series, where p is the
+-- month read last and q the month written last. Assumes nothing.
 use Prim.Native.Nat.{ℕ, suc, _+_, _≤_}
 use mathlib.Core.Path.{_≡_, refl, sym, ap, _∙_, subst}
 use mathlib.Core.Bool.{Bool, true, false, cond, not}
@@ -16,11 +17,11 @@ use Rattle.book.proofs.Forms.{areSeries}
 use Rattle.removal.specs.declared.marks.Bounds.{Bounds}
 use Rattle.removal.specs.declared.compaction.CompactionState.{CompactionState}
 use Rattle.removal.specs.declared.compaction.Step.{Step}
-use Rattle.removal.specs.Runs.{run}
+use Rattle.removal.specs.Rewriting.{run}
 use Rattle.removal.specs.Marks.{said, noneMarked, boundsIn}
 use Rattle.removal.specs.Compaction.{progress, writing, settled, expirationStep, strikeStep, otherStep, stepOf, stepAt, stepWords, beginning}
-use Rattle.removal.proofs.Steps.{stepping}
-use Rattle.removal.proofs.Expirations.{markedIn, widenedBy, boundsAmong, staysBy, staysAmong, staying, leaving, AllPlaced, placed-again, unmet, placed, look-series}
+use Rattle.removal.proofs.CompactionSteps.{stepping}
+use Rattle.removal.proofs.StayingSeries.{markedIn, widenedBy, boundsAmong, staysBy, staysAmong, staying, leaving, AllPlaced, placed-again, unmet, placed, look-series}
 
 -- ---- one word more
 
@@ -48,7 +49,8 @@ module _ (close : ℕ) where
       }
 
   leaves-expiration :
-      (k : CompactionState) (month : ℕ) (ws left : List Word) (n : ℕ) → said (packed (Expiration month)) ≡ Expiration month
+      (k : CompactionState) (month : ℕ) (ws left : List Word) (n : ℕ)
+      → said (packed (Expiration month)) ≡ Expiration month
       → Leaves (expirationStep k (packed (Expiration month)) (map packed ws) .progress) ws left n
       → Leaves k (Expiration month ∷ ws) left n
   unfolding stepWords
@@ -79,8 +81,8 @@ module _ (close : ℕ) where
         let d = packed (Expiration (s .month)) in
         let k = progress d b r in
         let z : eqb d 0 ≡ false = ne-eqb d 0 (λ q. omega arith) in
-        leaves-step k (strikeWord s) ws left (Expiration (s .month) ∷ strikeWord s ∷ left) n n (writing (settled k) 2 d w)
-        said-so
+        leaves-step k (strikeWord s) ws left (Expiration (s .month) ∷ strikeWord s ∷ left) n n
+        (writing (settled k) 2 d w) said-so
         (ap (λ (t : Bool). strikeStep t k w) e
         ∙ ap (λ (t : Bool). cond t (writing (settled k) 1 w 0) (writing (settled k) 2 d w)) z)
         L refl refl
@@ -135,7 +137,8 @@ module _ (close : ℕ) where
         enter (eqb p (suc (s .month))) refl _ _
         (leaves-strike s (seriesWords (suc (s .month)) ss []) (only (staysAmong close all) ss)
         (only (λ t. not (staysAmong close all t)) ss) (a .0 .strike)
-        (λ q′ r l′. leaves-series (suc (s .month)) q′ (at q′ (s .month) r) ss (a .1) l′ (here q′ r) (later (a .0 .order)))
+        (λ q′ r l′.
+        leaves-series (suc (s .month)) q′ (at q′ (s .month) r) ss (a .1) l′ (here q′ r) (later (a .0 .order)))
         q (k .removed) (omega (arith, a .0 .order)) (staysAmong close all s) refl)
       where
         here : (q′ r month : ℕ) → suc (s .month) ≡ suc month → at q′ (s .month) r ≡ at q′ month r
@@ -173,4 +176,5 @@ module _ (close : ℕ) where
       (now : ℕ) (ss : List Series) → T (areSeries now ss)
       → Leaves beginning (seriesWords 0 ss []) (seriesWords 0 (staying close ss) []) (length (leaving close ss))
   compacted-series now ss t =
-      leaves-series ss 0 0 beginning ss (placed now ss t) (omega arith) (λ month e. absurd (omega arith)) (λ month l. refl)
+      leaves-series ss 0 0 beginning ss (placed now ss t) (omega arith) (λ month e. absurd (omega arith))
+      (λ month l. refl)

@@ -1,4 +1,5 @@
--- Parts of a list that are lent and come back: what a part holds, and the list with other words in its place, where the list is given by its parts. Assumes nothing.
+-- Parts of a list that are lent and come back: what a part holds, and the list with other words in its place, where
+-- the list is given by its parts. Assumes nothing.
 use Prim.Native.Nat.{ℕ, _+_, _-_, _≤_}
 use mathlib.Core.Path.{_≡_, ap, _∙_}
 use mathlib.Core.List.{List, [], _++_, append-nil}

@@ -1,12 +1,12 @@
 -- The laws that the functions' proofs cite.
 pub mod Said
-pub mod Parts
+pub mod LentParts
 pub mod Moving
-pub mod Steps
-pub mod Stretches
+pub mod CompactionSteps
+pub mod MovedStretches
 pub mod Shifts
 pub mod Marked
-pub mod Expirations
+pub mod StayingSeries
 pub mod Kept
 pub mod Reviewed
 pub mod Whole

@@ -1,4 +1,5 @@
--- The loop that looks up the bounds of the marked strikes: the words that are left give what all give. Assumes nothing.
+-- The loop that looks up the bounds of the marked strikes: the words that are left give what all give. Assumes
+-- nothing.
 use Prim.Native.Nat.{ℕ, suc, _+_, _≤_, _<_}
 use mathlib.Core.Path.{_≡_, refl, sym, ap, _∙_}
 use mathlib.Core.List.{List}
@@ -7,7 +8,7 @@ use native.Mathlib.Omega.{arith}
 use lib.ListN.{length, getD, drop, drop-of-length-le}
 use lib.Seq.{drop-cons}
 use Rattle.word.specs.Field.{field}
-use Rattle.word.specs.Kinds.{kindOf}
+use Rattle.word.specs.Kinds.{kindOf, keyOf, strikeKind, putField, callField}
 use Rattle.removal.specs.declared.marks.Bounds.{Bounds}
 use Rattle.removal.specs.Marks.{noneMarked, withStrike, boundsIn}
 use Rattle.removal.proofs.Said.{said-is, by-other}
@@ -24,7 +25,7 @@ module _ {ws : List ℕ} {b : Bounds} {i : ℕ} (L : Looking ws b i) where
     within = omega arith;
     rest =
         rw (e, add-one i)
-        (sym (rw (drop-cons ws i 0 h, ← ew, said-is w 6 k)) ∙ L .rest);
+        (sym (rw (drop-cons ws i 0 h, ← ew, said-is w (strikeKind .number) k)) ∙ L .rest);
   }
 
   pub look-stop : i < length ws → (kindOf (getD ws i 0) ≡ strikeKind .number → ⊥) → b ≡ boundsIn noneMarked ws

@@ -1,4 +1,5 @@
--- Stretches of a list from one index to another: where one ends the next begins, and a stretch moved down stands after what was before it. Assumes nothing.
+-- Stretches of a list from one index to another: where one ends the next begins, and a stretch moved down stands after
+-- what was before it. Assumes nothing.
 use Prim.Native.Nat.{ℕ, _+_, _-_, _≤_}
 use mathlib.Core.Path.{_≡_, refl, sym, ap, _∙_}
 use mathlib.Core.List.{List, _++_, append-assoc}
@@ -6,7 +7,7 @@ use native.Mathlib.Omega.{arith}
 use lib.ListN.{length, take, drop, length-append, length-drop}
 use lib.Seq.{take-add, drop-drop, take-at, drop-at, take-append-add, length-take-le}
 use borrow.Rule.Slice.PartMut.{midOf, putMid, mid-len}
-use Rattle.removal.specs.Runs.{movedDown}
+use Rattle.removal.specs.Rewriting.{movedDown}
 use Rattle.removal.specs.Expiry.{MovedTo}
 
 -- the words from a to b, as a part is lent

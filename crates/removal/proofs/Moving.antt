@@ -1,4 +1,5 @@
--- The loop that rewrites words in place, for any state and step that never writes past what is read: what is written and what the rest will give are what the whole gives. Assumes nothing.
+-- The loop that rewrites words in place, for any state and step that never writes past what is read: what is written
+-- and what the rest will give are what the whole gives. Assumes nothing.
 use Prim.Native.Nat.{ℕ, suc, _+_, _-_, _≤_, _<_, zero-le}
 use mathlib.Core.Path.{_≡_, refl, sym, ap, _∙_}
 use mathlib.Core.List.{List, [], _∷_, _++_, append-assoc, append-nil}
@@ -8,8 +9,8 @@ use native.Mathlib.Omega.{arith}
 use lib.ListN.{length, getD, set, take, drop, replicate, length-append, drop-of-length-le}
 use lib.Seq.{sets, sets-eq, length-sets, drop-set-lt, drop-cons, drop-drop, take-at, length-take-le}
 use borrow.Rule.Slice.PartMut.{putMid}
-use Rattle.removal.specs.Runs.{Pass, following, run, padded}
-use Rattle.removal.proofs.Parts.{tail-zeroed}
+use Rattle.removal.specs.Rewriting.{Pass, following, run, padded}
+use Rattle.removal.proofs.LentParts.{tail-zeroed}
 
 -- stores below n leave what lies from n on
 drop-sets : (vs l : List ℕ) (i n : ℕ) → i + length vs ≤ n → drop n (sets l i vs) ≡ drop n l
@@ -42,7 +43,8 @@ module _ {S : Type 0} (step : S → ℕ → List ℕ → Pass S) (owed : S → �
       let m = M .behind in
       let l = M .long in
       let fit : w + length e ≤ length b = omega arith in
-      let after : drop (r + 1) b ≡ drop (r + 1) xs = sym (drop-drop 1 r b) ∙ ap (drop 1) (M .unread) ∙ drop-drop 1 r xs in
+      let after : drop (r + 1) b ≡ drop (r + 1) xs =
+      sym (drop-drop 1 r b) ∙ ap (drop 1) (M .unread) ∙ drop-drop 1 r xs in
       let here : drop r xs ≡ getD b r 0 ∷ drop (r + 1) b = sym (M .unread) ∙ rw (drop-cons b r 0 h, add-one) in
       let front : take w′ b′ ≡ take w b ++ e =
       rw (eb, sets-eq e b w fit)

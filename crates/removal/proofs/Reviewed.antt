@@ -1,5 +1,6 @@
--- The review by the bounds of the marked strikes is the review of document 01: a test of the bounds asks of each marked strike what the sentence asks. Assumes nothing.
-use Prim.Native.Nat.{ℕ, _+_, _≤_, _<_, min, max}
+-- The review by the bounds of the marked strikes is the review of document 01: a test of the bounds asks of each marked
+-- strike what the sentence asks. Assumes nothing.
+use Prim.Native.Nat.{ℕ, _+_, _^_, _≤_, _<_, min, max}
 use mathlib.Core.Path.{_≡_, refl, sym, ap, _∙_}
 use mathlib.Core.Bool.{Bool, cond, not, _&&_, _||_, and-true, and-assoc, Bool·not-not}
 use mathlib.Core.List.{List, [], _∷_}
@@ -7,15 +8,17 @@ use native.Mathlib.Omega.{arith}
 use lib.Dec.{T, eqb, leb, ltb, leb→le, le→leb, ltb→lt, lt→ltb}
 use borrow.Author.Tests.{le-leb, lt-ltb}
 use Rattle.logic.specs.Lists.{every, only}
+use Rattle.word.specs.Limits.{highestStrike}
+use Rattle.word.specs.Kinds.{strikeKind}
 use Rattle.rule.specs.Terms.{cents}
 use Rattle.rule.specs.Spacing.{apart}
 use Rattle.book.specs.Facts.{Series, OpenClass, isMarked}
 use Rattle.book.specs.Books.{isSeries}
-use Rattle.book.specs.Views.{isReviewed}
+use Rattle.book.specs.Views.{reviewDistance, isReviewed}
 use Rattle.logic.proofs.Tests.{and-left, and-right, and-intro, ands, same-bool}
 use Rattle.removal.specs.declared.marks.Bounds.{Bounds}
 use Rattle.removal.specs.Marks.{noneMarked, widened}
-use Rattle.removal.proofs.Expirations.{markedIn, widenedBy, staysAmong, staying, leaving}
+use Rattle.removal.proofs.StayingSeries.{markedIn, widenedBy, staysAmong, staying, leaving}
 
 -- ---- the bounds
 
@@ -54,7 +57,7 @@ lowest-asks h a k =
 
 -- above all, or below all
 beyond :
-    (h : ℕ) (ss : List Series) → h < 32768
+    (h : ℕ) (ss : List Series) → h < 2 ^ strikeKind .width
     → (leb (widenedBy noneMarked ss .above) h || ltb h (widenedBy noneMarked ss .lowest))
     ≡ (every (λ t. ltb (t .strike) h) ss || every (λ t. ltb h (t .strike)) ss)
 beyond h ss l =
@@ -63,27 +66,29 @@ beyond h ss l =
     ∙ ap (λ (t : Bool). t && every (λ t. ltb (t .strike) h) ss) (le-leb 0 h (omega arith)) in
     let below =
     widened-law (λ b. ltb h (b .lowest)) (λ k. ltb h k) (λ b k. lowest-asks h (b .lowest) k) noneMarked ss
-    ∙ ap (λ (t : Bool). t && every (λ t. ltb h (t .strike)) ss) (lt-ltb h 32768 l) in
+    ∙ ap (λ (t : Bool). t && every (λ t. ltb h (t .strike)) ss) (lt-ltb h (2 ^ strikeKind .width) l) in
     λ i. above i || below i
 
 -- ---- the review
 
 -- two tests that agree where p holds
 only-same :
-    {A : Type 0} (p f g : A → Bool) → ((x : A) → T (p x) → f x ≡ g x) → (xs : List A) → T (every p xs) → only f xs ≡ only g xs
+    {A : Type 0} (p f g : A → Bool) → ((x : A) → T (p x) → f x ≡ g x) → (xs : List A) → T (every p xs)
+    → only f xs ≡ only g xs
 only-same p f g agree [] t = refl
 only-same p f g agree (x ∷ xs) t =
     let here : f x ≡ g x = agree x (search ands) in
     let rest : only f xs ≡ only g xs = only-same p f g agree xs (search ands) in
     λ i. cond (here i) (x ∷ rest i) (rest i)
 
-module _ (now close : ℕ) (x : OpenClass) (e : close ≡ x .figures .close) (t : T (every (isSeries now) (x .series))) where
+module _
+    (now close : ℕ) (x : OpenClass) (e : close ≡ x .figures .close) (t : T (every (isSeries now) (x .series))) where
   agrees : (s : Series) → T (isSeries now s) → staysAmong close (x .series) s ≡ not (isReviewed x s)
   agrees s u =
-      let l : s .strike ≤ 19999 = leb→le (s .strike) 19999 (search ands) in
+      let l : s .strike ≤ highestStrike = leb→le (s .strike) highestStrike (search ands) in
       λ i.
       not ((eqb (s .ground) 1 || eqb (s .ground) 3)
-      && (ltb 500 (apart (cents (s .strike)) (e i))
+      && (ltb reviewDistance (apart (cents (s .strike)) (e i))
       && (not (isMarked s) && beyond (s .strike) (markedIn (s .month) (x .series)) (omega arith) i)))
 
   pub review-leaves : staying close (x .series) ≡ only (λ s. not (isReviewed x s)) (x .series)

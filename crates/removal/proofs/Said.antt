@@ -1,16 +1,18 @@
--- What a word says by its kind, unchecked, and what follows of a choice by kind: by cases on the tests and on the words. Assumes nothing.
+-- What a word says by its kind, unchecked, and what follows of a choice by kind: by cases on the tests and on the
+-- words. Assumes nothing.
 use Prim.Native.Nat.{ℕ}
 use mathlib.Core.Path.{_≡_, refl, ap}
 use mathlib.Core.Bool.{Bool, true, false, cond}
 use lib.Dec.{T, eqb}
 use borrow.Author.Tests.{eqb-true, ne-eqb}
-use Rattle.word.specs.Kinds.{kindOf}
+use Rattle.word.specs.Kinds.{kindOf, headKind, classKind, closeKind, volumeKind, expirationKind, strikeKind}
 use Rattle.word.specs.Codec.{Word, Head, Class, Close, Volume, Expiration, Strike, Invalid, isLegal, packed, fieldsAs}
 use Rattle.word.proofs.Words.{fields-packed}
 use Rattle.word.proofs.RawWords.{fits}
 use Rattle.removal.specs.Marks.{said, byKind}
 
-pub choose : {A : Type 0} (P : A → Type 0) (b : Bool) (x y : A) → (b ≡ true → P x) → (b ≡ false → P y) → P (cond b x y)
+pub choose :
+    {A : Type 0} (P : A → Type 0) (b : Bool) (x y : A) → (b ≡ true → P x) → (b ≡ false → P y) → P (cond b x y)
 choose P true x y p q = p refl
 choose P false x y p q = q refl
 
@@ -32,12 +34,12 @@ module _ {A : Type 0} (expiration : A) (strike : (h ground put call : ℕ) → A
   by-other w n e =
       let k = kindOf w in
       let P : Word → Type 0 = λ x. byKind expiration strike other x ≡ other in
-      rw (ne-eqb k 6 n)
-      (choose P (eqb k 1) _ _ (λ t. refl)
-      (λ t. choose P (eqb k 2) _ _ (λ t. refl)
-      (λ t. choose P (eqb k 3) _ _ (λ t. refl)
-      (λ t. choose P (eqb k 4) _ _ (λ t. refl)
-      (λ t. choose P (eqb k 5) _ _ (λ t. e (eqb-true k 5 t))
+      rw (ne-eqb k (strikeKind .number) n)
+      (choose P (eqb k (headKind .number)) _ _ (λ t. refl)
+      (λ t. choose P (eqb k (classKind .number)) _ _ (λ t. refl)
+      (λ t. choose P (eqb k (closeKind .number)) _ _ (λ t. refl)
+      (λ t. choose P (eqb k (volumeKind .number)) _ _ (λ t. refl)
+      (λ t. choose P (eqb k (expirationKind .number)) _ _ (λ t. e (eqb-true k (expirationKind .number) t))
       (λ t. refl))))))
 
   pub by-each :

@@ -1,4 +1,5 @@
--- The series that the review leaves in a class, and the marked strikes of an expiration: its words give the bounds that its series have, by induction on the series, which rise by month. Assumes nothing.
+-- The series that the review leaves in a class, and the marked strikes of an expiration: its words give the bounds that
+-- its series have, by induction on the series, which rise by month. Assumes nothing.
 use Prim.Native.Nat.{ℕ, suc, _≤_, _<_}
 use mathlib.Core.Path.{_≡_, refl, ap, _∙_}
 use mathlib.Core.Bool.{Bool, true, false, cond, not, _&&_}

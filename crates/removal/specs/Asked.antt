@@ -5,6 +5,8 @@ use mathlib.Core.Bool.{Bool}
 use mathlib.Core.List.{List, []}
 use lib.Dec.{T, eqb}
 use lib.ListN.{length}
+use Rattle.word.specs.Limits.{lastMonth, longestRun}
+use Rattle.word.specs.Head.{firstPlace}
 use Rattle.word.specs.Figures.{figuresLength}
 use Rattle.book.specs.Facts.{isOpen}
 use Rattle.book.specs.Layout.{factsOf, seriesWords}
@@ -34,9 +36,9 @@ pub record Reviewable (ws : List ℕ) (from to price : ℕ) : Type 0 where
 
 -- the words from `from` to `to` are a part of the `end` words used, after the head
 pub record Removable (ws : List ℕ) (from to end month : ℕ) : Type 0 where
-  pub after : 1 ≤ from
+  pub after : firstPlace ≤ from
   pub part : from ≤ to
   pub inside : to ≤ end
   pub room : end ≤ length ws
-  pub short : end ≤ 65535
-  pub current : month ≤ 1023
+  pub short : end ≤ longestRun
+  pub current : month ≤ lastMonth

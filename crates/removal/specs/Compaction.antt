@@ -1,24 +1,27 @@
 -- Inner: the compaction by the review at a close, word after word, and what it makes of a run. Assumes nothing.
-use Prim.Native.Nat.{ℕ, suc, _+_, _-_, _≤_}
+use Prim.Native.Nat.{ℕ, _+_, _-_, _≤_}
 use mathlib.Core.Path.{_≡_}
 use mathlib.Core.Bool.{Bool, cond, not, _&&_, _||_}
 use mathlib.Core.List.{List, [], _∷_, _++_}
 use lib.Dec.{eqb, leb, ltb}
 use lib.ListN.{length, take, replicate}
 use Rattle.word.specs.Codec.{Word, Head, packed}
+use Rattle.word.specs.Head.{firstPlace}
+use Rattle.word.specs.Strikes.{marks}
 use Rattle.rule.specs.Terms.{cents}
 use Rattle.rule.specs.Spacing.{apart}
+use Rattle.book.specs.Views.{reviewDistance}
 use Rattle.removal.specs.declared.marks.Bounds.{Bounds}
 use Rattle.removal.specs.declared.compaction.CompactionState.{CompactionState}
 use Rattle.removal.specs.declared.compaction.Step.{Step}
-use Rattle.removal.specs.Runs.{Pass, run, padded}
-use Rattle.removal.specs.Marks.{said, byKind, noneMarked, marks, boundsIn}
+use Rattle.removal.specs.Rewriting.{Pass, run, padded}
+use Rattle.removal.specs.Marks.{said, byKind, noneMarked, boundsIn}
 
 -- whether a strike stays in the review at a close, by the bounds of the marked strikes of its expiration
 abbrev pub stays : ℕ → Bounds → (h ground put call : ℕ) → Bool
 stays close b h ground put call =
     not ((eqb ground 1 || eqb ground 3)
-    && (ltb 500 (apart (cents h) close)
+    && (ltb reviewDistance (apart (cents h) close)
     && (not (marks put call) && (leb (b .above) h || ltb h (b .lowest)))))
 
 -- ---- one word
@@ -84,12 +87,13 @@ pub record Compacted (close : ℕ) (xs ys : List ℕ) (n r : ℕ) : Type 0 where
 -- a run of a head, words before, words to be compacted, words after, and what lies past those used
 pub record Parted (xs : List ℕ) (from to end head : ℕ) (a b c d : List ℕ) : Type 0 where
   pub whole : xs ≡ head ∷ (a ++ (b ++ (c ++ d)))
-  pub first : from ≡ suc (length a)
+  pub first : from ≡ firstPlace + length a
   pub last : to ≡ from + length b
   pub used : end ≡ to + length c
 
 abbrev pub headed : ℕ → List ℕ → List ℕ → List ℕ → List ℕ → List ℕ
-headed month a k c d = packed (Head month (suc (length a + (length k + length c)))) ∷ (a ++ (k ++ (c ++ d)))
+headed month a k c d =
+    packed (Head month (firstPlace + (length a + (length k + length c)))) ∷ (a ++ (k ++ (c ++ d)))
 
 -- the run became ys, and r strikes are removed
 pub record Removed (close month : ℕ) (a b c d ys : List ℕ) (r : ℕ) : Type 0 where

@@ -1,4 +1,4 @@
-pub mod Runs
+pub mod Rewriting
 pub mod Marks
 pub mod Compaction
 pub mod Expiry

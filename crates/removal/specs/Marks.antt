@@ -1,10 +1,10 @@
 -- Inner: the bounds of the marked strikes of an expiration, read from its words. Assumes nothing.
-use Prim.Native.Nat.{ℕ, _+_, min, max}
-use mathlib.Core.Bool.{Bool, cond, _||_}
+use Prim.Native.Nat.{ℕ, _+_, _^_, min, max}
+use mathlib.Core.Bool.{cond}
 use mathlib.Core.List.{List, [], _∷_}
-use lib.Dec.{eqb}
-use Rattle.word.specs.Kinds.{kindOf}
+use Rattle.word.specs.Kinds.{kindOf, strikeKind}
 use Rattle.word.specs.Codec.{Word, Head, Class, Close, Volume, Expiration, Strike, Invalid, fieldsAs}
+use Rattle.word.specs.Strikes.{marks}
 use Rattle.removal.specs.declared.marks.Bounds.{Bounds}
 
 -- the fields of the word w by its kind, whatever their limits: in a book, what was packed
@@ -22,15 +22,13 @@ module _ {A : Type 0} (expiration : A) (strike : (h ground put call : ℕ) → A
   byKind (Strike h ground put call) = strike h ground put call
   byKind Invalid = other
 
+-- a strike in its field is below the lowest
 abbrev pub noneMarked : Bounds
-noneMarked = record { lowest = 32768; above = 0 }
+noneMarked = record { lowest = 2 ^ strikeKind .width; above = 0 }
 
 -- with one marked strike more
 abbrev pub widened : Bounds → ℕ → Bounds
 widened b h = record { lowest = min h (b .lowest); above = max (b .above) (h + 1) }
-
-abbrev pub marks : ℕ → ℕ → Bool
-marks put call = eqb put 1 || eqb call 1
 
 abbrev pub withStrike : Bounds → ℕ → ℕ → ℕ → Bounds
 withStrike b h put call = cond (marks put call) (widened b h) b

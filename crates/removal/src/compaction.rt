@@ -4,17 +4,26 @@ ghost use Prim.Native.Nat.{_+_, _<_, _≤_};
 ghost use lib.ListN.{length, getD, drop};
 ghost use lib.Seq.{sets};
 ghost use Rattle.word.specs.Field.{field};
+ghost use Rattle.word.specs.Kinds.{keyOf, strikeKind, groundField, putField, callField};
+ghost use Rattle.word.specs.Limits.{longestRun};
 ghost use Rattle.removal.specs.Marks.{noneMarked, boundsIn};
 ghost use Rattle.removal.specs.Compaction.{stays, settled, strikeStep, stepAt, stepWords, Compacted};
 use crate::marks::Bounds;
 use crate::marks::bounds_in;
-use crate::marks::is_marked;
 use crate::marks::none_marked;
 use rule::spacing::distance;
-use word::codec::kind;
 use word::field::field_of;
+use word::kind::EXPIRATION;
+use word::kind::STRIKE;
+use word::kind::is_of_kind;
+use word::kind::key_of;
+use word::strike::GROUND;
 use word::strike::Strike;
+use word::strike::is_marked;
 use word::zeros::zero_all;
+
+// In cents: a strike no farther from the close stays in its review.
+const REVIEW_DISTANCE: u32 = 500;
 
 // How far a compaction is: the expiration word that waits for a strike that stays (0: none), the marked strikes of its
 // expiration, and the strikes removed.
@@ -40,11 +49,12 @@ pub struct Kept {
 
 // Whether the strike of the word w stays in the review at a close; `b` bounds the marked strikes of its expiration.
 fn does_stay(close: u32, b: Bounds, w: u32) -> bool
-    ensures { λ r. ⌜ r ≡ stays close b (field w 0 15) (field w 15 3) (field w 18 1) (field w 19 1) ⌝ }
+    ensures { λ r. ⌜ r
+        ≡ stays close b (keyOf strikeKind w) (field w groundField) (field w putField) (field w callField) ⌝ }
 {
-    let h = field_of(w, 0, 15);
-    let ground = field_of(w, 15, 3);
-    let far = 500 < distance(Strike(h).cents(), close);
+    let h = key_of(w, STRIKE);
+    let ground = field_of(w, GROUND);
+    let far = REVIEW_DISTANCE < distance(Strike(h).cents(), close);
     let beyond = (b.above <= h) | (h < b.lowest);
     !(((ground == 1) | (ground == 3)) & (far & (!is_marked(w) & beyond)))
 }
@@ -63,7 +73,7 @@ fn settle(k: CompactionState) -> CompactionState
 
 // A strike word that stays, or is removed.
 fn strike_step(stays: bool, k: CompactionState, w: u32) -> Step
-    requires { ⌜ k .removed < 65535 ⌝ }
+    requires { ⌜ k .removed < longestRun ⌝ }
     ensures { λ r. ⌜ r ≡ strikeStep stays k w ⌝ }
 {
     if stays {
@@ -108,16 +118,15 @@ fn bounds_after(words: &[u32], at: usize) -> Bounds
 
 // The step at the word `at`.
 fn step_at(words: &[u32], at: usize, close: u32, k: CompactionState) -> Step
-    requires { ⌜ (at < length (now words)) × (k .removed < 65535) ⌝ }
+    requires { ⌜ (at < length (now words)) × (k .removed < longestRun) ⌝ }
     ensures { λ r. ⌜ r ≡ stepAt close k (getD (now (words .entry)) at 0) (drop (at + 1) (now (words .entry))) ⌝ }
 {
     let w = words[at];
     let b = k.bounds;
-    let of = kind(w);
-    if of == 6 {
+    if is_of_kind(w, STRIKE) {
         return strike_step(does_stay(close, b, w), k, w);
     }
-    if of == 5 {
+    if is_of_kind(w, EXPIRATION) {
         let found = bounds_after(words, at);
         let next = CompactionState {
             waiting: w,
@@ -158,7 +167,7 @@ fn write(words: &mut [u32], at: usize, o: Step) -> usize
 
 // Moves what stays to the front and zeroes the rest. An expiration word is written before its first strike that stays.
 pub fn compact(part: &mut [u32], close: u32) -> Kept
-    requires { ⌜ length (now part) ≤ 65535 ⌝ }
+    requires { ⌜ length (now part) ≤ longestRun ⌝ }
     ensures { λ r. ⌜ Compacted close (now (part .entry)) (now (part .exit)) (r .words) (r .removed) ⌝ }
 {
     let mut k = CompactionState {

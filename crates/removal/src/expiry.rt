@@ -3,19 +3,23 @@ ghost use mathlib.Core.Path.{_≡_};
 ghost use Prim.Native.Nat.{_+_, _-_, _≤_};
 ghost use lib.Dec.{T};
 ghost use lib.ListN.{length};
+ghost use Rattle.word.specs.Limits.{lastMonth};
 ghost use Rattle.book.specs.Layout.{layout, factsOf};
 ghost use Rattle.book.specs.Books.{isBook};
 ghost use Rattle.book.specs.Changes.{monthSet};
-ghost use Rattle.removal.specs.Expiry.{MovedTo};
+ghost use Rattle.removal.specs.Expiry.{Movable, MovedTo};
 use crate::gap::move_down_by;
 use place::head;
 use place::search::first;
-use word::codec::head_word;
+use word::figures;
+use word::head::FIRST;
+use word::kind::CLASS;
+use word::kind::EXPIRATION;
 use word::zeros::zero_all;
 
 // Moves the words from `from` to `end` down to `to`, and returns the index after them.
 fn move_to(run: &mut [u32], to: usize, from: usize, end: usize) -> usize
-    requires { ⌜ (to ≤ from) × ((from ≤ end) × (end ≤ length (now run))) ⌝ }
+    requires { ⌜ Movable to from end (now run) ⌝ }
     ensures { λ r. ⌜ (r ≡ to + (end - from)) × MovedTo to from end (now (run .entry)) (now (run .exit)) ⌝ }
 {
     let gap = from - to;
@@ -28,23 +32,23 @@ fn move_to(run: &mut [u32], to: usize, from: usize, end: usize) -> usize
 
 // `M`: the months before m go, and m is the month.
 pub fn expire(run: &mut [u32], m: u32)
-    requires { ⌜ T (isBook (now run)) × (m ≤ 1023) ⌝ }
+    requires { ⌜ T (isBook (now run)) × (m ≤ lastMonth) ⌝ }
     ensures { λ _. ⌜ now (run .exit) ≡ layout (length (now (run .entry))) (monthSet m (factsOf (now (run .entry)))) ⌝ }
 {
     let end = head::used(run);
-    let mut written = 1;
-    let mut kept = 1;
-    let mut at = 1;
+    let mut written = FIRST;
+    let mut kept = FIRST;
+    let mut at = FIRST;
     while at < end {
-        let start = at + 3;
-        let stays = start + first(&run[start..end], 5, 10, m);
+        let start = at + figures::LENGTH;
+        let stays = start + first(&run[start..end], EXPIRATION, m);
         if start < stays {
             written = move_to(run, written, kept, start);
             kept = stays;
         }
-        at = stays + first(&run[stays..end], 2, 14, 0);
+        at = stays + first(&run[stays..end], CLASS, 0);
     }
     written = move_to(run, written, kept, end);
     zero_all(&mut run[written..end]);
-    run[0] = head_word(m, written as u32);
+    word::head::write(run, m, written);
 }

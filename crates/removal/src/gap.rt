@@ -3,8 +3,11 @@ ghost use mathlib.Core.Path.{_≡_};
 ghost use Prim.Native.Nat.{_+_, _≤_};
 ghost use lib.ListN.{drop, length, take};
 ghost use lib.Seq.{sets};
-ghost use Rattle.removal.specs.Runs.{movedDown, closed};
+ghost use Rattle.removal.specs.Rewriting.{blockLength, movedDown, closed};
 use word::zeros::zero_all;
+
+// How many words are moved at a time over a distance that is no constant.
+const BLOCK: usize = 8;
 
 // The loops with a constant distance compile to memmove.
 fn move_down_one(words: &mut [u32])
@@ -31,10 +34,11 @@ fn move_down_two(words: &mut [u32])
     }
 }
 
-// Moves eight words down. All are read before one is written, so that they go at once whatever the distance.
-fn move_eight(words: &mut [u32], to: usize, from: usize)
-    requires { ⌜ (to ≤ from) × (from + 8 ≤ length (now words)) ⌝ }
-    ensures { λ _. ⌜ now (words .exit) ≡ sets (now (words .entry)) to (take 8 (drop from (now (words .entry)))) ⌝ }
+// Moves a block of words down. All are read before one is written, so that they go at once whatever the distance.
+fn move_block(words: &mut [u32], to: usize, from: usize)
+    requires { ⌜ (to ≤ from) × (from + blockLength ≤ length (now words)) ⌝ }
+    ensures { λ _. ⌜ now (words .exit)
+        ≡ sets (now (words .entry)) to (take blockLength (drop from (now (words .entry)))) ⌝ }
 {
     let a = words[from];
     let b = words[from + 1];
@@ -67,21 +71,21 @@ fn move_each(words: &mut [u32], gap: usize)
     }
 }
 
-// Moves the words after a gap to its front, eight at a time. Over a gap of eight or more the last eight stand unchanged
-// until they are moved, so that what is left goes with them, some of it for the second time.
+// Moves the words after a gap to its front, a block at a time. Over a gap of a block or more the last block stands
+// unchanged until it is moved, so that what is left goes with it, some of it for the second time.
 pub fn move_down_by(words: &mut [u32], gap: usize)
     requires { ⌜ gap ≤ length (now words) ⌝ }
     ensures { λ _. ⌜ now (words .exit) ≡ movedDown gap (now (words .entry)) ⌝ }
 {
     let count = words.len() - gap;
     let mut i = 0;
-    while i + 8 <= count {
-        move_eight(words, i, i + gap);
-        i += 8;
+    while i + BLOCK <= count {
+        move_block(words, i, i + gap);
+        i += BLOCK;
     }
-    if (8 <= gap) & (8 <= count) {
-        let last = count - 8;
-        move_eight(words, last, last + gap);
+    if (BLOCK <= gap) & (BLOCK <= count) {
+        let last = count - BLOCK;
+        move_block(words, last, last + gap);
         return;
     }
     move_each(&mut words[i..], gap);

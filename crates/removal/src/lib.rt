@@ -9,7 +9,6 @@ ghost use Rattle.removal.specs.Compaction.{RemovedFrom};
 use crate::compaction::compact;
 use crate::gap::close_gap;
 use place::head;
-use word::codec::head_word;
 
 pub mod compaction;
 pub mod expiry;
@@ -27,7 +26,7 @@ fn remove(run: &mut [u32], from: usize, to: usize, end: usize, month: u32, close
     let gap = to - at;
     close_gap(&mut run[at..end], gap);
     let left = end - gap;
-    run[0] = head_word(month, left as u32);
+    word::head::write(run, month, left);
     kept.removed
 }
 
@@ -43,10 +42,10 @@ pub fn delist(run: &mut [u32], at: usize, alone: bool)
     let month = head::current(run);
     if alone {
         close_gap(&mut run[at - 1..end], 2);
-        run[0] = head_word(month, (end - 2) as u32);
+        word::head::write(run, month, end - 2);
     } else {
         close_gap(&mut run[at..end], 1);
-        run[0] = head_word(month, (end - 1) as u32);
+        word::head::write(run, month, end - 1);
     }
 }
 

@@ -1,13 +1,17 @@
 // The marked strikes of an expiration, by their bounds.
 ghost use mathlib.Core.Path.{_≡_};
 ghost use Rattle.word.specs.Field.{field};
-ghost use Rattle.removal.specs.Marks.{marks, noneMarked, withStrike, boundsIn};
+ghost use Rattle.word.specs.Kinds.{keyOf, strikeKind, putField, callField};
+ghost use Rattle.removal.specs.Marks.{noneMarked, withStrike, boundsIn};
 use rule::bounds::higher_of;
 use rule::bounds::lower_of;
-use word::codec::kind;
-use word::field::field_of;
+use word::kind::STRIKE;
+use word::kind::is_of_kind;
+use word::kind::key_of;
+use word::strike::is_marked;
 
-// The lowest marked strike, and one more than the highest: 32768 and 0 where none is marked.
+// The lowest marked strike, and one more than the highest. Where none is marked, the first is more than a strike word
+// holds, and the second 0.
 pub struct Bounds {
     pub lowest: u32,
     pub above: u32,
@@ -17,26 +21,19 @@ pub fn none_marked() -> Bounds
     ensures { λ r. ⌜ r ≡ noneMarked ⌝ }
 {
     Bounds {
-        lowest: 32768,
+        lowest: 1 << STRIKE.width,
         above: 0,
     }
 }
 
-// Whether the strike word w has a mark.
-pub fn is_marked(w: u32) -> bool
-    ensures { λ r. ⌜ r ≡ marks (field w 18 1) (field w 19 1) ⌝ }
-{
-    (field_of(w, 18, 1) == 1) | (field_of(w, 19, 1) == 1)
-}
-
 // The bounds with the strike word w.
 fn with_strike(b: Bounds, w: u32) -> Bounds
-    ensures { λ r. ⌜ r ≡ withStrike b (field w 0 15) (field w 18 1) (field w 19 1) ⌝ }
+    ensures { λ r. ⌜ r ≡ withStrike b (keyOf strikeKind w) (field w putField) (field w callField) ⌝ }
 {
     if !is_marked(w) {
         return b;
     }
-    let h = field_of(w, 0, 15);
+    let h = key_of(w, STRIKE);
     let lowest = lower_of(h, b.lowest);
     let above = higher_of(b.above, h + 1);
     Bounds {
@@ -53,7 +50,7 @@ pub fn bounds_in(words: &[u32]) -> Bounds
     let mut i = 0;
     while i < words.len() {
         let w = words[i];
-        if kind(w) != 6 {
+        if !is_of_kind(w, STRIKE) {
             return b;
         }
         b = with_strike(b, w);

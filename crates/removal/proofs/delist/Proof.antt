@@ -1,5 +1,6 @@
 -- `delist` lays out the facts after `X`: the strike's word goes, and its expiration's where it is alone, by the law of
 -- words taken out. Assumes nothing.
+use mathlib.Core.Path.{_∙_}
 use mathlib.Core.Bool.{true, false}
 use native.Mathlib.Omega.{arith}
 use lib.ListN.{length}
@@ -20,6 +21,13 @@ counted p = p .before .before
 
 abbrev start : tie.After-current → tie.Start
 start p = counted p .before .before .before
+
+-- before the place where the gap is closed: the branch where two words go, and the one where one goes
+abbrev both-gone : tie.After-close-gap → tie.Then1
+both-gone p = p .before .before
+
+abbrev one-gone : tie.After-close-gap2 → tie.Else1
+one-gone p = p .before .before
 
 numbers :
     (p : tie.After-current)
@@ -44,25 +52,15 @@ part-close-gap-end c = omega (arith, numbers (c .before))
 close-gap-requires : tie.Need-close-gap-requires
 close-gap-requires c κs = omega (arith, numbers (c .before .before))
 
-sub-head-word : tie.Need-sub-head-word
-sub-head-word c =
-    let branch = c .before .before .before .before in
-    omega (arith, numbers (branch .before))
-
-cast-head-word : tie.Need-cast-head-word
-cast-head-word c =
-    let branch = c .before .before .before .before in
-    omega (arith, numbers (branch .before))
-
-head-word-requires : tie.Need-head-word-requires
-head-word-requires c κs =
-    let branch = c .before .before .before .before in
-    omega (arith, numbers (branch .before))
-
-slice-write-run : tie.Need-slice-write-run
-slice-write-run c =
+sub-write : tie.Need-sub-write
+sub-write c =
     let closed = c .before .before .before in
-    omega (arith, numbers (closed .before .before .before))
+    omega (arith, numbers (both-gone closed .before))
+
+write-requires : tie.Need-write-requires
+write-requires c κs =
+    let closed = c .before .before .before in
+    omega (arith, numbers (both-gone closed .before))
 
 mul-close-gap-2 : tie.Need-mul-close-gap-2
 mul-close-gap-2 c = omega (arith, numbers (c .before))
@@ -79,47 +77,41 @@ part-close-gap-end-2 c = omega (arith, numbers (c .before))
 close-gap-requires-2 : tie.Need-close-gap-requires-2
 close-gap-requires-2 c κs = omega (arith, numbers (c .before .before))
 
-sub-head-word-2 : tie.Need-sub-head-word-2
-sub-head-word-2 c =
-    let branch = c .before .before .before .before in
-    omega (arith, numbers (branch .before))
-
-cast-head-word-2 : tie.Need-cast-head-word-2
-cast-head-word-2 c =
-    let branch = c .before .before .before .before in
-    omega (arith, numbers (branch .before))
-
-head-word-requires-2 : tie.Need-head-word-requires-2
-head-word-requires-2 c κs =
-    let branch = c .before .before .before .before in
-    omega (arith, numbers (branch .before))
-
-slice-write-run-2 : tie.Need-slice-write-run-2
-slice-write-run-2 c =
+sub-write-2 : tie.Need-sub-write-2
+sub-write-2 c =
     let closed = c .before .before .before in
-    omega (arith, numbers (closed .before .before .before))
+    omega (arith, numbers (one-gone closed .before))
+
+write-requires-2 : tie.Need-write-requires-2
+write-requires-2 c κs =
+    let closed = c .before .before .before in
+    omega (arith, numbers (one-gone closed .before))
 
 same-length : tie.Need-same-length
 same-length c = search needs
 
 returns : tie.Need-returns
 returns c = λ x.
-    let closed = c .before .before .before in
-    let branch = closed .before .before in
+    let wrote = c .before .before in
+    let closed = wrote .before .before .before .before in
+    let branch = both-gone closed in
     let p = branch .before in
-    delisted _ _ _ x _ _ (counted p .used .ensures) (p .current .ensures) true (branch .if1 .taken) _ _ _
-    (omega arith) (closed .close-gap .ensures) (c .head-word .ensures)
+    wrote .write .ensures
+    ∙ delisted _ _ _ x _ _ (counted p .used .ensures) (p .current .ensures) true (branch .if1 .taken) _ _ (omega arith)
+    (closed .close-gap .ensures)
 
 same-length-2 : tie.Need-same-length-2
 same-length-2 c = search needs
 
 returns-2 : tie.Need-returns-2
 returns-2 c = λ x.
-    let closed = c .before .before .before in
-    let branch = closed .before .before in
+    let wrote = c .before .before in
+    let closed = wrote .before .before .before .before in
+    let branch = one-gone closed in
     let p = branch .before in
-    delisted _ _ _ x _ _ (counted p .used .ensures) (p .current .ensures) false (branch .if1 .left) _ _ _
-    (omega arith) (closed .close-gap2 .ensures) (c .head-word2 .ensures)
+    wrote .write2 .ensures
+    ∙ delisted _ _ _ x _ _ (counted p .used .ensures) (p .current .ensures) false (branch .if1 .left) _ _ (omega arith)
+    (closed .close-gap2 .ensures)
 
 pub delist-spec : {M : Type 1} → statement M
 delist-spec =
@@ -133,19 +125,15 @@ delist-spec =
     part-close-gap-start
     part-close-gap-end
     close-gap-requires
-    sub-head-word
-    cast-head-word
-    head-word-requires
-    slice-write-run
+    sub-write
+    write-requires
     mul-close-gap-2
     sub-close-gap-3
     part-close-gap-start-2
     part-close-gap-end-2
     close-gap-requires-2
-    sub-head-word-2
-    cast-head-word-2
-    head-word-requires-2
-    slice-write-run-2
+    sub-write-2
+    write-requires-2
     same-length
     returns
     same-length-2

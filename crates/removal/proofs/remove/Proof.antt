@@ -1,10 +1,16 @@
--- `remove` compacts a part, closes the gap after it and writes the head: on the parts of the run, by what its callees ensure. Assumes nothing.
-use native.Mathlib.Omega.{arith}
-use lib.ListN.{length-set}
+-- `remove` compacts a part, closes the gap after it and writes the head: on the parts of the run, by what its callees
+-- ensure. Assumes nothing.
 use borrow.Author.Needs.{needs}
 use Rattle.removal.proofs.Whole.{removed-parts}
 use Rattle.removal.proofs.remove.Statement.{statement}
 use Rattle.removal.proofs.remove.Tie as tie
+
+-- before the gap is closed: where how many words stay is known, and where they are compacted
+abbrev measured : tie.After-close-gap → tie.After-struct-known
+measured p = p .before .before
+
+abbrev compacted : tie.After-close-gap → tie.After-compact
+compacted p = measured p .before .before .before
 
 mul-compact : tie.Need-mul-compact
 mul-compact c = search needs
@@ -45,27 +51,21 @@ close-gap-requires c κs = search needs
 sub-left : tie.Need-sub-left
 sub-left c = search needs
 
-cast-head-word : tie.Need-cast-head-word
-cast-head-word c = search needs
-
-head-word-requires : tie.Need-head-word-requires
-head-word-requires c κs = search needs
-
-slice-write-run : tie.Need-slice-write-run
-slice-write-run c = search needs
+write-requires : tie.Need-write-requires
+write-requires c κs = search needs
 
 same-length : tie.Need-same-length
-same-length c = simp length-set (omega arith)
+same-length c = search needs
 
 returns : tie.Need-returns
 returns c = λ head a b d e P.
-    let s = c .before .before .before .before .before .before .before .before .before .before .before in
-    let kept = c .before .before .before .before .before .before .before .before .compact in
-    let closing = c .before .before .before .close-gap in
-    let x = s .args in
-    rw (c .head-word .ensures)
-    (removed-parts (x .close) (x .month) (x .run .now) (x .from) (x .to) (x .end) head a b d e P (kept .last .0)
-    (closing .last .0) _ _ (kept .ensures) (closing .ensures))
+    let wrote = c .before .before in
+    let closing = wrote .before .before .before .before in
+    let kept = compacted closing in
+    let x = kept .before .before .before .args in
+    rw (wrote .write .ensures)
+    (removed-parts (x .close) (x .month) (x .run .now) (x .from) (x .to) (x .end) head a b d e P
+    (kept .compact .last .0) (closing .close-gap .last .0) _ _ (kept .compact .ensures) (closing .close-gap .ensures))
 
 pub remove-spec : {M : Type 1} → statement M
 remove-spec =
@@ -84,8 +84,6 @@ remove-spec =
     part-close-gap-end
     close-gap-requires
     sub-left
-    cast-head-word
-    head-word-requires
-    slice-write-run
+    write-requires
     same-length
     returns)

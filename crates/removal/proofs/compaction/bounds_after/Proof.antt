@@ -1,7 +1,8 @@
--- `bounds_after` gives the bounds of the marked strikes after an index: it is lent the words from there to the end. Assumes nothing.
+-- `bounds_after` gives the bounds of the marked strikes after an index: it is lent the words from there to the end.
+-- Assumes nothing.
 use Prim.Native.Nat.{_+_}
 use borrow.Author.Needs.{needs}
-use Rattle.removal.proofs.Parts.{tail-all}
+use Rattle.removal.proofs.LentParts.{tail-all}
 use Rattle.removal.proofs.compaction.bounds_after.Statement.{statement}
 use Rattle.removal.proofs.compaction.bounds_after.Tie as tie
 

@@ -1,8 +1,9 @@
--- `compact` moves what stays to the front and zeroes the rest: the loop's law of compacting, by what its callees ensure. Assumes nothing.
+-- `compact` moves what stays to the front and zeroes the rest: the loop's law of compacting, by what its callees
+-- ensure. Assumes nothing.
 use Prim.Native.Nat.{_-_}
 use native.Mathlib.Omega.{arith}
 use lib.ListN.{length}
-use Rattle.removal.proofs.Steps.{Compacting, compact-start, step-fits, compact-more, compact-done}
+use Rattle.removal.proofs.CompactionSteps.{Compacting, compact-start, step-fits, compact-more, compact-done}
 use Rattle.removal.proofs.compaction.compact.Statement.{statement}
 use Rattle.removal.proofs.compaction.compact.Tie as tie
 
@@ -11,6 +12,10 @@ Inv-loop part₀ close k₀ read₀ written₀ part k read written = Compacting 
 
 abbrev μ-loop : tie.MeasureT-loop
 μ-loop part₀ close k₀ read₀ written₀ part k read written = length part₀ - read
+
+-- the turn of the loop, from where its step is known
+abbrev turn : tie.After-step-at Inv-loop μ-loop → tie.In-loop Inv-loop μ-loop
+turn c = c .before .before
 
 none-marked-requires : tie.Need-none-marked-requires Inv-loop μ-loop
 none-marked-requires c κs = tt
@@ -23,8 +28,9 @@ step-at-requires c κs = omega arith
 
 write-requires : tie.Need-write-requires Inv-loop μ-loop
 write-requires c κs =
-    step-fits _ (c .before .before .before .before .loop .inv) _ _ (c .before .before .before .loop-test .taken)
-    (c .before .step-at .ensures)
+    let stepped = c .before in
+    let inside = turn stepped in
+    step-fits _ (inside .before .loop .inv) _ _ (inside .loop-test .taken) (stepped .step-at .ensures)
 
 add-read : tie.Need-add-read Inv-loop μ-loop
 add-read c = omega arith
@@ -34,11 +40,11 @@ loop-less c = omega arith
 
 loop-again : tie.Need-loop-again Inv-loop μ-loop
 loop-again c =
-    compact-more _ (c .before .before .before .before .before .before .before .before .loop .inv)
-    (c .before .before .before .before .before .before .before .loop-test .taken)
-    (c .before .before .before .before .before .step-at .ensures)
-    (c .before .before .before .write .ensures .0)
-    (c .before .before .before .write .ensures .1)
+    let wrote = c .before .before .before in
+    let stepped = wrote .before .before in
+    let inside = turn stepped in
+    compact-more _ (inside .before .loop .inv) (inside .loop-test .taken) (stepped .step-at .ensures)
+    (wrote .write .ensures .0) (wrote .write .ensures .1)
 
 mul-zero-all : tie.Need-mul-zero-all Inv-loop μ-loop
 mul-zero-all c = omega arith
@@ -60,9 +66,9 @@ same-length c = omega arith
 
 returns : tie.Need-returns Inv-loop μ-loop
 returns c =
-    compact-done _ (c .before .before .before .before .before .loop .inv) _
-    (c .before .before .before .before .loop-test .left)
-    (c .before .before .zero-all .ensures)
+    let zeroed = c .before .before in
+    let left = zeroed .before .before in
+    compact-done _ (left .before .loop .inv) _ (left .loop-test .left) (zeroed .zero-all .ensures)
 
 pub compact-spec : {M : Type 1} → statement M
 compact-spec =

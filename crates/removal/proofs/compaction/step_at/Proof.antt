@@ -1,9 +1,8 @@
 -- `step_at` takes the step at a word: by its kind. Assumes nothing.
-use mathlib.Core.Path.{_∙_}
+use mathlib.Core.Path.{sym, _∙_}
 use borrow.Author.Needs.{needs}
-use Rattle.removal.specs.Marks.{said}
-use Rattle.removal.specs.Compaction.{stepAt}
-use Rattle.removal.proofs.Steps.{step-other}
+use borrow.Author.Tests.{eqb-true, eqb-false}
+use Rattle.removal.proofs.CompactionSteps.{step-strike, step-expiration, step-other}
 use Rattle.removal.proofs.compaction.step_at.Statement.{statement}
 use Rattle.removal.proofs.compaction.step_at.Tie as tie
 
@@ -13,8 +12,8 @@ mul-w c = search needs
 shared-slice-read-w : tie.Need-shared-slice-read-w
 shared-slice-read-w c = search needs
 
-kind-requires : tie.Need-kind-requires
-kind-requires c κs = search needs
+is-of-kind-requires : tie.Need-is-of-kind-requires
+is-of-kind-requires c κs = search needs
 
 does-stay-requires : tie.Need-does-stay-requires
 does-stay-requires c κs = search needs
@@ -23,34 +22,35 @@ strike-step-requires : tie.Need-strike-step-requires
 strike-step-requires c κs = search needs
 
 returns : tie.Need-returns
-unfolding stepAt said
-returns c = rw (
-  ← c .before .before .before .kind .ensures,
-  c .before .before .if1 .taken,
-  ← c .before .does-stay .ensures,
-)
-    (c .strike-step .ensures)
+returns c =
+    let asked = c .before in
+    let branch = asked .before in
+    let kind = eqb-true _ _ (sym (branch .before .is-of-kind .ensures) ∙ branch .if1 .taken) in
+    rw (step-strike _ _ _ _ kind, ← asked .does-stay .ensures) (c .strike-step .ensures)
+
+is-of-kind-requires-2 : tie.Need-is-of-kind-requires-2
+is-of-kind-requires-2 c κs = search needs
 
 bounds-after-requires : tie.Need-bounds-after-requires
 bounds-after-requires c κs = search needs
 
 returns-2 : tie.Need-returns-2
-unfolding stepAt said
-returns-2 c = rw (
-  ← c .before .before .before .kind .ensures,
-  c .before .if2 .taken,
-  c .bounds-after .ensures,
-)
+returns-2 c =
+    let branch = c .before in
+    let kind = eqb-true _ _ (sym (branch .before .is-of-kind2 .ensures) ∙ branch .if2 .taken) in
+    rw (step-expiration _ _ _ _ kind, c .bounds-after .ensures)
 
 settle-requires : tie.Need-settle-requires
 settle-requires c κs = search needs
 
 returns-3 : tie.Need-returns-3
-returns-3 c = rw (
-  step-other _ _ _ _ (λ e. c .before .before .if1 .left (c .before .before .before .kind .ensures ∙ e))
-      (λ e. c .before .if2 .left (c .before .before .before .kind .ensures ∙ e)),
-  c .settle .ensures,
-)
+returns-3 c =
+    let branch = c .before in
+    let tested = branch .before in
+    let passed = tested .before in
+    let no-strike = eqb-false _ _ (sym (passed .before .is-of-kind .ensures) ∙ passed .if1 .left) in
+    let no-expiration = eqb-false _ _ (sym (tested .is-of-kind2 .ensures) ∙ branch .if2 .left) in
+    rw (step-other _ _ _ _ no-strike no-expiration, c .settle .ensures)
 
 pub step-at-spec : {M : Type 1} → statement M
 step-at-spec =
@@ -58,10 +58,11 @@ step-at-spec =
     (tie.spec
     mul-w
     shared-slice-read-w
-    kind-requires
+    is-of-kind-requires
     does-stay-requires
     strike-step-requires
     returns
+    is-of-kind-requires-2
     bounds-after-requires
     returns-2
     settle-requires

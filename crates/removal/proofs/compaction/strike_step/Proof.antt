@@ -1,4 +1,5 @@
--- `strike_step` keeps a strike word, after the expiration word that waits, or removes it: by the two tests. Assumes nothing.
+-- `strike_step` keeps a strike word, after the expiration word that waits, or removes it: by the two tests. Assumes
+-- nothing.
 use borrow.Author.Tests.{eq-eqb, ne-eqb}
 use borrow.Author.Needs.{needs}
 use Rattle.removal.proofs.compaction.strike_step.Statement.{statement}

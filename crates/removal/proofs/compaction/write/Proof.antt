@@ -45,7 +45,10 @@ same-length-2 c = search needs
 
 returns-3 : tie.Need-returns-3
 unfolding stepWords
-returns-3 c = let e : c .before .before .before .before .args .o .count ≡ 2 = omega arith in (omega arith, rw (e, add-one))
+returns-3 c =
+    let start = c .before .before .before .before in
+    let two : start .args .o .count ≡ 2 = omega arith in
+    (omega arith, rw (two, add-one))
 
 pub write-spec : {M : Type 1} → statement M
 write-spec =

@@ -1,7 +1,7 @@
 -- `move_to` moves the words down: over no distance, or by the part that is lent and moved down. Assumes nothing.
 use native.Mathlib.Omega.{arith}
 use borrow.Author.Needs.{needs}
-use Rattle.removal.proofs.Stretches.{moved-nowhere, moved-down}
+use Rattle.removal.proofs.MovedStretches.{moved-nowhere, moved-down}
 use Rattle.removal.proofs.expiry.move_to.Statement.{statement}
 use Rattle.removal.proofs.expiry.move_to.Tie as tie
 
@@ -11,7 +11,7 @@ sub-gap c = search needs
 returns : tie.Need-returns
 returns c =
     let s = c .before .before in
-    (omega arith, moved-nowhere _ _ _ _ (s .pre .0) (s .pre .1 .0) (omega arith))
+    (omega arith, moved-nowhere _ _ _ _ (s .pre .down) (s .pre .part) (omega arith))
 
 mul-move-down-by : tie.Need-mul-move-down-by
 mul-move-down-by c = search needs
@@ -36,8 +36,11 @@ same-length c = search needs
 
 returns-2 : tie.Need-returns-2
 returns-2 c =
-    let s = c .before .before .before .before .before .before in
-    (omega arith, moved-down _ _ _ _ (s .pre .0) (s .pre .1 .0) (s .pre .1 .1) _ (c .before .before .move-down-by .ensures))
+    let moved = c .before .before in
+    let s = moved .before .before .before .before in (
+      omega arith,
+      moved-down _ _ _ _ (s .pre .down) (s .pre .part) (s .pre .inside) _ (moved .move-down-by .ensures),
+    )
 
 pub move-to-spec : {M : Type 1} → statement M
 move-to-spec =

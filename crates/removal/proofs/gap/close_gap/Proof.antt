@@ -30,10 +30,11 @@ same-length c = search needs
 
 returns : tie.Need-returns
 returns c =
-    let s = c .before .before .before .before .before .before .before .before .before in
-    gap-closed (s .args .gap) (s .args .words .now) _ _ (s .pre)
-    (c .before .before .before .before .before .before .move-down .ensures)
-    (c .before .before .zero-all .ensures)
+    let zeroed = c .before .before in
+    let moved = zeroed .before .before .before .before in
+    let s = moved .before .before .before in
+    gap-closed (s .args .gap) (s .args .words .now) _ _ (s .pre) (moved .move-down .ensures)
+    (zeroed .zero-all .ensures)
 
 pub close-gap-spec : {M : Type 1} → statement M
 close-gap-spec =

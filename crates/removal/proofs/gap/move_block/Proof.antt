@@ -1,9 +1,10 @@
--- `move_eight` stores the eight words from `from` on at `to`: each is read before one is written, so that what is stored is what stood there. Assumes nothing.
+-- `move_block` stores the words of a block from `from` on at `to`: each is read before one is written, so that what is
+-- stored is what stood there. Assumes nothing.
 use native.Mathlib.Omega.{arith}
 use lib.ListN.{length-set}
 use Rattle.removal.proofs.Shifts.{stored-all}
-use Rattle.removal.proofs.gap.move_eight.Statement.{statement}
-use Rattle.removal.proofs.gap.move_eight.Tie as tie
+use Rattle.removal.proofs.gap.move_block.Statement.{statement}
+use Rattle.removal.proofs.gap.move_block.Tie as tie
 
 mul-a : tie.Need-mul-a
 mul-a c = omega arith
@@ -148,11 +149,12 @@ same-length c = simp length-set
 
 returns : tie.Need-returns
 returns c =
-    let s = c .before .before .before .before .before .before .before .before in
+    let half-read = c .before .before .before .before in
+    let s = half-read .before .before .before .before in
     stored-all (s .args .words .now) (s .args .to) (s .args .from) 7 (s .pre .1)
 
-pub move-eight-spec : {M : Type 1} → statement M
-move-eight-spec =
+pub move-block-spec : {M : Type 1} → statement M
+move-block-spec =
     tie.close
     (tie.spec
     mul-a

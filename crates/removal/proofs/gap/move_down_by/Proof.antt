@@ -1,5 +1,5 @@
--- `move_down_by` moves the words down by the gap: the loop's law of shifting, eight words a turn; what is left goes by
--- one more turn over the last eight, or by `move_each`. Assumes nothing.
+-- `move_down_by` moves the words down by the gap: the loop's law of shifting, a block of words a turn; what is left
+-- goes by one more turn over the last block, or by `move_each`. Assumes nothing.
 use Prim.Native.Nat.{_-_, _≤_}
 use mathlib.Core.Path.{_∙_}
 use native.Mathlib.Omega.{arith}
@@ -8,6 +8,7 @@ use lib.ListN.{length}
 use lib.Dec.{T, leb, leb→le}
 use borrow.Author.Needs.{needs}
 use Rattle.logic.proofs.Tests.{ands, true-T}
+use Rattle.removal.specs.Rewriting.{blockLength}
 use Rattle.removal.proofs.Shifts.{Shifting, shift-start, shift-on, shift-done, shift-rest}
 use Rattle.removal.proofs.gap.move_down_by.Statement.{statement}
 use Rattle.removal.proofs.gap.move_down_by.Tie as tie
@@ -27,11 +28,11 @@ loop-holds c = shift-start (c .before .args .gap) (c .before .args .words .now) 
 add-loop : tie.Need-add-loop Inv-loop μ-loop
 add-loop c = omega arith
 
-add-move-eight : tie.Need-add-move-eight Inv-loop μ-loop
-add-move-eight c = omega arith
+add-move-block : tie.Need-add-move-block Inv-loop μ-loop
+add-move-block c = omega arith
 
-move-eight-requires : tie.Need-move-eight-requires Inv-loop μ-loop
-move-eight-requires c κs = omega arith
+move-block-requires : tie.Need-move-block-requires Inv-loop μ-loop
+move-block-requires c κs = omega arith
 
 add-i : tie.Need-add-i Inv-loop μ-loop
 add-i c = omega arith
@@ -42,41 +43,42 @@ loop-less c = omega arith
 loop-again : tie.Need-loop-again Inv-loop μ-loop
 loop-again c =
     let moved = c .before .before in
-    rw (moved .move-eight .ensures) (shift-on (moved .before .before .before .loop .inv) _ 8 (omega arith))
+    rw (moved .move-block .ensures) (shift-on (moved .before .before .before .loop .inv) _ blockLength (omega arith))
 
--- the test before the last eight words go: neither the gap nor what moves over it is shorter
-eight-fit : (c : tie.Then1 Inv-loop μ-loop) →
+-- the test before the last block goes: neither the gap nor what moves over it is shorter
+block-fits : (c : tie.Then1 Inv-loop μ-loop) →
     let a = c .before .before .before .before .args in
-    (8 ≤ a .gap) × (8 ≤ length (a .words .now) - a .gap)
-eight-fit c =
+    (blockLength ≤ a .gap) × (blockLength ≤ length (a .words .now) - a .gap)
+block-fits c =
     let a = c .before .before .before .before .args in
     let rest = length (a .words .now) - a .gap in
     let both : T (leb 8 (a .gap) && leb 8 rest) = true-T (leb 8 (a .gap) && leb 8 rest) (c .if1 .taken) in
     (leb→le 8 (a .gap) (search ands), leb→le 8 rest (search ands))
 
 sub-last : tie.Need-sub-last Inv-loop μ-loop
-sub-last c = omega (arith, eight-fit c)
+sub-last c = omega (arith, block-fits c)
 
-add-move-eight-2 : tie.Need-add-move-eight-2 Inv-loop μ-loop
-add-move-eight-2 c = omega arith
+add-move-block-2 : tie.Need-add-move-block-2 Inv-loop μ-loop
+add-move-block-2 c = omega arith
 
-move-eight-requires-2 : tie.Need-move-eight-requires-2 Inv-loop μ-loop
-move-eight-requires-2 c κs = omega (arith, eight-fit (c .before))
+move-block-requires-2 : tie.Need-move-block-requires-2 Inv-loop μ-loop
+move-block-requires-2 c κs = omega (arith, block-fits (c .before))
 
 same-length : tie.Need-same-length Inv-loop μ-loop
 same-length c =
     let moved = c .before .before in
     let left = moved .before .before in
-    moved .move-eight2 .kept .0 ∙ left .before .before .loop .inv .long
+    moved .move-block2 .kept .0 ∙ left .before .before .loop .inv .long
 
 returns : tie.Need-returns Inv-loop μ-loop
 returns c =
     let moved = c .before .before in
     let left = moved .before .before in
-    moved .move-eight2 .ensures
+    moved .move-block2 .ensures
     ∙ shift-done
-    (shift-on (left .before .before .loop .inv) _ 8 (omega (arith, eight-fit left, left .before .loop-test .left)))
-    (omega (arith, eight-fit left))
+    (shift-on (left .before .before .loop .inv) _ blockLength
+    (omega (arith, block-fits left, left .before .loop-test .left)))
+    (omega (arith, block-fits left))
 
 mul-move-each : tie.Need-mul-move-each Inv-loop μ-loop
 mul-move-each c = omega arith
@@ -111,14 +113,14 @@ move-down-by-spec =
     sub-count
     loop-holds
     add-loop
-    add-move-eight
-    move-eight-requires
+    add-move-block
+    move-block-requires
     add-i
     loop-less
     loop-again
     sub-last
-    add-move-eight-2
-    move-eight-requires-2
+    add-move-block-2
+    move-block-requires-2
     same-length
     returns
     mul-move-each

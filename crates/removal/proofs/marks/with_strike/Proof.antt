@@ -10,8 +10,8 @@ is-marked-requires c κs = search needs
 returns : tie.Need-returns
 returns c = rw (← c .before .is-marked .ensures, not-true (c .before .is-marked .result) (c .if1 .taken))
 
-field-of-requires : tie.Need-field-of-requires
-field-of-requires c κs = search needs
+key-of-requires : tie.Need-key-of-requires
+key-of-requires c κs = search needs
 
 lower-of-requires : tie.Need-lower-of-requires
 lower-of-requires c κs = search needs
@@ -23,13 +23,18 @@ higher-of-requires : tie.Need-higher-of-requires
 higher-of-requires c κs = search needs
 
 returns-2 : tie.Need-returns-2
-returns-2 c = rw (
-  ← c .before .before .before .before .is-marked .ensures,
-  not-false (c .before .before .before .before .is-marked .result) (c .before .before .before .if1 .left),
-  ← c .before .before .field-of .ensures,
-  ← c .before .lower-of .ensures,
-  c .higher-of .ensures,
-)
+returns-2 c =
+    let lowest = c .before in
+    let strike = lowest .before in
+    let branch = strike .before in
+    let marked = branch .before in
+    rw (
+      ← marked .is-marked .ensures,
+      not-false (marked .is-marked .result) (branch .if1 .left),
+      ← strike .key-of .ensures,
+      ← lowest .lower-of .ensures,
+      c .higher-of .ensures,
+    )
 
 pub with-strike-spec : {M : Type 1} → statement M
 with-strike-spec =
@@ -37,7 +42,7 @@ with-strike-spec =
     (tie.spec
     is-marked-requires
     returns
-    field-of-requires
+    key-of-requires
     lower-of-requires
     add-higher-of
     higher-of-requires
