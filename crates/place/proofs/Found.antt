@@ -457,7 +457,7 @@ module _ (ws : List ℕ) (b : T (isBook ws)) where
               (every-split isLegal strikes late strikes-legal .1))
               ∙ some-both (isEqual monthOf m) (isEqual strikeOf h) listed
 
--- the three words of a class are among those used
+-- the words of a class's figures are among those used
 pub begins-room :
-    (ws : List ℕ) → T (isBook ws) → (at : ℕ) → ClassBegins (factsOf ws) at → at + 3 ≤ used (factsOf ws)
+    (ws : List ℕ) → T (isBook ws) → (at : ℕ) → ClassBegins (factsOf ws) at → at + figuresLength ≤ used (factsOf ws)
 begins-room ws b at x = omega (arith, x .place, class-room ws b (x .number) (x .is-open))

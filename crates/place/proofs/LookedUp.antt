@@ -8,6 +8,7 @@ use native.Mathlib.Omega.{arith}
 use lib.ListN.{length, take, drop, getD}
 use lib.Dec.{T, eqb, ltb}
 use borrow.Author.Tests.{not-true, not-false, ltb-true, lt-ltb, le-ltb}
+use Rattle.word.specs.Figures.{figuresLength}
 use Rattle.word.specs.Limits.{lastMonth}
 use Rattle.word.specs.Kinds.{expirationKind, strikeKind, kindField}
 use Rattle.word.specs.Codec.{Expiration as ExpirationWord, packed}
@@ -43,7 +44,8 @@ module _ (at end : ℕ) (test : Bool) where
 module _
     (ws : List ℕ) (b : T (isBook ws)) (from m : ℕ) (month : m ≤ lastMonth) (place w : ℕ) (there : Bool)
     (sought : place
-    ≡ from + 3 + firstAt (isUpTo expirationKind m) (take (used (factsOf ws) - (from + 3)) (drop (from + 3) ws)))
+    ≡ from + figuresLength + firstAt (isUpTo expirationKind m)
+    (take (used (factsOf ws) - (from + figuresLength)) (drop (from + figuresLength) ws)))
     (word : w ≡ packed (ExpirationWord m))
     (found : there ≡ (ltb place (used (factsOf ws)) && eqb (getD ws place 0) w))
     (c : ℕ) (o : T (isOpen c (factsOf ws .classes))) (begin : from ≡ classPlace c (factsOf ws)) where
@@ -54,7 +56,7 @@ module _
   here = inMonth m (class facts c .series)
 
   place-is : place ≡ expirationPlace c m facts
-  place-is = sought ∙ expiration-sought ws b c o m month (from + 3) (omega arith)
+  place-is = sought ∙ expiration-sought ws b c o m month (from + figuresLength) (omega arith)
 
   there-is : there ≡ hasExpiration c m facts
   there-is =

@@ -27,15 +27,13 @@ fn is_designated(designation: u32) -> bool
 pub fn is_dollar_class(class: ClassRecord) -> bool
     ensures { λ r. ⌜ r ≡ isDollarClass class ⌝ }
 {
-    let designations = class.designations;
-    is_designated(designations[(DOLLAR - 1) as usize])
+    is_designated(class.designations[(DOLLAR - 1) as usize])
 }
 
 pub fn is_half_class(class: ClassRecord) -> bool
     ensures { λ r. ⌜ r ≡ isHalfClass class ⌝ }
 {
-    let designations = class.designations;
-    is_designated(designations[(HALF - 1) as usize])
+    is_designated(class.designations[(HALF - 1) as usize])
 }
 
 pub fn is_long(s: Setting) -> bool

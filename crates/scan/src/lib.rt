@@ -135,18 +135,19 @@ fn are_zero(s: &[u32]) -> bool
 pub fn is_book(run: &[u32]) -> bool
     ensures { λ r. ⌜ r ≡ isBook (now (run .entry)) ⌝ }
 {
-    let n = run.len();
+    let words = &run[..];
+    let n = words.len();
     if !is_length(n) {
         return false;
     }
-    if !head::is_head(run) {
+    if !head::is_head(words) {
         return false;
     }
-    let used = head::used(run);
-    if !are_classes(head::month(run), &run[0..used]) {
+    let used = head::used(words);
+    if !are_classes(head::month(words), &words[0..used]) {
         return false;
     }
-    are_zero(&run[used..])
+    are_zero(&words[used..])
 }
 
 // Makes a fresh book of the run, whatever it held; a run of a bad length is refused and keeps its words.

@@ -45,8 +45,10 @@ pub const STRIKE: Kind = Kind {
 // Where the number of its kind stands in a word.
 pub const NUMBER: Field = Field { low: 28, width: 4 };
 
-// How many words of one kind there are.
+// How many words of one kind there are, and the highest number below a kind.
 pub const KINDRED: u32 = 268435456;
+
+const HIGHEST_BELOW: u32 = 268435455;
 
 // The number of the kind of a word.
 pub fn kind_of(w: u32) -> u32
@@ -109,7 +111,7 @@ pub fn grade(w: u32, k: Kind) -> u32
     requires { ⌜ k .width ≤ kindField .low ⌝ }
     ensures { λ r. ⌜ r ≡ gradeOf k w ⌝ }
 {
-    kind_of(w) * KINDRED + (KINDRED - 1 - key_of(w, k))
+    kind_of(w) * KINDRED + (HIGHEST_BELOW - key_of(w, k))
 }
 
 // The grade of a word of the kind with this key.
@@ -117,5 +119,5 @@ pub fn grade_at(k: Kind, key: u32) -> u32
     requires { ⌜ (k .number < 16) × (key < 2 ^ kindField .low) ⌝ }
     ensures { λ r. ⌜ r ≡ gradeAt k key ⌝ }
 {
-    k.number * KINDRED + (KINDRED - 1 - key)
+    k.number * KINDRED + (HIGHEST_BELOW - key)
 }

@@ -50,7 +50,7 @@ reading p = p .before .before .before .before
 abbrev reviewable :
     (p : tie.After-next-class)
     → let q = reading p .before .before in
-    Reviewable (start (limited q) .args .run .now) (sought q .open-at .result + 3) (p .next-class .result)
+    Reviewable (start (limited q) .args .run .now) (sought q .open-at .result + figuresLength) (p .next-class .result)
     (reading p .read .result .close)
 reviewable p =
     let q = limited (reading p .before .before) in

@@ -1,15 +1,13 @@
 -- `class_at` answers what `class_near` finds, whatever the slot remembers: where there are places the slot is one of
 -- them, and the place that it is given is within the words used. Assumes nothing.
-use Prim.Native.Nat.{ℕ, _%_, _<_}
-use mathlib.Core.Path.{_≡_, refl, sym}
-use mathlib.Core.Bool.{Bool, true, false, _||_, false≢true}
+use Prim.Native.Nat.{_%_, _<_}
 use native.Mathlib.Nat.{mod-lt}
 use native.Mathlib.Omega.{arith}
-use lib.Dec.{eqb, leb}
 use lib.ListN.{length}
 use mir.Facts.{fits-widen}
 use borrow.Author.Needs.{needs}
 use borrow.Author.Tests.{eqb-false}
+use Rattle.logic.proofs.Tests.{nors}
 use Rattle.place.proofs.Heads.{book-room, book-long}
 use Rattle.place.proofs.Found.{class-within}
 use Rattle.place.proofs.lookup.class_at.Statement.{statement}
@@ -27,14 +25,9 @@ remembering c = c .before .before
 
 -- there are places
 some-places : (c : tie.Else1) → 0 < length (start c .args .places .now)
-some-places c = go (eqb count 0) refl (c .if1 .left)
-  where
-    count : ℕ
-    count = length (start c .args .places .now)
-
-    go : (none : Bool) → eqb count 0 ≡ none → (none || leb (c .before .used .result) 256) ≡ false → 0 < count
-    go true d e = absurd (false≢true (sym e))
-    go false d e = omega (arith, eqb-false count 0 d)
+some-places c =
+    let left = c .if1 .left in
+    omega (arith, eqb-false (length (start c .args .places .now)) 0 (search nors))
 
 slot-within : (c : tie.Else1) → let a = start c .args in a .c % length (a .places .now) < length (a .places .now)
 slot-within c = mod-lt (start c .args .c) (some-places c)

@@ -4,6 +4,7 @@ use native.Mathlib.Omega.{arith}
 use lib.Dec.{leb→le}
 use lib.ListN.{length}
 use borrow.Author.Needs.{needs}
+use Rattle.word.specs.Figures.{figuresLength}
 use Rattle.word.specs.Limits.{lastMonth}
 use Rattle.book.specs.Layout.{used, factsOf}
 use Rattle.place.proofs.Heads.{book-room}
@@ -18,7 +19,7 @@ start c = c .before .before
 within :
     (s : tie.Start)
     → let ws = s .args .run .now in
-    (s .args .class + 3 ≤ used (factsOf ws)) × (used (factsOf ws) ≤ length ws)
+    (s .args .class + figuresLength ≤ used (factsOf ws)) × (used (factsOf ws) ≤ length ws)
 within s = (begins-room _ (s .pre .book) _ (s .pre .begins), book-room _ (s .pre .book))
 
 add-begin : tie.Need-add-begin

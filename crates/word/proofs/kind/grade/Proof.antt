@@ -13,14 +13,11 @@ kind-of-requires c κs = search needs
 mul-result : tie.Need-mul-result
 mul-result c = search needs
 
-sub-result : tie.Need-sub-result
-sub-result c = search needs
-
 key-of-requires : tie.Need-key-of-requires
 key-of-requires c κs = search needs
 
-sub-result-2 : tie.Need-sub-result-2
-sub-result-2 c =
+sub-result : tie.Need-sub-result
+sub-result c =
     let start = c .before .before in
     let lowest : Field = record { low = 0; width = start .args .k .width } in
     omega (arith, c .key-of .ensures, field-less (start .args .w) lowest (kindField .low) (start .pre))
@@ -34,4 +31,4 @@ returns c = search needs
 pub grade-spec : {M : Type 1} → statement M
 grade-spec =
     tie.close
-    (tie.spec kind-of-requires mul-result sub-result key-of-requires sub-result-2 add-result returns)
+    (tie.spec kind-of-requires mul-result key-of-requires sub-result add-result returns)
