@@ -25,7 +25,7 @@ pub fn open_class(run: &mut [u32], c: u32) -> Answer
     if !is_book(run) {
         return Answer::Refused(Refusal::NotABook);
     }
-    class_call::open_class(run, &mut [], c)
+    class_call::open_class(run, c, &mut [])
 }
 
 // `C`: sets the close of a class.
@@ -35,7 +35,7 @@ pub fn set_close(run: &mut [u32], c: u32, p: u32) -> Answer
     if !is_book(run) {
         return Answer::Refused(Refusal::NotABook);
     }
-    class_call::set_close(run, &mut [], c, p)
+    class_call::set_close(run, c, p, &mut [])
 }
 
 // `V`: sets the volume of a class.
@@ -45,7 +45,7 @@ pub fn set_volume(run: &mut [u32], c: u32, n: u32) -> Answer
     if !is_book(run) {
         return Answer::Refused(Refusal::NotABook);
     }
-    class_call::set_volume(run, &mut [], c, n)
+    class_call::set_volume(run, c, n, &mut [])
 }
 
 // `D`: gives the program p the designation d.
@@ -55,7 +55,7 @@ pub fn designate(run: &mut [u32], c: u32, p: u32, d: u32) -> Answer
     if !is_book(run) {
         return Answer::Refused(Refusal::NotABook);
     }
-    class_call::designate(run, &mut [], c, p, d)
+    class_call::designate(run, c, p, d, &mut [])
 }
 
 // `L`: adds the strike h of the month m.
@@ -65,7 +65,7 @@ pub fn list_strike(run: &mut [u32], c: u32, m: u32, h: u32) -> Answer
     if !is_book(run) {
         return Answer::Refused(Refusal::NotABook);
     }
-    strike_call::list_strike(run, &mut [], c, m, h)
+    strike_call::list_strike(run, c, m, h, &mut [])
 }
 
 // `J`: judges the strike h of the month m, adding nothing.
@@ -75,7 +75,7 @@ pub fn judge_strike(run: &[u32], c: u32, m: u32, h: u32) -> Answer
     if !is_book(run) {
         return Answer::Refused(Refusal::NotABook);
     }
-    strike_call::judge_strike(run, &mut [], c, m, h)
+    strike_call::judge_strike(run, c, m, h, &mut [])
 }
 
 // `X`: delists the strike h of the month m.
@@ -85,7 +85,7 @@ pub fn delist_strike(run: &mut [u32], c: u32, m: u32, h: u32) -> Answer
     if !is_book(run) {
         return Answer::Refused(Refusal::NotABook);
     }
-    strike_call::delist_strike(run, &mut [], c, m, h)
+    strike_call::delist_strike(run, c, m, h, &mut [])
 }
 
 // `I`: sets the put mark a and the call mark b of the strike h of the month m.
@@ -95,7 +95,7 @@ pub fn mark_strike(run: &mut [u32], c: u32, m: u32, h: u32, a: u32, b: u32) -> A
     if !is_book(run) {
         return Answer::Refused(Refusal::NotABook);
     }
-    strike_call::mark_strike(run, &mut [], c, m, h, Marks { put: a, call: b })
+    strike_call::mark_strike(run, c, m, h, Marks { put: a, call: b }, &mut [])
 }
 
 // `R`: reviews a class, and answers how many strikes it removed.
@@ -105,7 +105,7 @@ pub fn review_class(run: &mut [u32], c: u32) -> Answer
     if !is_book(run) {
         return Answer::Refused(Refusal::NotABook);
     }
-    class_call::review_class(run, &mut [], c)
+    class_call::review_class(run, c, &mut [])
 }
 
 // `A`: writes the strikes of the month m that `J` would accept to the second run, and answers how many there are.
@@ -116,5 +116,5 @@ pub fn list_permitted(run: &[u32], second: &mut [u32], c: u32, m: u32) -> Answer
     if !is_book(run) {
         return Answer::Refused(Refusal::NotABook);
     }
-    strike_call::list_permitted(run, second, &mut [], c, m)
+    strike_call::list_permitted(run, second, c, m, &mut [])
 }

@@ -48,7 +48,7 @@ pub fn set_month(run: &mut [u32], m: u32) -> Answer
 }
 
 // `O`: opens a class.
-pub fn open_class(run: &mut [u32], places: &mut [u32], c: u32) -> Answer
+pub fn open_class(run: &mut [u32], c: u32, places: &mut [u32]) -> Answer
     requires { ⌜ T (isBook (now run)) ⌝ }
     ensures { λ r. ⌜ Made (on c callO) (now (run .entry)) [] r (now (run .exit)) [] ⌝ }
 {
@@ -67,7 +67,7 @@ pub fn open_class(run: &mut [u32], places: &mut [u32], c: u32) -> Answer
 }
 
 // `C`: sets the close.
-pub fn set_close(run: &mut [u32], places: &mut [u32], c: u32, p: u32) -> Answer
+pub fn set_close(run: &mut [u32], c: u32, p: u32, places: &mut [u32]) -> Answer
     requires { ⌜ T (isBook (now run)) ⌝ }
     ensures { λ r. ⌜ Made (on c (callC p)) (now (run .entry)) [] r (now (run .exit)) [] ⌝ }
 {
@@ -84,7 +84,7 @@ pub fn set_close(run: &mut [u32], places: &mut [u32], c: u32, p: u32) -> Answer
 }
 
 // `V`: sets the volume.
-pub fn set_volume(run: &mut [u32], places: &mut [u32], c: u32, n: u32) -> Answer
+pub fn set_volume(run: &mut [u32], c: u32, n: u32, places: &mut [u32]) -> Answer
     requires { ⌜ T (isBook (now run)) ⌝ }
     ensures { λ r. ⌜ Made (on c (callV n)) (now (run .entry)) [] r (now (run .exit)) [] ⌝ }
 {
@@ -101,7 +101,7 @@ pub fn set_volume(run: &mut [u32], places: &mut [u32], c: u32, n: u32) -> Answer
 }
 
 // `D`: gives the program p the designation d.
-pub fn designate(run: &mut [u32], places: &mut [u32], c: u32, p: u32, d: u32) -> Answer
+pub fn designate(run: &mut [u32], c: u32, p: u32, d: u32, places: &mut [u32]) -> Answer
     requires { ⌜ T (isBook (now run)) ⌝ }
     ensures { λ r. ⌜ Made (on c (callD p d)) (now (run .entry)) [] r (now (run .exit)) [] ⌝ }
 {
@@ -122,7 +122,7 @@ pub fn designate(run: &mut [u32], places: &mut [u32], c: u32, p: u32, d: u32) ->
 }
 
 // `R`: the review.
-pub fn review_class(run: &mut [u32], places: &mut [u32], c: u32) -> Answer
+pub fn review_class(run: &mut [u32], c: u32, places: &mut [u32]) -> Answer
     requires { ⌜ T (isBook (now run)) ⌝ }
     ensures { λ r. ⌜ Made (on c callR) (now (run .entry)) [] r (now (run .exit)) [] ⌝ }
 {

@@ -32,8 +32,8 @@ fn make_of_one(run: &mut [u32], places: &mut [u32], letter: u32, a: u32) -> Answ
 {
     match letter {
         letters::SET_MONTH => set_month(run, a),
-        letters::OPEN_CLASS => open_class(run, places, a),
-        letters::REVIEW_CLASS => review_class(run, places, a),
+        letters::OPEN_CLASS => open_class(run, a, places),
+        letters::REVIEW_CLASS => review_class(run, a, places),
         _ => Answer::Refused(Refusal::BeyondLimits),
     }
 }
@@ -52,9 +52,9 @@ fn make_of_two(
         (now (run .entry)) (now (second .entry)) r (now (run .exit)) (now (second .exit)) ⌝ }
 {
     match letter {
-        letters::SET_CLOSE => set_close(run, places, a, b),
-        letters::SET_VOLUME => set_volume(run, places, a, b),
-        letters::LIST_PERMITTED => list_permitted(run, second, places, a, b),
+        letters::SET_CLOSE => set_close(run, a, b, places),
+        letters::SET_VOLUME => set_volume(run, a, b, places),
+        letters::LIST_PERMITTED => list_permitted(run, second, a, b, places),
         _ => Answer::Refused(Refusal::BeyondLimits),
     }
 }
@@ -65,10 +65,10 @@ fn make_of_three(run: &mut [u32], places: &mut [u32], letter: u32, a: u32, b: u3
     ensures { λ r. ⌜ ((v : List ℕ) → Made (callOfThree letter a b c) (now (run .entry)) v r (now (run .exit)) v) ⌝ }
 {
     match letter {
-        letters::DESIGNATE => designate(run, places, a, b, c),
-        letters::LIST_STRIKE => list_strike(run, places, a, b, c),
-        letters::JUDGE_STRIKE => judge_strike(run, places, a, b, c),
-        letters::DELIST_STRIKE => delist_strike(run, places, a, b, c),
+        letters::DESIGNATE => designate(run, a, b, c, places),
+        letters::LIST_STRIKE => list_strike(run, a, b, c, places),
+        letters::JUDGE_STRIKE => judge_strike(run, a, b, c, places),
+        letters::DELIST_STRIKE => delist_strike(run, a, b, c, places),
         _ => Answer::Refused(Refusal::BeyondLimits),
     }
 }
@@ -84,7 +84,7 @@ fn make_of_five(run: &mut [u32], places: &mut [u32], letter: u32, numbers: &[u32
             put: numbers[3],
             call: numbers[4],
         };
-        return mark_strike(run, places, numbers[0], numbers[1], numbers[2], marks);
+        return mark_strike(run, numbers[0], numbers[1], numbers[2], marks, places);
     }
     Answer::Refused(Refusal::BeyondLimits)
 }

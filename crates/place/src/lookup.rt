@@ -59,8 +59,9 @@ fn class_near(run: &[u32], near: usize, c: u32) -> usize
     requires { ⌜ T (isBook (now run)) × T (isClassNumber c) ⌝ }
     ensures { λ r. ⌜ r ≡ classPlace c (factsOf (now (run .entry))) ⌝ }
 {
-    let used = head::used(run);
-    let words = &run[FIRST..used];
+    let whole = &run[..];
+    let used = head::used(whole);
+    let words = &whole[FIRST..used];
     if FIRST <= near {
         let found = found_near(words, near - FIRST, CLASS, c);
         if found < words.len() {
@@ -78,7 +79,7 @@ pub fn class_at(run: &[u32], places: &mut [u32], c: u32) -> usize
     ensures { λ r. ⌜ r ≡ classPlace c (factsOf (now (run .entry))) ⌝ }
 {
     let count = places.len();
-    if (count == 0) | (head::used(run) <= FEW_WORDS) {
+    if count == 0 || head::used(run) <= FEW_WORDS {
         return class_near(run, 0, c);
     }
     let slot = c as usize % count;

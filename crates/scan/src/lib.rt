@@ -95,13 +95,13 @@ fn are_classes(current: u32, s: &[u32]) -> bool
     let mut dollars = DollarCount(0);
     let mut halves = HalfCount(0);
     while i < n {
+        let w = s[i];
         if n - i < figures::LENGTH {
             return false;
         }
         if !figures::are_figures(s, i, last) {
             return false;
         }
-        let w = s[i];
         last = key_of(w, CLASS);
         dollars = dollars.counted(field_of(w, DOLLAR_BITS));
         halves = halves.counted(field_of(w, HALF_BITS));

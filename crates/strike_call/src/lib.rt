@@ -65,10 +65,11 @@ fn judge_found(run: &[u32], class: usize, found: StrikeSearch, m: u32, h: u32) -
     ensures { λ r. ⌜ ((x : Sought (now (run .entry)) class found m h)
         → r ≡ judged m h (viewOf (x .begins .number) (factsOf (now (run .entry))))) ⌝ }
 {
-    let figures = figures::read(run, class);
+    let words = &run[..];
+    let figures = figures::read(words, class);
     let setting = Setting {
         class: figures,
-        current: head::current(run),
+        current: head::current(words),
         month: m,
     };
     if is_outside(setting) {
@@ -81,17 +82,17 @@ fn judge_found(run: &[u32], class: usize, found: StrikeSearch, m: u32, h: u32) -
         return Answer::Refused(Refusal::NoClose);
     }
     let at = found.at;
-    let from = if found.expiration && is_strike_at(run, at - 1) {
+    let from = if found.expiration && is_strike_at(words, at - 1) {
         at - 1
     } else {
         at
     };
-    let to = if is_strike_at(run, at) { at + 1 } else { at };
-    judge(setting, Strike(h), &run[from..to])
+    let to = if is_strike_at(words, at) { at + 1 } else { at };
+    judge(setting, Strike(h), &words[from..to])
 }
 
 // `J`: the judgement of a strike.
-pub fn judge_strike(run: &[u32], places: &mut [u32], c: u32, m: u32, h: u32) -> Answer
+pub fn judge_strike(run: &[u32], c: u32, m: u32, h: u32, places: &mut [u32]) -> Answer
     requires { ⌜ T (isBook (now run)) ⌝ }
     ensures { λ r. ⌜ Made (on c (callJ m h)) (now (run .entry)) [] r (now (run .entry)) [] ⌝ }
 {
@@ -108,7 +109,7 @@ pub fn judge_strike(run: &[u32], places: &mut [u32], c: u32, m: u32, h: u32) -> 
 }
 
 // `L`: adds a strike.
-pub fn list_strike(run: &mut [u32], places: &mut [u32], c: u32, m: u32, h: u32) -> Answer
+pub fn list_strike(run: &mut [u32], c: u32, m: u32, h: u32, places: &mut [u32]) -> Answer
     requires { ⌜ T (isBook (now run)) ⌝ }
     ensures { λ r. ⌜ Made (on c (callL m h)) (now (run .entry)) [] r (now (run .exit)) [] ⌝ }
 {
@@ -133,7 +134,7 @@ pub fn list_strike(run: &mut [u32], places: &mut [u32], c: u32, m: u32, h: u32) 
 }
 
 // `X`: delists a strike.
-pub fn delist_strike(run: &mut [u32], places: &mut [u32], c: u32, m: u32, h: u32) -> Answer
+pub fn delist_strike(run: &mut [u32], c: u32, m: u32, h: u32, places: &mut [u32]) -> Answer
     requires { ⌜ T (isBook (now run)) ⌝ }
     ensures { λ r. ⌜ Made (on c (callX m h)) (now (run .entry)) [] r (now (run .exit)) [] ⌝ }
 {
@@ -160,11 +161,11 @@ pub fn delist_strike(run: &mut [u32], places: &mut [u32], c: u32, m: u32, h: u32
 // `I`: sets the marks of open interest.
 pub fn mark_strike(
     run: &mut [u32],
-    places: &mut [u32],
     c: u32,
     m: u32,
     h: u32,
     marks: Marks,
+    places: &mut [u32],
 ) -> Answer
     requires { ⌜ T (isBook (now run)) ⌝ }
     ensures { λ r. ⌜ Made (on c (callI m h (marks .put) (marks .call))) (now (run .entry)) [] r (now (run .exit)) [] ⌝ }
@@ -185,7 +186,7 @@ pub fn mark_strike(
 }
 
 // `A`: writes the permitted strikes to the second run.
-pub fn list_permitted(run: &[u32], second: &mut [u32], places: &mut [u32], c: u32, m: u32) -> Answer
+pub fn list_permitted(run: &[u32], second: &mut [u32], c: u32, m: u32, places: &mut [u32]) -> Answer
     requires { ⌜ T (isBook (now run)) ⌝ }
     ensures { λ r. ⌜ Made (on c (callA m)) (now (run .entry)) (now (second .entry))
         r (now (run .entry)) (now (second .exit)) ⌝ }

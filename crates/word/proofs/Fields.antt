@@ -1,11 +1,11 @@
 -- Fields of words by position and width: shifts are division and multiplication by powers of two, masks are remainders.
 -- Assumes nothing.
-use mathlib.Core.Path.{_≡_}
+use mathlib.Core.Path.{_≡_, ap, _∙_}
 use Prim.Native.Nat.{ℕ, _+_, _-_, _*_, _/_, _%_, _^_, _<_, _≤_}
 use native.Mathlib.Nat.{mod-lt, mod-eq-of-lt, add-comm, add-assoc, mul-assoc, add-mul, one-mul}
 use native.Mathlib.Omega.{arith}
 use lib.Bits.{bitAnd, bitOr, and-mask, or-shifted-r}
-use lib.Pow.{pow-lt, pow-add, pow-pos, pow-mono, high, low}
+use lib.Pow.{pow-lt, pow-add, pow-pos, pow-mono, high, low, ones-split, ones-lt}
 use Rattle.word.specs.declared.field.Field.{Field}
 use Rattle.word.specs.Field.{field}
 
@@ -42,3 +42,20 @@ field-less w f more l =
     let a = mod-lt (w / 2 ^ f .low) (pow-pos (f .width)) in
     let b = pow-mono l in
     omega arith
+
+-- a mask cut from a longer one
+mask-cut : (width more : ℕ) → width ≤ more → (2 ^ more - 1) / 2 ^ (more - width) ≡ 2 ^ width - 1
+mask-cut width more l =
+    let k = more - width in
+    let parts : more ≡ width + k = omega arith in
+    ap (λ (n : ℕ). (2 ^ n - 1) / 2 ^ k) parts
+    ∙ ap (λ (n : ℕ). n / 2 ^ k) (ones-split width k)
+    ∙ high (2 ^ width - 1) k (ones-lt k)
+
+-- .. which reads the lowest field
+pub masked-lowest :
+    (w width more : ℕ) → width ≤ more
+    → bitAnd w ((2 ^ more - 1) / 2 ^ (more - width)) ≡ field w (record { low = 0; width = width })
+masked-lowest w width more l =
+    let whole : w ≡ w / 2 ^ 0 = omega arith in
+    ap (bitAnd w) (mask-cut width more l) ∙ and-mask w width ∙ ap (λ (n : ℕ). n % 2 ^ width) whole

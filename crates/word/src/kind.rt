@@ -106,12 +106,14 @@ pub fn is_bare(w: u32, k: Kind, end: u32) -> bool
     w >> end == k.number << (NUMBER.low - end)
 }
 
-// A word by its kind, and in its kind by how low its key is.
+// A word by its kind, and in its kind by how low its key is. The mask is made of a constant, so that the compiler knows
+// that the key is below the kind.
 pub fn grade(w: u32, k: Kind) -> u32
     requires { ⌜ k .width ≤ kindField .low ⌝ }
     ensures { λ r. ⌜ r ≡ gradeOf k w ⌝ }
 {
-    kind_of(w) * KINDRED + (HIGHEST_BELOW - key_of(w, k))
+    let mask = HIGHEST_BELOW >> (NUMBER.low - k.width);
+    kind_of(w) * KINDRED + (HIGHEST_BELOW - (w & mask))
 }
 
 // The grade of a word of the kind with this key.

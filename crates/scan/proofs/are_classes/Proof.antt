@@ -24,11 +24,15 @@ abbrev μ-loop : tie.MeasureT-loop
 
 -- where the words of figures passed their test, from where the class's number is read
 abbrev figured : tie.After-key-of Inv-loop μ-loop → tie.Else2 Inv-loop μ-loop
-figured c = c .before .before
+figured c = c .before
+
+-- where there is room for them
+abbrev roomy : tie.Else2 Inv-loop μ-loop → tie.Else1 Inv-loop μ-loop
+roomy c = c .before .before
 
 -- the turn of the loop
 abbrev turn : tie.Else2 Inv-loop μ-loop → tie.At-loop Inv-loop μ-loop
-turn c = c .before .before .before .before
+turn c = roomy c .before .before .before
 
 abbrev start : tie.At-loop Inv-loop μ-loop → tie.Start Inv-loop μ-loop
 start c = c .before .before .before
@@ -57,7 +61,7 @@ counted c =
     let loop = turn passed .loop in
     let dollar = c .before .before in
     let walk =
-    walked-counted (loop .inv .0) (passed .before .before .if1 .left)
+    walked-counted (loop .inv .0) (roomy passed .if1 .left)
     (rw (passed .before .are-figures .ensures) at (passed .if2 .left)) in
     counted-same walk (numbered c .key-of .ensures)
     (dollar .counted .ensures ∙ ap (λ (d : ℕ). loop .dollars .0 + own d) (dollar .before .field-of .ensures))
@@ -91,13 +95,19 @@ loop-holds c =
     let start = c .before .before in
     (walked-start (start .args .current) (start .args .s .now) (start .pre .1), c .look-ahead .ensures)
 
+mul-w : tie.Need-mul-w Inv-loop μ-loop
+mul-w c = search needs
+
+shared-slice-read-w : tie.Need-shared-slice-read-w Inv-loop μ-loop
+shared-slice-read-w c = search needs
+
 sub-if1 : tie.Need-sub-if1 Inv-loop μ-loop
 sub-if1 c = search needs
 
 returns : tie.Need-returns Inv-loop μ-loop
 returns c =
-    let at = c .before .before in
-    (λ t. absurd t, walked-short (at .loop .inv .0) (c .before .loop-test .taken) (c .if1 .taken))
+    let begun = c .before .before in
+    (λ t. absurd t, walked-short (begun .before .loop .inv .0) (begun .loop-test .taken) (c .if1 .taken))
 
 are-figures-requires : tie.Need-are-figures-requires Inv-loop μ-loop
 are-figures-requires c κs = search needs
@@ -107,15 +117,9 @@ returns-2 c =
     let tested = c .before in
     let room = tested .before in (
       λ t. absurd t,
-      walked-wrong (room .before .before .loop .inv .0) (room .if1 .left)
+      walked-wrong (room .before .before .before .loop .inv .0) (room .if1 .left)
           (rw (tested .are-figures .ensures) at (c .if2 .taken)),
     )
-
-mul-w : tie.Need-mul-w Inv-loop μ-loop
-mul-w c = search needs
-
-shared-slice-read-w : tie.Need-shared-slice-read-w Inv-loop μ-loop
-shared-slice-read-w c = search needs
 
 key-of-requires : tie.Need-key-of-requires Inv-loop μ-loop
 key-of-requires c κs = search needs
@@ -153,7 +157,7 @@ skip-to-requires c κs =
     record {
       tells = at .loop .inv .1 .0;
       later = omega (arith, at .loop .inv .1 .1);
-      inside = omega (arith, passed .before .before .if1 .left);
+      inside = omega (arith, roomy passed .if1 .left);
     }
 
 expirations-end-requires : tie.Need-expirations-end-requires Inv-loop μ-loop
@@ -198,12 +202,12 @@ are-classes-spec =
     μ-loop
     look-ahead-requires
     loop-holds
+    mul-w
+    shared-slice-read-w
     sub-if1
     returns
     are-figures-requires
     returns-2
-    mul-w
-    shared-slice-read-w
     key-of-requires
     field-of-requires
     counted-requires

@@ -6,8 +6,6 @@ use native.Mathlib.Omega.{arith}
 use lib.ListN.{length}
 use mir.Facts.{fits-widen}
 use borrow.Author.Needs.{needs}
-use borrow.Author.Tests.{eqb-false}
-use Rattle.logic.proofs.Tests.{nors}
 use Rattle.place.proofs.Heads.{book-room, book-long}
 use Rattle.place.proofs.Found.{class-within}
 use Rattle.place.proofs.lookup.class_at.Statement.{statement}
@@ -15,21 +13,23 @@ use Rattle.place.proofs.lookup.class_at.Tie as tie
 
 -- ---- the places of the proof
 
-abbrev start : tie.Else1 → tie.Start
-start c = c .before .before .before .before
+-- where there are places
+abbrev lent : tie.Else2 → tie.Else1
+lent c = c .before .before
 
-abbrev remembering : tie.After-class-near2 → tie.Else1
+abbrev start : tie.Else2 → tie.Start
+start c = lent c .before .before .before
+
+abbrev remembering : tie.After-class-near2 → tie.Else2
 remembering c = c .before .before
 
 -- ---- what is known there
 
 -- there are places
-some-places : (c : tie.Else1) → 0 < length (start c .args .places .now)
-some-places c =
-    let left = c .if1 .left in
-    omega (arith, eqb-false (length (start c .args .places .now)) 0 (search nors))
+some-places : (c : tie.Else2) → 0 < length (start c .args .places .now)
+some-places c = omega (arith, lent c .if1 .left)
 
-slot-within : (c : tie.Else1) → let a = start c .args in a .c % length (a .places .now) < length (a .places .now)
+slot-within : (c : tie.Else2) → let a = start c .args in a .c % length (a .places .now) < length (a .places .now)
 slot-within c = mod-lt (start c .args .c) (some-places c)
 
 -- ---- what is to be shown there
