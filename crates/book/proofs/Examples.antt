@@ -39,8 +39,8 @@ done = 0 ∷ 0 ∷ []
 opening : List Call
 opening = callM 4 ∷ on 7 callO ∷ on 7 (callC 200) ∷ on 7 (callD 1 1) ∷ []
 
-opened : Facts
-opened =
+openedFacts : Facts
+openedFacts =
     record {
       now = 4;
       classes =
@@ -55,13 +55,13 @@ sample-opening : answers 4096 512 opening fresh ≡ done ∷ done ∷ done ∷ d
 unfolding answers opening
 sample-opening = refl
 
-sample-opened : after 4096 opening ≡ opened
-unfolding answers steps opened opening
+sample-opened : after 4096 opening ≡ openedFacts
+unfolding answers steps openedFacts opening
 sample-opened = refl
 
-sample-permitted : permittedIn 5 (viewOf 7 opened) ≡ 2 ∷ 4 ∷ 6 ∷ 8 ∷ 10 ∷ 12 ∷ 14 ∷ []
-unfolding opened lowest amongFive
-sample-permitted = permitted-short 5 (viewOf 7 opened) 100 (omega arith) (omega arith)
+sample-permitted : permittedIn 5 (viewOf 7 openedFacts) ≡ 2 ∷ 4 ∷ 6 ∷ 8 ∷ 10 ∷ 12 ∷ 14 ∷ []
+unfolding openedFacts lowest amongFive
+sample-permitted = permitted-short 5 (viewOf 7 openedFacts) 100 (omega arith) (omega arith)
 
 -- the answer of `A`, from the strikes that it would list; the second run has `room` words
 abbrev listing : List Condition → ℕ → List ℕ → List ℕ
@@ -84,19 +84,19 @@ unfolding answers
 listing-answer n c m room f strikes e =
     ap (λ (l : List ℕ). listing (asking c m f) room l ∷ []) e
 
-sample-listing : answers 4096 512 (on 7 (callA 5) ∷ []) opened ≡ (0 ∷ 7 ∷ 2 ∷ 4 ∷ 6 ∷ 8 ∷ 10 ∷ 12 ∷ 14 ∷ []) ∷ []
-unfolding opened effectOn
-sample-listing = listing-answer 4096 7 5 512 opened (2 ∷ 4 ∷ 6 ∷ 8 ∷ 10 ∷ 12 ∷ 14 ∷ []) sample-permitted
+sample-listing : answers 4096 512 (on 7 (callA 5) ∷ []) openedFacts ≡ (0 ∷ 7 ∷ 2 ∷ 4 ∷ 6 ∷ 8 ∷ 10 ∷ 12 ∷ 14 ∷ []) ∷ []
+unfolding openedFacts effectOn
+sample-listing = listing-answer 4096 7 5 512 openedFacts (2 ∷ 4 ∷ 6 ∷ 8 ∷ 10 ∷ 12 ∷ 14 ∷ []) sample-permitted
 
 -- a second run of six words is too short, and the value is the count
-sample-short : answers 4096 6 (on 7 (callA 5) ∷ []) opened ≡ (15 ∷ 7 ∷ []) ∷ []
-unfolding opened effectOn
-sample-short = listing-answer 4096 7 5 6 opened (2 ∷ 4 ∷ 6 ∷ 8 ∷ 10 ∷ 12 ∷ 14 ∷ []) sample-permitted
+sample-short : answers 4096 6 (on 7 (callA 5) ∷ []) openedFacts ≡ (15 ∷ 7 ∷ []) ∷ []
+unfolding openedFacts effectOn
+sample-short = listing-answer 4096 7 5 6 openedFacts (2 ∷ 4 ∷ 6 ∷ 8 ∷ 10 ∷ 12 ∷ 14 ∷ []) sample-permitted
 
 sample-adding :
-    answers 4096 512 (on 7 (callL 5 14) ∷ on 7 (callL 5 16) ∷ on 7 (callL 5 14) ∷ []) opened
+    answers 4096 512 (on 7 (callL 5 14) ∷ on 7 (callL 5 16) ∷ on 7 (callL 5 14) ∷ []) openedFacts
     ≡ (0 ∷ 1 ∷ []) ∷ (12 ∷ 0 ∷ []) ∷ (6 ∷ 0 ∷ []) ∷ []
-unfolding answers opened lowest amongFive
+unfolding answers openedFacts lowest amongFive
 sample-adding = refl
 
 -- ---- "Review at 1300, Dollar $7, $8, $19, Standard $20"
@@ -158,7 +158,7 @@ cap-dollar :
 unfolding numbers classesOwned
 cap-dollar = refl
 
--- n classes from number c on, opened and made ours in the $0.50 program
+-- n classes from number c on, openedFacts and made ours in the $0.50 program
 claims : ℕ → ℕ → List Call
 claims zero c = []
 claims (suc n) c = on c callO ∷ on c (callC 200) ∷ on c (callV 1000) ∷ on c (callD 2 1) ∷ claims n (suc c)

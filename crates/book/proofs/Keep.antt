@@ -9,7 +9,7 @@ use mathlib.Core.Logic.{_⊎_, inl, inr}
 use native.Mathlib.Omega.{arith}
 use lib.ListN.{length, getD, set, length-map, getD-replicate}
 use lib.Seq.{getD-set-same, getD-set-other}
-use lib.Dec.{T, eqb, leb, ltb, eqb→eq, leb→le, le→leb, nleb→lt, nltb→le}
+use lib.Dec.{T, eqb, leb, ltb, leb→le, nleb→lt, nltb→le}
 use borrow.Author.Tests.{eqb-true, eqb-false}
 use Rattle.logic.specs.Lists.{sum, every, some, only}
 use Rattle.word.specs.declared.class.ClassRecord.{ClassRecord}
@@ -33,7 +33,7 @@ use Rattle.book.specs.Views.{viewOf, class, isNotOpen, isStanding, setti
 use Rattle.book.specs.Changes.{update, monthSet, classOpened, classGrown}
 use Rattle.book.specs.Calls.{Call, callM, on, callO, callC, callV, callD, callL, callJ, callX, callI, callR, callA, malformed, effectOn, isCapReached, isGranted, step, steps, after, acceptedFacts}
 use Rattle.book.specs.Permission.{factsWithStrike}
-use Rattle.logic.proofs.Tests.{and-intro, ands, true-T, nor-left, nor-right, not-not}
+use Rattle.logic.proofs.Tests.{and-intro, ands, true-T, nor-left, nor-right, not-not, not-leb, not-ltb, leb-shifted}
 use Rattle.logic.proofs.Lists.{every-imply, every-map, length-only, sum-map, same-keys, every-inserted, rises-inserted, sum-inserted}
 use Rattle.logic.proofs.Parts.{only-all, map-same}
 use Rattle.book.proofs.ClassWords.{class-good, series-good}
@@ -216,10 +216,6 @@ module _
 
 -- ---- a month that begins
 
--- a bound that moves up with the month
-leb-shifted : (a b c k : ℕ) → b ≤ c → T (leb a (b + k)) → T (leb a (c + k))
-leb-shifted a b c k l t = le→leb a (c + k) (omega (arith, leb→le a (b + k) t))
-
 abbrev isFromMonth : ℕ → Series → Bool
 isFromMonth m s = leb m (s .month)
 
@@ -294,12 +290,6 @@ keep-open n c f w t o room =
         omega (arith, count, ap own (getD-replicate programCount (p - 1) 0 0 within), w .caps p k)
 
 -- ---- a new series
-
-not-leb : (a b : ℕ) → T (not (leb a b)) → T (leb b a)
-not-leb a b t = le→leb b a (omega (arith, nleb→lt a b t))
-
-not-ltb : (a b : ℕ) → T (not (ltb a b)) → T (leb b a)
-not-ltb a b t = le→leb b a (nltb→le a b t)
 
 month-listed :
     (f : Facts) (c m : ℕ) → T (isMonth m) → T (not (isOutside (setting (viewOf c f) m))) → T (isListed (f .now) m)

@@ -49,8 +49,8 @@ strike = (2 ^ 30 + 2 ^ 29 + 46) ∷ 0 ∷ 0 ∷ []
 expiration : List ℕ
 expiration = (2 ^ 30 + 2 ^ 28 + 10) ∷ 0 ∷ 0 ∷ []
 
-class : ℕ → List ℕ
-class c = (2 ^ 29 + c) ∷ (2 ^ 29 + 2 ^ 28) ∷ 2 ^ 30 ∷ []
+bareClass : ℕ → List ℕ
+bareClass c = (2 ^ 29 + c) ∷ (2 ^ 29 + 2 ^ 28) ∷ 2 ^ 30 ∷ []
 
 -- ---- books
 
@@ -66,8 +66,8 @@ strike-more : isBook (run 10 strike) ≡ true
 unfolding isBook isWellFormed factsOf layout reading run strike
 strike-more = refl
 
-class-more : isBook (run 12 (class 8)) ≡ true
-unfolding isBook isWellFormed factsOf layout reading run class
+class-more : isBook (run 12 (bareClass 8)) ≡ true
+unfolding isBook isWellFormed factsOf layout reading run bareClass
 class-more = refl
 
 -- ---- no books
@@ -94,10 +94,10 @@ word-past : isBook (run 9 (0 ∷ 0 ∷ 1 ∷ [])) ≡ false
 unfolding isBook isWellFormed factsOf layout reading run
 word-past = refl
 
-classes-falling : isBook (run 12 (class 6)) ≡ false
-unfolding isBook isWellFormed factsOf layout reading run class
+classes-falling : isBook (run 12 (bareClass 6)) ≡ false
+unfolding isBook isWellFormed factsOf layout reading run bareClass
 classes-falling = refl
 
-class-twice : isBook (run 12 (class 7)) ≡ false
-unfolding isBook isWellFormed factsOf layout reading run class
+class-twice : isBook (run 12 (bareClass 7)) ≡ false
+unfolding isBook isWellFormed factsOf layout reading run bareClass
 class-twice = refl

@@ -2,8 +2,8 @@
 -- writes exactly the strikes that `J` accepts, 15 and 10 are drawn only where words and places are not: by the order of
 -- conditions. Assumes nothing.
 use Prim.Native.Nat.{ℕ, suc, _<_, _≤_}
-use mathlib.Core.Path.{_≡_, refl, sym, ap, _∙_}
-use mathlib.Core.Bool.{Bool, true, false, not, _&&_, _||_, and-true}
+use mathlib.Core.Path.{_≡_, refl, sym, ap, _∙_, subst}
+use mathlib.Core.Bool.{Bool, true, false, not, _&&_, and-true, or-false}
 use mathlib.Core.List.{List, [], _∷_, _++_}
 use native.Mathlib.Omega.{arith}
 use lib.ListN.{length}
@@ -51,10 +51,6 @@ listing-exactly n c m h f =
         ≡ ((b && noneApplies (judging m h (viewOf c f))) && not short)
     go true = none-last (judging m h (viewOf c f)) (OutOfWords 0) short
     go false = refl
-
-last-applies : (b : Bool) → T (b || false) → T b
-last-applies true t = t
-last-applies false t = t
 
 module _ {w w′ : List ℕ} {r : Answer} (book : T (isBook w)) where
   module _ {x : Call} {v v′ : List ℕ} (made : Made x w v r w′ v′) where
@@ -123,7 +119,7 @@ module _ {w w′ : List ℕ} {r : Answer} (book : T (isBook w)) where
     unfolding effectOn
     listed-room e =
         ltb→lt (length w) (wordsTaken (factsWithStrike c m h (factsOf w)))
-        (last-applies (ltb (length w) (wordsTaken (factsWithStrike c m h (factsOf w)))) (drawn made 14 e))
+        (subst T (or-false (ltb (length w) (wordsTaken (factsWithStrike c m h (factsOf w))))) (drawn made 14 e))
 
   -- `J` gives the same judgement
   module _ {c m h : ℕ} (made : Made (on c (callJ m h)) w [] r w′ []) where
@@ -140,7 +136,7 @@ module _ {w w′ : List ℕ} {r : Answer} (book : T (isBook w)) where
   unfolding effectOn
   opened-room {c} made e =
       ltb→lt (length w) (wordsTaken (classOpened c (factsOf w)))
-      (last-applies (ltb (length w) (wordsTaken (classOpened c (factsOf w)))) (drawn made 14 e))
+      (subst T (or-false (ltb (length w) (wordsTaken (classOpened c (factsOf w))))) (drawn made 14 e))
 
   -- 10 is drawn only where the program has no place left
   pub designated-cap :
@@ -150,7 +146,7 @@ module _ {w w′ : List ℕ} {r : Answer} (book : T (isBook w)) where
   designated-cap {c} {p} {d} made e =
       let new = isNew p d (class (factsOf w) c .figures) in
       let t : T (new && isCapReached p (factsOf w)) =
-      last-applies (new && isCapReached p (factsOf w)) (drawn made 9 e) in
+      subst T (or-false (new && isCapReached p (factsOf w))) (drawn made 9 e) in
       leb→le (program p .cap) (owned p (factsOf w .classes)) (search ands)
 
   -- the permitted list: what `A` counts and writes
@@ -172,7 +168,7 @@ module _ {w w′ : List ℕ} {r : Answer} (book : T (isBook w)) where
     pub permitted-room : answerNumber r ≡ 15 → (length v < count) × (answerValue r ≡ count)
     unfolding effectOn answerTo
     permitted-room e = (
-      ltb→lt (length v) count (last-applies (ltb (length v) count) (drawn made 14 e)),
+      ltb→lt (length v) count (subst T (or-false (ltb (length v) count)) (drawn made 14 e)),
       ap answerValue (answered made)
           ∙ value (not (isClassNumber c && isMonth m)) (isNotOpen (viewOf c (factsOf w)))
           (isOutside (setting (viewOf c (factsOf w)) m))

@@ -15,7 +15,7 @@ use Rattle.book.specs.Facts.{Series, isAt, stands, inMonth, withMarks, p
 use Rattle.book.specs.Layout.{strikeWord, expirationUnless, seriesWords}
 use Rattle.book.specs.Books.{isSeries}
 use Rattle.logic.proofs.Tests.{and-intro, ands, T-true, or-left, or-right}
-use Rattle.logic.proofs.Lists.{every-imply, every-only, ordered, rises-ordered, rises-only}
+use Rattle.logic.proofs.Lists.{every-imply, every-only, ordered, rises-ordered, rises-only, rising-keys}
 use Rattle.book.proofs.Forms.{areSeries}
 use Rattle.book.proofs.Layouts.{seriesWords-append}
 use Rattle.book.proofs.SeriesLaws.{Precedes, to-precedes, months-rise, isWith, series-order, markedAt}
@@ -116,12 +116,6 @@ module _ (now m : ℕ) (ss : List Series) (t : T (areSeries now ss)) where
       (some-only (isEqual monthOf m) ss)
 
 -- ---- the series on either side of a month and a strike
-
-rising-keys :
-    {A : Type 0} (key : A → ℕ) (xs : List A) → T (ordered (λ x y. ltb (key x) (key y)) xs) → Rising (map key xs)
-rising-keys key [] t = tt
-rising-keys key (x ∷ []) t = tt
-rising-keys key (x ∷ y ∷ ys) t = (ltb→lt (key x) (key y) (search ands), rising-keys key (y ∷ ys) (search ands))
 
 module _ (ss : List Series) (m h : ℕ) where
   -- the series of earlier months; of the month m those below the strike h, at it and above it; the series of later

@@ -23,23 +23,23 @@ use Rattle.book.specs.Books.{isBook}
 use Rattle.book.specs.Views.{isNew}
 use Rattle.book.specs.Calls.{on, callD, Condition, firstOr, claiming, effectOn, isCapReached, capping, answerTo}
 use Rattle.book.specs.Made.{Made}
-use Rattle.logic.proofs.Tests.{ands, and-intro, T-true}
+use Rattle.logic.proofs.Tests.{ands, and-intro, T-true, passed}
 use Rattle.logic.proofs.Lists.{every-at}
 use Rattle.book.proofs.ProgramTable.{designations-set}
 use Rattle.book.proofs.Order.{granted-answer}
 use Rattle.book.proofs.Answered.{made-refused}
-use Rattle.edit.specs.Asked.{Storable}
-use Rattle.class_call.proofs.Ways.{passed, Found, found-seen, found-figures, found-limits}
+use Rattle.edit.specs.EditsAsked.{Storable}
+use Rattle.class_call.proofs.Ways.{Found, found-seen, found-figures, found-limits}
 use Rattle.class_call.proofs.FigureWays.{Stored, storable, figures-set}
 
 -- ---- what a claim draws
 
 -- what `D` asks of an open class with the figures r
-abbrev claims : ℕ → ℕ → ClassRecord → Facts → List Condition
-claims p d r f = claiming p d r ++ (capping p d r f ∷ [])
+abbrev claimAsks : ℕ → ℕ → ClassRecord → Facts → List Condition
+claimAsks p d r f = claiming p d r ++ (capping p d r f ∷ [])
 
 module _ (f : Facts) (r : ClassRecord) (p d : ℕ) where
-  pub claim-untested : not (isNew p d r) ≡ true → Done ≡ firstOr Done (claims p d r f)
+  pub claim-untested : not (isNew p d r) ≡ true → Done ≡ firstOr Done (claimAsks p d r f)
   claim-untested e = rw (not-true (isNew p d r) e)
 
   module _ (known : (1 ≤ p) × (p ≤ programCount)) (new : not (isNew p d r) ≡ false) where
@@ -52,19 +52,19 @@ module _ (f : Facts) (r : ClassRecord) (p d : ℕ) where
         T-true (program p .needsClose)
         (every-at (λ g. g .needsClose) dollarProgram programs (p - 1) (omega (arith, known)) tt)
 
-    pub claim-no-close : r .close ≡ 0 → Refused NoClose ≡ firstOr Done (claims p d r f)
+    pub claim-no-close : r .close ≡ 0 → Refused NoClose ≡ firstOr Done (claimAsks p d r f)
     claim-no-close e = rw (is-new, needed, eq-eqb (r .close) 0 e)
 
     module _ (close : r .close ≡ 0 → ⊥) where
       pub claim-not-qualified :
-          not (program p .qualifies r) ≡ true → Refused NotQualified ≡ firstOr Done (claims p d r f)
+          not (program p .qualifies r) ≡ true → Refused NotQualified ≡ firstOr Done (claimAsks p d r f)
       claim-not-qualified e = rw (is-new, needed, ne-eqb (r .close) 0 close, e)
 
       module _ (qualified : not (program p .qualifies r) ≡ false) where
-        pub claim-capped : isCapReached p f ≡ true → Refused CapReached ≡ firstOr Done (claims p d r f)
+        pub claim-capped : isCapReached p f ≡ true → Refused CapReached ≡ firstOr Done (claimAsks p d r f)
         claim-capped e = rw (is-new, needed, ne-eqb (r .close) 0 close, qualified, e)
 
-        pub claim-granted : isCapReached p f ≡ false → Done ≡ firstOr Done (claims p d r f)
+        pub claim-granted : isCapReached p f ≡ false → Done ≡ firstOr Done (claimAsks p d r f)
         claim-granted e = rw (is-new, needed, ne-eqb (r .close) 0 close, qualified, e)
 
 -- ---- the ways out of `D`
@@ -86,7 +86,7 @@ module _
 
   module _
       (at : ℕ) (r : ClassRecord) (found : Found w c at r) (claim : Answer)
-      (drawn : claim ≡ firstOr Done (claims p d r (factsOf w))) where
+      (drawn : claim ≡ firstOr Done (claimAsks p d r (factsOf w))) where
     answer : answerTo (length w) 0 (on c (callD p d)) (factsOf w) ≡ claim
     unfolding answerTo effectOn
     answer = rw (within, found-seen w c at r found, ← found-figures w book c at r found) (sym drawn)
@@ -108,5 +108,5 @@ module _
           figures-set w book c at r found (withDesignation p d) refl new e (on c (callD p d)) refl w′
           (answer
           ∙ drawn
-          ∙ granted-answer Done (claims p d r (factsOf w)) (sym (ap isAccepted drawn) ∙ granted))
+          ∙ granted-answer Done (claimAsks p d r (factsOf w)) (sym (ap isAccepted drawn) ∙ granted))
           stored

@@ -19,10 +19,10 @@ use Rattle.book.specs.Changes.{update, listOf}
 use Rattle.book.specs.Calls.{Call, on, callC, callV, effectOn, effect, answerTo, acceptedFacts}
 use Rattle.book.specs.Places.{classPlace}
 use Rattle.book.specs.Made.{over, Made}
-use Rattle.logic.proofs.Tests.{ands, and-intro}
+use Rattle.logic.proofs.Tests.{ands, and-intro, passed}
 use Rattle.book.proofs.Answered.{made-accepted}
-use Rattle.edit.specs.Asked.{Storable}
-use Rattle.class_call.proofs.Ways.{passed, Found, found-open, found-seen, found-place, found-figures, found-number, found-limits}
+use Rattle.edit.specs.EditsAsked.{Storable}
+use Rattle.class_call.proofs.Ways.{Found, found-open, found-seen, found-place, found-figures, found-number, found-limits}
 
 -- what `store_figures` leaves
 abbrev pub Stored : List ℕ → ClassRecord → List ℕ → Type 0

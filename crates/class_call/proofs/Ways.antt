@@ -2,12 +2,12 @@
 -- of the call's own conditions, computed from the tests that are known. Assumes nothing.
 use Prim.Native.Nat.{ℕ, _+_, _-_, _≤_, _<_}
 use mathlib.Core.Path.{_≡_, refl, sym, ap, _∙_}
-use mathlib.Core.Bool.{Bool, true, false, not}
+use mathlib.Core.Bool.{true, false, not}
 use mathlib.Core.List.{List, []}
 use native.Mathlib.Omega.{arith}
 use lib.ListN.{length, take, drop}
 use lib.Dec.{T, leb→le}
-use borrow.Author.Tests.{not-false, lt-ltb, le-ltb, eq-eqb, ne-eqb}
+use borrow.Author.Tests.{lt-ltb, le-ltb, eq-eqb, ne-eqb}
 use Rattle.word.specs.Kinds.{classKind}
 use Rattle.word.specs.declared.class.ClassRecord.{ClassRecord}
 use Rattle.word.specs.declared.answer.Answer.the-variants.{Done, Removed, Refused}
@@ -22,8 +22,9 @@ use Rattle.book.specs.Changes.{monthSet, classOpened, update, classReviewed, re
 use Rattle.book.specs.Calls.{callM, on, callO, callR, effectOn, answerTo}
 use Rattle.book.specs.Places.{classPlace, openPlace}
 use Rattle.book.specs.Made.{Made}
-use Rattle.logic.proofs.Tests.{ands, true-T}
+use Rattle.logic.proofs.Tests.{ands, passed}
 use Rattle.logic.proofs.Lists.{length-only}
+use Rattle.logic.specs.Lists.{firstAt}
 use Rattle.book.proofs.Keep.{month-again}
 use Rattle.book.proofs.ClassLaws.{number-of, sum-put}
 use Rattle.book.proofs.Layouts.{used-taken}
@@ -31,15 +32,11 @@ use Rattle.book.proofs.Splices.{words-opened}
 use Rattle.book.proofs.ClassWords.{class-good}
 use Rattle.book.proofs.OpenPlaces.{place-open, place-begins}
 use Rattle.book.proofs.Answered.{made-refused, made-accepted}
-use Rattle.place.specs.Search.{firstAt, isFrom}
+use Rattle.place.specs.Search.{isFrom}
 use Rattle.place.proofs.Heads.{book-good, book-form, book-is, book-room, book-long}
 use Rattle.place.proofs.Found.{begins-room, figures-found, class-ended}
-use Rattle.edit.specs.Asked.{Openable}
-use Rattle.removal.specs.Asked.{Reviewable}
-
--- a test that was not failed
-pub passed : (b : Bool) → not b ≡ false → T b
-passed b e = true-T b (not-false b e)
+use Rattle.edit.specs.EditsAsked.{Openable}
+use Rattle.removal.specs.RemovalsAsked.{Reviewable}
 
 -- ---- an open class
 

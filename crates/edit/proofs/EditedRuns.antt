@@ -1,6 +1,6 @@
 -- What is read in the run of a book, and what words stored and words put in make of it: the run in the parts that an
 -- edit leaves and replaces. Assumes nothing.
-use Prim.Native.Nat.{ℕ, zero, suc, _+_, _-_}
+use Prim.Native.Nat.{ℕ, suc, _+_, _-_}
 use mathlib.Core.Path.{_≡_, refl, sym, ap, _∙_}
 use mathlib.Core.List.{List, [], _∷_, _++_, map, append-assoc}
 use native.Mathlib.Omega.{arith}
@@ -14,6 +14,7 @@ use Rattle.book.specs.Books.{isBook}
 use Rattle.book.proofs.Splices.{Spliced, used-spliced}
 use Rattle.book.proofs.SplicedRuns.{front, back, zeros, place-is, run-was, run-is}
 use Rattle.edit.specs.Insertion.{insertWords}
+use Rattle.logic.proofs.Slices.{drop-zeros}
 
 -- ---- words stored, and words put in
 
@@ -49,13 +50,6 @@ put-between front new back zeros at end e e′ =
       take-at back zeros (end - at) (omega arith),
       last,
     )
-
-drop-zeros : (k m : ℕ) → _≡_ {A = List ℕ} (drop k (replicate m 0)) (replicate (m - k) 0)
-drop-zeros zero m = let e : m ≡ m - 0 = omega arith in ap (λ (j : ℕ). replicate j 0) e
-drop-zeros (suc k) zero = let e : 0 ≡ 0 - suc k = omega arith in ap (λ (j : ℕ). replicate j 0) e
-drop-zeros (suc k) (suc m) =
-    let e : m - k ≡ suc m - suc k = omega arith in
-    drop-zeros k m ∙ ap (λ (j : ℕ). replicate j 0) e
 
 -- ---- the run of edited facts
 

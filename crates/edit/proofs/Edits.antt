@@ -29,7 +29,7 @@ use Rattle.book.proofs.Runs.{strike-within, standing-within}
 use Rattle.place.proofs.Heads.{book-good, book-room}
 use Rattle.place.proofs.Found.{class-within, class-room}
 use Rattle.edit.specs.Insertion.{HasRoom, insertWords}
-use Rattle.edit.specs.Asked.{Storable, Markable, Openable, Insertable}
+use Rattle.edit.specs.EditsAsked.{Storable, Markable, Openable, Insertable}
 use Rattle.edit.proofs.EditedRuns.{old-read, stored, inserted}
 
 module _ (ws : List ℕ) (at : ℕ) where

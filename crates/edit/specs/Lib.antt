@@ -1,3 +1,3 @@
 -- The definitions that the contracts cite.
 pub mod Insertion
-pub mod Asked
+pub mod EditsAsked

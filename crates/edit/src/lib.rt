@@ -12,7 +12,7 @@ ghost use Rattle.book.specs.Facts.{withFigures};
 ghost use Rattle.book.specs.Layout.{factsOf, layout};
 ghost use Rattle.book.specs.Places.{StrikeStands};
 ghost use Rattle.edit.specs.Insertion.{HasRoom, insertWords, pushed};
-ghost use Rattle.edit.specs.Asked.{Storable, Markable, Openable, Insertable};
+ghost use Rattle.edit.specs.EditsAsked.{Storable, Markable, Openable, Insertable};
 use place::head;
 use word::class::ClassRecord;
 use word::codec::expiration_word;

@@ -15,6 +15,7 @@ use Rattle.word.specs.Limits.{isLength}
 use Rattle.book.specs.Books.{sameWords}
 use Rattle.book.specs.CallLists.{callsAlone}
 use Rattle.logic.proofs.Tests.{T-true, true-T}
+use Rattle.logic.proofs.Slices.{next-word}
 use Rattle.book.proofs.Layouts.{same-words, words-equal}
 use Rattle.history.specs.declared.Comparison.{Comparison}
 use Rattle.history.specs.declared.Comparison.the-variants.{Equal, Different, BadLength}
@@ -23,7 +24,7 @@ use Rattle.history.specs.Records.{callsOf}
 use Rattle.history.specs.ExecutedLists.{Ran}
 use Rattle.history.specs.Comparisons.{areLengths, Compared}
 use Rattle.history.proofs.WholeLists.{whole-words, two-lists, two-lists-same, run-whole}
-use Rattle.history.proofs.ExecutedLists.{next-word, done-good, refused-bad}
+use Rattle.history.proofs.ExecutedLists.{done-good, refused-bad}
 
 -- ---- word by word
 

@@ -4,10 +4,8 @@ use Prim.Native.Nat.{ℕ, suc, _+_, _<_, _≤_, zero-le}
 use mathlib.Core.Path.{_≡_, refl, sym, _∙_}
 use mathlib.Core.Bool.{Bool, true, false, cond}
 use mathlib.Core.List.{List, [], _∷_, map}
-use native.Mathlib.Numerals.{add-one}
 use native.Mathlib.Omega.{arith}
-use lib.ListN.{length, getD, drop, length-drop}
-use lib.Seq.{drop-cons}
+use lib.ListN.{length, drop, length-drop}
 use lib.Dec.{T}
 use types.Run.{OneOf, miss}
 use denote.Enum.Declared.{tagOf}
@@ -23,15 +21,13 @@ use Rattle.book.specs.Calls.{steps}
 use Rattle.book.specs.Made.{Begun}
 use Rattle.book.specs.CallLists.{callsAlone, secondAfter}
 use Rattle.logic.proofs.Tests.{true-T}
+use Rattle.logic.proofs.Slices.{next-word}
 use Rattle.book.proofs.Layouts.{factsOf-layout, book-layout, book-facts, fresh-well-formed}
 use Rattle.book.proofs.Followed.{next-book, layout-size}
 use Rattle.history.specs.Records.{recordLength, letterAt, callAt, callsOf}
 use Rattle.history.specs.ExecutedLists.{lentWithin, Lent, MadeInTurn, Ran}
 
 -- ---- the records of a list
-
-pub next-word : (l : List ℕ) (i k : ℕ) → i + 1 ≡ k → i < length l → drop i l ≡ getD l i 0 ∷ drop k l
-next-word l i k e h = rw (← e, add-one) (drop-cons l i 0 h)
 
 next-record :
     (l : List ℕ) (i : ℕ) → i + recordLength ≤ length l

@@ -7,7 +7,7 @@ use mathlib.Core.List.{List, [], _∷_, map}
 use mathlib.Core.Logic.{inl, inr, ⊎-elim}
 use native.Mathlib.Omega.{arith}
 use lib.ListN.{length, getD}
-use lib.Dec.{T, T-not}
+use lib.Dec.{T, T-not, ltb, ltb→lt}
 use Rattle.logic.specs.Lists.{every, some, only, sum, Rising, rises, inserted}
 use Rattle.logic.proofs.Tests.{and-intro, ands, or-cases, or-left, or-right, refuted}
 
@@ -92,6 +92,15 @@ module _ {A : Type 0} where
   some-map p q g f [] = refl
   some-map p q g f (x ∷ xs) = let r = some-map p q g f xs in λ i. f x i || r i
 
+  -- two tests keep the same where they agree
+  pub only-same :
+      (p f g : A → Bool) → ((x : A) → T (p x) → f x ≡ g x) → (xs : List A) → T (every p xs) → only f xs ≡ only g xs
+  only-same p f g agree [] t = refl
+  only-same p f g agree (x ∷ xs) t =
+      let here : f x ≡ g x = agree x (search ands) in
+      let rest : only f xs ≡ only g xs = only-same p f g agree xs (search ands) in
+      λ i. cond (here i) (x ∷ rest i) (rest i)
+
   pub length-only : (keep : A → Bool) (xs : List A) → length (only keep xs) ≤ length xs
   length-only keep [] = zero-le
   length-only keep (x ∷ xs) = go (keep x) (length-only keep xs)
@@ -148,6 +157,12 @@ pub record StrictOrder {A : Type 0} (same before : A → A → Bool) : Type 0 wh
 abbrev pub ordered : {A : Type 0} → (A → A → Bool) → List A → Bool
 ordered before [] = true
 ordered before (x ∷ xs) = every (before x) xs && ordered before xs
+
+pub rising-keys :
+    {A : Type 0} (key : A → ℕ) (xs : List A) → T (ordered (λ x y. ltb (key x) (key y)) xs) → Rising (map key xs)
+rising-keys key [] t = tt
+rising-keys key (x ∷ []) t = tt
+rising-keys key (x ∷ y ∷ ys) t = (ltb→lt (key x) (key y) (search ands), rising-keys key (y ∷ ys) (search ands))
 
 module _ {A : Type 0} (same before : A → A → Bool) (order : StrictOrder same before) where
   pub before-every : (x y : A) (ys : List A) → T (before x y) → T (every (before y) ys) → T (every (before x) ys)

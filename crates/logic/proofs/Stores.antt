@@ -1,13 +1,13 @@
 -- Stores of several words one after another, and a loop that makes them: `Filling` says what is still to come. By
 -- induction on the words. Assumes nothing.
-use Prim.Native.Nat.{ℕ, suc, _+_}
+use Prim.Native.Nat.{ℕ, suc, _+_, _≤_}
 use mathlib.Core.Path.{_≡_, refl, sym, ap, _∙_}
 use mathlib.Core.List.{List, [], _∷_, _++_}
-use native.Mathlib.Nat.{add-zero}
+use native.Mathlib.Nat.{add-zero, add-suc, suc-add}
 use native.Mathlib.Numerals.{add-one}
 use native.Mathlib.Omega.{arith}
-use lib.ListN.{length, set, length-set, length-append}
-use lib.Seq.{sets, length-sets}
+use lib.ListN.{length, drop, set, length-set, length-append}
+use lib.Seq.{sets, length-sets, set-out, drop-set-lt}
 
 pub sets-append : (l : List ℕ) (i : ℕ) (a b : List ℕ) → sets l i (a ++ b) ≡ sets (sets l i a) (i + length a) b
 sets-append l i [] b = ap (λ (k : ℕ). sets l k b) (sym (add-zero i))
@@ -18,6 +18,19 @@ sets-append l i (x ∷ a) b =
 pub sets-none : (xs : List ℕ) (i : ℕ) → sets [] i xs ≡ []
 sets-none [] i = refl
 sets-none (x ∷ xs) i = sets-none xs _
+
+-- nor past the end
+pub sets-out : (l : List ℕ) (i : ℕ) (xs : List ℕ) → length l ≤ i → sets l i xs ≡ l
+sets-out l i [] h = refl
+sets-out l i (x ∷ xs) h = rw (set-out l i x h) (sets-out l (suc i) xs (omega arith))
+
+-- stores below n leave what lies from n on
+pub drop-sets : (vs l : List ℕ) (i n : ℕ) → i + length vs ≤ n → drop n (sets l i vs) ≡ drop n l
+drop-sets [] l i n h = refl
+drop-sets (v ∷ vs) l i n h =
+    let e = add-suc i (length vs) in
+    let q = suc-add i (length vs) in
+    drop-sets vs (set l i v) (suc i) n (omega arith) ∙ drop-set-lt n l i v (omega arith)
 
 -- `all` is to stand in o from `at` on: b is the run now, it is written up to n, `rest` is still to come
 pub record Filling (all o : List ℕ) (at : ℕ) (b : List ℕ) (n : ℕ) (rest : List ℕ) : Type 0 where

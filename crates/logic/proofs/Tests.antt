@@ -1,13 +1,13 @@
 -- Tests joined by `and` and `or`, tests that fail, the test of equal numbers and numbers in order: by cases on the
 -- tests. That a test passes is said by `T`; `true-T` and its kin lead there from what the branches of code give.
 -- Assumes nothing.
-use Prim.Native.Nat.{ℕ, _≤_, _<_}
+use Prim.Native.Nat.{ℕ, _+_, _≤_, _<_, min, max}
 use mathlib.Core.Path.{_≡_, refl, sym, ap, _∙_}
-use mathlib.Core.Bool.{Bool, true, false, not, _&&_, _||_, and-false}
+use mathlib.Core.Bool.{Bool, true, false, cond, not, _&&_, _||_, and-false}
 use mathlib.Core.Logic.{_⊎_, inl, inr, ⊎-elim}
 use native.Mathlib.Omega.{arith}
-use lib.Dec.{T, eqb, leb, ltb, leb→le, le→leb, ltb→lt, eqb→eq, eqb-refl}
-use borrow.Author.Tests.{ltb-true, ltb-false, leb-true, leb-false, lt-ltb, le-ltb, eqb-true, eqb-false}
+use lib.Dec.{T, eqb, leb, ltb, leb→le, le→leb, ltb→lt, lt→ltb, eqb→eq, eqb-refl, nleb→lt, nltb→le}
+use borrow.Author.Tests.{ltb-true, ltb-false, leb-true, leb-false, lt-ltb, le-ltb, lt-leb, eqb-true, eqb-false, not-true, not-false}
 
 pub and-left : (a b : Bool) → T (a && b) → T a
 and-left true b t = tt
@@ -81,6 +81,25 @@ pub not-not : (b : Bool) → T (not (not b)) → T b
 not-not true t = tt
 not-not false t = t
 
+-- a test that was not failed
+pub passed : (b : Bool) → not b ≡ false → T b
+passed b e = true-T b (not-false b e)
+
+-- what the outcome of a test tells of what it tests
+pub told-false : {b c : Bool} → b ≡ c → not b ≡ true → c ≡ false
+told-false {b} e failed = sym e ∙ not-true b failed
+
+pub told-true : {b c : Bool} → b ≡ c → not b ≡ false → T c
+told-true {b} {c} e left = true-T c (sym e ∙ not-false b left)
+
+-- what follows of both choices
+pub choose :
+    {A : Type 0} (P : A → Type 0) (b : Bool) (x y : A) → (b ≡ true → P x) → (b ≡ false → P y) → P (cond b x y)
+choose P true x y p q = p refl
+choose P false x y p q = q refl
+
+-- ---- numbers in order
+
 pub trichotomy : (a b : ℕ) → (a < b) ⊎ ((a ≡ b) ⊎ (b < a))
 trichotomy a b = go (ltb a b) refl (ltb b a) refl
   where
@@ -95,6 +114,51 @@ at-most a b = go (leb a b) refl
     go : (x : Bool) → leb a b ≡ x → x ≡ not (ltb b a)
     go true e = rw (le-ltb b a (leb-true a b e))
     go false e = rw (lt-ltb b a (leb-false a b e))
+
+pub not-leb : (a b : ℕ) → T (not (leb a b)) → T (leb b a)
+not-leb a b t = le→leb b a (omega (arith, nleb→lt a b t))
+
+pub not-ltb : (a b : ℕ) → T (not (ltb a b)) → T (leb b a)
+not-ltb a b t = le→leb b a (nltb→le a b t)
+
+pub ltb-not : (a b : ℕ) → T (ltb a b) → T (not (leb b a))
+ltb-not a b t = rw (lt-leb b a (ltb→lt a b t)) tt
+
+-- a bound that moves up
+pub leb-shifted : (a b c k : ℕ) → b ≤ c → T (leb a (b + k)) → T (leb a (c + k))
+leb-shifted a b c k l t = le→leb a (c + k) (omega (arith, leb→le a (b + k) t))
+
+-- no number is from a on and below a
+pub none-between : (a h : ℕ) (b : Bool) → false ≡ (leb a h && ltb h a && b)
+none-between a h b = go (leb a h) refl
+  where
+    go : (t : Bool) → leb a h ≡ t → false ≡ (leb a h && ltb h a && b)
+    go true e = rw (e, le-ltb h a (leb-true a h e))
+    go false e = rw e
+
+pub leb-max : (a b h : ℕ) → leb (max a b) h ≡ (leb a h && leb b h)
+leb-max a b h =
+    same-bool (leb (max a b) h) (leb a h && leb b h)
+    (λ t.
+    let l : max a b ≤ h = leb→le (max a b) h t in
+    and-intro (leb a h) (leb b h) (le→leb a h (omega arith)) (le→leb b h (omega arith)))
+    (λ t.
+    let l : a ≤ h = leb→le a h (and-left (leb a h) (leb b h) t) in
+    let m : b ≤ h = leb→le b h (and-right (leb a h) (leb b h) t) in
+    le→leb (max a b) h (omega arith))
+
+pub ltb-min : (a b h : ℕ) → ltb h (min a b) ≡ (ltb h a && ltb h b)
+ltb-min a b h =
+    same-bool (ltb h (min a b)) (ltb h a && ltb h b)
+    (λ t.
+    let l : h < min a b = ltb→lt h (min a b) t in
+    and-intro (ltb h a) (ltb h b) (lt→ltb h a (omega arith)) (lt→ltb h b (omega arith)))
+    (λ t.
+    let l : h < a = ltb→lt h a (and-left (ltb h a) (ltb h b) t) in
+    let m : h < b = ltb→lt h b (and-right (ltb h a) (ltb h b) t) in
+    lt→ltb h (min a b) (omega arith))
+
+-- ---- a test that another one refutes
 
 pub or-else : (a b : Bool) → T (a || b) → (T a → ⊥) → T b
 or-else true b t fails = absurd (fails tt)

@@ -18,6 +18,11 @@ module _ {A : Type 0} (test : A → Bool) where
   only [] = []
   only (x ∷ xs) = cond (test x) (x ∷ only xs) (only xs)
 
+  -- how many stand before the first that passes the test
+  abbrev pub firstAt : List A → ℕ
+  firstAt [] = 0
+  firstAt (x ∷ xs) = cond {A = ℕ} (test x) 0 (suc (firstAt xs))
+
 -- n numbers from h up
 abbrev pub upFrom : ℕ → ℕ → List ℕ
 upFrom zero h = []

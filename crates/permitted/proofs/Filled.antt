@@ -2,7 +2,7 @@
 -- place lent: writing to no place changes nothing. Assumes nothing.
 use Prim.Native.Nat.{ℕ, _-_, _≤_, _<_}
 use mathlib.Core.Path.{_≡_, sym, ap, ap₂, _∙_}
-use mathlib.Core.List.{List, [], _∷_, _++_, append-nil}
+use mathlib.Core.List.{List, [], _++_, append-nil}
 use mathlib.Core.Logic.{_⊎_, inr, ⊎-elim}
 use native.Mathlib.Nat.{zero-add}
 use native.Mathlib.Omega.{arith}
@@ -15,18 +15,18 @@ use Rattle.word.specs.declared.answer.Refusal.the-variants.{OutOfWords}
 use Rattle.permitted.specs.Listing.{Filled}
 
 -- all places are lent, and they are enough
-abbrev Whole : List ℕ → List ℕ → ℕ → Type 0
-Whole strikes v room = (room ≡ length v) × (length strikes ≤ length v)
+abbrev WholeRun : List ℕ → List ℕ → ℕ → Type 0
+WholeRun strikes v room = (room ≡ length v) × (length strikes ≤ length v)
 
 -- a turn begins: the run `second` is as it came, v, and lends no place, or all places where they are enough
 pub record Turn (strikes v second : List ℕ) (room : ℕ) : Type 0 where
   pub same : second ≡ v
-  pub lent : (room ≡ 0) ⊎ Whole strikes v room
+  pub lent : (room ≡ 0) ⊎ WholeRun strikes v room
 
 module _ {strikes v second : List ℕ} {room : ℕ} (t : Turn strikes v second room) where
   pub turn-within : room ≤ length second
   turn-within =
-      ⊎-elim (λ (e : room ≡ 0). omega arith) (λ (e : Whole strikes v room). omega (arith, ap length (t .same)))
+      ⊎-elim (λ (e : room ≡ 0). omega arith) (λ (e : WholeRun strikes v room). omega (arith, ap length (t .same)))
       (t .lent)
 
   -- `part` is what comes back of the places that are lent
@@ -52,7 +52,7 @@ module _ {strikes v second : List ℕ} {room : ℕ} (t : Turn strikes v second r
           answer = rw (lt-ltb (length v) (length strikes) short, done .0);
           second =
               rw (lt-ltb (length v) (length strikes) short)
-              (⊎-elim unchanged (λ (e : Whole strikes v room). absurd (omega arith)) (t .lent));
+              (⊎-elim unchanged (λ (e : WholeRun strikes v room). absurd (omega arith)) (t .lent));
         }
 
     pub filled-all : count ≤ length back → room ≡ length back → Filled strikes v (Listed count) back
@@ -74,7 +74,10 @@ module _ {strikes v second : List ℕ} {room : ℕ} (t : Turn strikes v second r
     module _ (partly : room ≡ length back → ⊥) where
       counted : room ≡ 0
       counted =
-          ⊎-elim (λ (e : room ≡ 0). e) (λ (e : Whole strikes v room). absurd (partly (e .0 ∙ sym same-long))) (t .lent)
+          ⊎-elim
+          (λ (e : room ≡ 0). e)
+          (λ (e : WholeRun strikes v room). absurd (partly (e .0 ∙ sym same-long)))
+          (t .lent)
 
       pub turn-less : length back - length back < length second - room
       turn-less = omega (arith, counted, same-long, ap length (t .same))

@@ -7,23 +7,22 @@ use mathlib.Core.List.{List, [], _∷_, _++_, map, append-nil, append-assoc}
 use native.Mathlib.Omega.{arith}
 use lib.ListN.{length, take, drop, getD, replicate, length-append, length-drop, length-map}
 use lib.Seq.{drop-at, drop-drop, length-take-le, take-add}
-use lib.Dec.{T, eqb, leb, ltb, eqb·zero-suc, leb·zero, leb→le, ltb→lt}
+use lib.Dec.{T, eqb, leb, ltb, eqb·zero-suc, leb·zero, ltb→lt}
 use borrow.Author.Tests.{eq-eqb, ne-eqb, le-leb, lt-ltb, le-ltb}
 use Rattle.word.proofs.FigureWords.{figures-read}
 use Rattle.word.specs.Limits.{lastMonth, longestRun}
 use Rattle.word.specs.Head.{firstPlace}
 use Rattle.word.specs.Kinds.{keyOf, classKind, expirationKind, strikeKind, kindField}
-use Rattle.word.specs.declared.class.ClassRecord.{ClassRecord}
 use Rattle.word.specs.Codec.{Word, Head, Class, Expiration, isLegal, packed}
 use Rattle.word.proofs.Words.{legal-fits, kindIn, kind-packed}
-use Rattle.logic.specs.Lists.{every, only}
+use Rattle.logic.specs.Lists.{every, only, firstAt}
 use Rattle.book.specs.Facts.{Series, OpenClass, Facts, number, isOpen, inMonth}
 use Rattle.word.specs.Figures.{figuresWords, figuresAt, figuresLength}
 use Rattle.book.specs.Layout.{strikeWord, expirationUnless, seriesWords, classesWords, used, factsOf}
 use Rattle.book.specs.Books.{isBook}
 use Rattle.book.specs.Views.{viewOf, class, isStanding}
 use Rattle.book.specs.Places.{ClassBegins, classPlace, hasExpiration, expirationPlace, strikePlace}
-use Rattle.logic.proofs.Tests.{ands, T-true, true-T}
+use Rattle.logic.proofs.Tests.{ands, T-true, true-T, ltb-not}
 use Rattle.word.proofs.RawWords.{fits}
 use Rattle.logic.proofs.Lists.{every-imply, every-map, every-true}
 use Rattle.book.proofs.Layouts.{seriesWords-append, words-legal}
@@ -32,10 +31,10 @@ use Rattle.book.proofs.SeriesParts.{monthOf, strikeOf, series-words, low, place
 use Rattle.logic.proofs.Splits.{every-split}
 use Rattle.book.proofs.ClassWords.{class-good, series-good, class-words, numbers-rise}
 use Rattle.book.proofs.Runs.{bookWords, run-parts, run-part, run-word}
-use Rattle.place.specs.Search.{firstAt, isNoLower, isUpTo, isFrom, isHolding, Rises}
+use Rattle.place.specs.Search.{isNoLower, isUpTo, isFrom, isHolding, Rises}
 use Rattle.place.proofs.Heads.{book-good, book-form, book-is, book-room, book-long}
 use Rattle.place.proofs.KeyedWords.{keyIn, first-from, isKeyed, key-said, from-packed, isEnding, up-to-packed}
-use Rattle.place.proofs.Laid.{begins, first-after, kinds-packed, stops-anywhere, ends-there, from-there, two-parts, sought, found, every-series, not-from, strikes-laid, class-kinds, no-class, classes-laid}
+use Rattle.place.proofs.Laid.{begins, first-after, kinds-packed, stops-anywhere, ends-there, from-there, two-parts, sought, found, every-series, strikes-laid, class-kinds, no-class, classes-laid}
 use Rattle.place.proofs.Rising.{ordered-rises, ordered-packed, classes-ordered}
 
 -- ---- the words after those of a month
@@ -60,10 +59,10 @@ strike-said :
 strike-said h w legal e =
     rw (kind-packed w (packed w) (legal-fits w legal) refl, e, key-said (strikeKind .number) w legal e)
 
-no-strike :
+holds-no-strike :
     (h : ℕ) (w : Word) → isLegal w ≡ true → eqb (kindIn w) (strikeKind .number) ≡ false
     → isHolding strikeKind h (packed w) ≡ false
-no-strike h w legal e = rw (kind-packed w (packed w) (legal-fits w legal) refl, e)
+holds-no-strike h w legal e = rw (kind-packed w (packed w) (legal-fits w legal) refl, e)
 
 -- ---- classes
 
@@ -332,7 +331,7 @@ module _ (ws : List ℕ) (b : T (isBook ws)) where
               (every-imply (isUnder monthOf m)
               (λ s. not (isEnding (expirationKind .number) m (strikeWord s))
               && not (isEnding (expirationKind .number) m (Expiration (s .month))))
-              (λ s u. not-from (s .month) m u) (only (isUnder monthOf m) listed)
+              (λ s u. ltb-not (s .month) m u) (only (isUnder monthOf m) listed)
               (every-kept (isUnder monthOf m) listed)) tt)
               (stop has refl)
 
@@ -430,7 +429,7 @@ module _ (ws : List ℕ) (b : T (isBook ws)) where
               (up-to-packed (strikeKind .number) h small (omega arith)) lows (highs ++ late)
               (rw two at strikes-legal)
               (every-map (isUnder strikeOf h) (λ w. not (isEnding (strikeKind .number) h w)) strikeWord
-              (λ s u. not-from (s .strike) h u)
+              (λ s u. ltb-not (s .strike) h u)
               (low listed m h) (every-kept (isUnder strikeOf h) here))
               (ends-there strikeOf (strikeKind .number) (map strikeWord) strikes-laid h
               (placed listed m h ++ high listed m h) late
@@ -452,8 +451,8 @@ module _ (ws : List ℕ) (b : T (isBook ws)) where
               ∙ found strikeOf (strikeKind .number) (map strikeWord) strikes-laid h here parts here-legal
               (isHolding strikeKind h) (strike-said h) late
               (later (λ l. T (every isLegal l) → begins (isHolding strikeKind h) l ≡ false) (λ t. refl)
-              (λ n ds l t. no-strike h (Class n ds) (T-true (isLegal (Class n ds)) (search ands)) refl)
-              (λ n l k t. no-strike h (Expiration n) (T-true (isLegal (Expiration n)) (search ands)) refl)
+              (λ n ds l t. holds-no-strike h (Class n ds) (T-true (isLegal (Class n ds)) (search ands)) refl)
+              (λ n l k t. holds-no-strike h (Expiration n) (T-true (isLegal (Expiration n)) (search ands)) refl)
               (every-split isLegal strikes late strikes-legal .1))
               ∙ some-both (isEqual monthOf m) (isEqual strikeOf h) listed
 

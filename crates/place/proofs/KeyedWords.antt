@@ -13,10 +13,10 @@ use Rattle.word.specs.Codec.{Word, Head, Class, Close, Volume, Expiration, Stri
 use Rattle.word.specs.Kinds.{kindField, kindOf, keyOf, isOfKind, gradeAt, gradeOf, headKind, classKind, closeKind, volumeKind, expirationKind, strikeKind}
 use Rattle.word.proofs.Fields.{field-less}
 use Rattle.word.proofs.Words.{class-fields, legal-fits, kindIn, kind-packed}
-use Rattle.logic.specs.Lists.{every}
+use Rattle.logic.specs.Lists.{every, firstAt}
 use Rattle.logic.proofs.Tests.{ands}
-use Rattle.place.specs.Search.{firstAt, isNoLower, isUpTo, isFrom}
-use Rattle.place.proofs.Firsts.{every-part}
+use Rattle.logic.proofs.Slices.{every-part}
+use Rattle.place.specs.Search.{isNoLower, isUpTo, isFrom}
 
 -- where no word is of a lower kind, one up to the key is of the kind and from the key on
 module _ (kind : Kind) (key : ℕ) (small : key < 2 ^ kindField .low) where

@@ -7,22 +7,22 @@ use mathlib.Core.Bool.{Bool, true, false, not, _&&_}
 use mathlib.Core.List.{List, [], _∷_, _++_, map, map-append}
 use native.Mathlib.Omega.{arith}
 use lib.ListN.{length}
-use lib.Dec.{T, eqb, leb, ltb, leb·zero, ltb→lt}
-use borrow.Author.Tests.{not-true, eq-eqb, le-ltb, lt-leb}
+use lib.Dec.{T, eqb, leb, ltb, leb·zero}
+use borrow.Author.Tests.{eq-eqb, le-ltb}
 use Rattle.word.specs.Kinds.{kindOf, classKind, strikeKind}
 use Rattle.word.specs.Codec.{Word, Class, Close, Volume, Expiration, isLegal, packed}
 use Rattle.word.proofs.Words.{legal-fits, kindIn, kind-packed}
-use Rattle.logic.specs.Lists.{every, some, only}
+use Rattle.logic.specs.Lists.{every, some, only, firstAt}
 use Rattle.book.specs.Facts.{Series, OpenClass, number}
 use Rattle.book.specs.Layout.{strikeWord, expirationUnless, seriesWords, classesWords}
-use Rattle.logic.proofs.Tests.{and-intro, ands, T-true}
+use Rattle.logic.proofs.Tests.{and-intro, ands, T-true, ltb-not}
 use Rattle.logic.proofs.Lists.{every-imply, every-map, every-true}
 use Rattle.logic.proofs.Parts.{every-kept, isUnder, isEqual, isOver, not-under}
 use Rattle.logic.proofs.Splits.{every-split, leads, some-leads}
+use Rattle.logic.proofs.Firsts.{first-beyond, first-none}
 use Rattle.book.proofs.SeriesParts.{strikeOf}
 use Rattle.book.proofs.ClassWords.{classes-apart}
-use Rattle.place.specs.Search.{firstAt, isFrom}
-use Rattle.place.proofs.Firsts.{first-beyond}
+use Rattle.place.specs.Search.{isFrom}
 use Rattle.place.proofs.KeyedWords.{keyIn, kindNumbered, isKeyed, from-packed, isEnding}
 
 -- ---- packed words
@@ -31,11 +31,6 @@ use Rattle.place.proofs.KeyedWords.{keyIn, kindNumbered, isKeyed, from-
 abbrev pub begins : (ℕ → Bool) → List Word → Bool
 begins test [] = false
 begins test (w ∷ ws) = test (packed w)
-
-none-first : {A : Type 0} (p : A → Bool) (xs : List A) → T (every (λ x. not (p x)) xs) → firstAt p xs ≡ length xs
-none-first p [] t = refl
-none-first p (x ∷ xs) t =
-    rw (not-true (p x) (T-true (not (p x)) (search ands))) (ap suc (none-first p xs (search ands)))
 
 -- a search in packed words is one in the words
 module _ (p : ℕ → Bool) (q : Word → Bool) (says : (x : Word) → isLegal x ≡ true → p (packed x) ≡ q x) where
@@ -48,7 +43,7 @@ module _ (p : ℕ → Bool) (q : Word → Bool) (says : (x : Word) → isLegal x
       (ws rest : List Word) → T (every isLegal (ws ++ rest)) → T (every (λ w. not (q w)) ws) → firstAt q rest ≡ 0
       → firstAt p (map packed (ws ++ rest)) ≡ length ws
   first-after ws rest legal none stop =
-      let e = none-first q ws none in
+      let e = first-none q ws none in
       let d = first-beyond q ws rest (omega arith) in
       first-packed (ws ++ rest) legal ∙ omega arith
 
@@ -173,10 +168,6 @@ every-series q p (s ∷ ss) rest t u =
         let b : T (q (Expiration (s .month))) = search ands in
         search and-intro
 
--- a key below k does not stop a search from k on
-pub not-from : (n k : ℕ) → T (ltb n k) → T (not (leb k n))
-not-from n k t = rw (lt-leb k n (ltb→lt n k t)) tt
-
 pub strikes-laid : Laid strikeOf (strikeKind .number) (map strikeWord)
 strikes-laid = record {
   first = strikeWord;
@@ -188,7 +179,7 @@ strikes-laid = record {
   apart = λ k xs ys a b. map-append strikeWord xs ys;
   passed = λ k xs t.
       every-map (λ s. ltb (s .strike) k) (λ w. not (isKeyed (strikeKind .number) k w)) strikeWord
-      (λ s u. not-from (s .strike) k u) xs t;
+      (λ s u. ltb-not (s .strike) k u) xs t;
 }
 
 -- ---- classes
@@ -236,5 +227,5 @@ classes-laid = record {
   apart = λ k xs ys a b. classes-apart xs ys [];
   passed = λ k xs t.
       every-class (λ w. not (isKeyed (classKind .number) k w)) (λ w e. rw e tt) xs
-      (every-imply (λ x. ltb (number x) k) (λ x. not (leb k (number x))) (λ x u. not-from (number x) k u) xs t);
+      (every-imply (λ x. ltb (number x) k) (λ x. not (leb k (number x))) (λ x u. ltb-not (number x) k u) xs t);
 }

@@ -1,5 +1,5 @@
 -- The laws that the functions' proofs and other crates cite.
-pub mod Firsts
+pub mod Blocks
 pub mod FoundNear
 pub mod Heads
 pub mod KeyedWords

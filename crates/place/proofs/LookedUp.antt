@@ -13,7 +13,7 @@ use Rattle.word.specs.Limits.{lastMonth}
 use Rattle.word.specs.Kinds.{expirationKind, strikeKind, kindField}
 use Rattle.word.specs.Codec.{Expiration as ExpirationWord, packed}
 use Rattle.logic.proofs.Tests.{parts}
-use Rattle.logic.specs.Lists.{some, only}
+use Rattle.logic.specs.Lists.{some, only, firstAt}
 use Rattle.book.specs.Facts.{Series, Facts, isOpen, inMonth}
 use Rattle.book.specs.Layout.{used, factsOf}
 use Rattle.book.specs.Books.{isBook}
@@ -21,7 +21,7 @@ use Rattle.book.specs.Views.{viewOf, class, isStanding}
 use Rattle.book.specs.Places.{classPlace, hasExpiration, expirationPlace, strikesPlace, strikesEnd, strikePlace}
 use Rattle.logic.proofs.Parts.{isUnder, isEqual, some-both}
 use Rattle.book.proofs.SeriesParts.{monthOf, strikeOf}
-use Rattle.place.specs.Search.{firstAt, isHolding, isUpTo}
+use Rattle.place.specs.Search.{isHolding, isUpTo}
 use Rattle.place.specs.Lookups.{expirationOf, strikeSearchOf}
 use Rattle.place.proofs.Found.{none-in, expiration-sought, expiration-found, strikes-ended, strike-sought, strike-found}
 

@@ -12,12 +12,12 @@ use Rattle.word.specs.declared.kind.Kind.{Kind}
 use Rattle.word.specs.Codec.{Word, Class, isLegal, packed}
 use Rattle.logic.proofs.Tests.{and-intro, ands, parts, T-true}
 use Rattle.word.proofs.Words.{legal-fits, kindIn, kind-packed}
-use Rattle.logic.specs.Lists.{every}
+use Rattle.logic.specs.Lists.{every, firstAt}
 use Rattle.book.specs.Facts.{Series, OpenClass, isBelow}
 use Rattle.book.specs.Layout.{strikeWord, expirationUnless, seriesWords, classesWords}
 use Rattle.logic.proofs.Lists.{every-true, every-at, ordered}
 use Rattle.word.specs.Kinds.{isOfKind, keyOf, classKind}
-use Rattle.place.specs.Search.{firstAt, isFrom, Rises}
+use Rattle.place.specs.Search.{isFrom, Rises}
 use Rattle.place.proofs.KeyedWords.{keyIn, kindNumbered, key-said}
 use Rattle.place.proofs.Laid.{no-class, every-class}
 

@@ -1,20 +1,14 @@
--- Inner: the first of a list that passes a test, and the tests by which words are sought. Assumes nothing.
-use Prim.Native.Nat.{ℕ, suc, _+_, _-_, _^_, _<_, _≤_}
+-- Inner: the tests by which words are sought. Assumes nothing.
+use Prim.Native.Nat.{ℕ, _+_, _-_, _^_, _<_, _≤_}
 use mathlib.Core.Path.{_≡_}
 use mathlib.Core.Bool.{Bool, true, cond, not, _&&_}
-use mathlib.Core.List.{List, [], _∷_}
+use mathlib.Core.List.{List}
 use lib.ListN.{drop, getD, length, take}
 use lib.Dec.{T, eqb, leb, ltb}
 use Rattle.word.specs.declared.kind.Kind.{Kind}
 use Rattle.word.specs.Limits.{longestRun}
 use Rattle.word.specs.Kinds.{kindField, kindOf, keyOf, isOfKind, gradeAt, gradeOf}
-use Rattle.logic.specs.Lists.{every}
-
-module _ {A : Type 0} (test : A → Bool) where
-  -- how many stand before the first that passes the test
-  abbrev pub firstAt : List A → ℕ
-  firstAt [] = 0
-  firstAt (x ∷ xs) = cond {A = ℕ} (test x) 0 (suc (firstAt xs))
+use Rattle.logic.specs.Lists.{every, firstAt}
 
 -- a word of the kind or of a higher one
 abbrev pub isNoLower : Kind → ℕ → Bool

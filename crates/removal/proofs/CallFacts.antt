@@ -2,7 +2,7 @@
 -- between words that stay. Assumes nothing.
 use Prim.Native.Nat.{ℕ, _+_, _-_, _≤_}
 use mathlib.Core.Path.{_≡_, refl, ap, _∙_}
-use mathlib.Core.List.{List, [], _∷_, _++_, map}
+use mathlib.Core.List.{List, _∷_, _++_, map}
 use native.Mathlib.Omega.{arith}
 use lib.Dec.{T}
 use lib.ListN.{length, replicate, length-append, length-map}
@@ -15,15 +15,15 @@ use Rattle.book.specs.Books.{isSeries, isBook}
 use Rattle.book.specs.Views.{class}
 use Rattle.book.specs.Changes.{update, classReviewed, reviewedCount}
 use Rattle.logic.proofs.Tests.{ands}
+use Rattle.logic.proofs.Slices.{zeros-joined}
 use Rattle.book.proofs.Forms.{areSeries}
 use Rattle.book.proofs.ClassWords.{series-good}
 use Rattle.book.proofs.Splices.{Spliced, used-spliced, series-spliced}
 use Rattle.book.proofs.SplicedRuns.{back, zeros, place-is, run-was, run-is}
 use Rattle.place.proofs.Heads.{book-good, book-room, book-long, book-month}
 use Rattle.place.proofs.Found.{class-room}
-use Rattle.removal.specs.Asked.{Removable, Reviewable}
+use Rattle.removal.specs.RemovalsAsked.{Removable, Reviewable}
 use Rattle.removal.specs.Compaction.{beginning, compacted, Parted, headed, RemovedFrom}
-use Rattle.removal.proofs.LentParts.{zeros-joined}
 use Rattle.removal.proofs.StayingSeries.{staying, leaving}
 use Rattle.removal.proofs.Kept.{Leaves, compacted-series}
 use Rattle.removal.proofs.Reviewed.{review-leaves, review-removes}

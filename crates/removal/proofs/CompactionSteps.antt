@@ -17,8 +17,9 @@ use Rattle.removal.specs.declared.compaction.Step.{Step}
 use Rattle.removal.specs.Rewriting.{Pass}
 use Rattle.removal.specs.Marks.{said}
 use Rattle.removal.specs.Compaction.{stays, expirationStep, strikeStep, reviewedStep, otherStep, stepOf, stepAt, stepWords, ran, beginning, compacted, Compacted}
-use Rattle.removal.proofs.Said.{choose, said-is, by-other, by-each}
+use Rattle.removal.proofs.Said.{said-is, by-other, by-each}
 use Rattle.removal.proofs.Moving.{Moving, move-start, move-more, move-done, move-count, move-zeroed}
+use Rattle.logic.proofs.Tests.{choose}
 
 -- an expiration that waits has left room for its word
 pub owed : CompactionState → ℕ
@@ -29,24 +30,24 @@ unfolding owed
 at-most-one k = choose (λ n. n ≤ 1) (eqb (k .waiting) 0) 0 1 (λ e. omega arith) (λ e. omega arith)
 
 -- what the loop needs of a step: two words at most, each in room that is left, and one strike removed at most
-pub record Sound (k : CompactionState) (o : Step) : Type 0 where
+pub record StepSound (k : CompactionState) (o : Step) : Type 0 where
   pub two : o .count ≤ 2
   pub room : o .count + owed (o .progress) ≤ owed k + 1
   pub one : o .progress .removed ≤ k .removed + 1
 
-sound-strike : (stay : Bool) (k : CompactionState) (w : ℕ) → Sound k (strikeStep stay k w)
+sound-strike : (stay : Bool) (k : CompactionState) (w : ℕ) → StepSound k (strikeStep stay k w)
 unfolding owed
 sound-strike stay k w =
-    choose (Sound k) stay _ _
-    (λ e. choose (Sound k) (eqb (k .waiting) 0) _ _
+    choose (StepSound k) stay _ _
+    (λ e. choose (StepSound k) (eqb (k .waiting) 0) _ _
     (λ e. record { two = omega arith; room = omega arith; one = omega arith })
     (λ e. let q : owed k ≡ 1 = rw e in record { two = omega arith; room = omega arith; one = omega arith }))
     (λ e. record { two = omega arith; room = omega arith; one = omega arith })
 
-sound-step : (close : ℕ) (k : CompactionState) (w : ℕ) (ws : List ℕ) → Sound k (stepAt close k w ws)
+sound-step : (close : ℕ) (k : CompactionState) (w : ℕ) (ws : List ℕ) → StepSound k (stepAt close k w ws)
 unfolding stepAt owed
 sound-step close k w ws =
-    by-each (expirationStep k w ws) (reviewedStep close k w) (otherStep k w) (Sound k)
+    by-each (expirationStep k w ws) (reviewedStep close k w) (otherStep k w) (StepSound k)
     (let l = at-most-one (expirationStep k w ws .progress) in
     record { two = omega arith; room = omega arith; one = omega arith })
     (λ h ground put call. sound-strike (stays close (k .bounds) h ground put call) k w)
@@ -103,7 +104,7 @@ module _ (close : ℕ) {xs b : List ℕ} {k : CompactionState} {r w : ℕ} (C : 
       {b′ : List ℕ} {w′ : ℕ} {o : Step} → r < length b → o ≡ stepAt close k (getD b r 0) (drop (r + 1) b)
       → w′ ≡ w + o .count → b′ ≡ sets b w (stepWords o) → Compacting close xs b′ (o .progress) (r + 1) w′
   compact-more {b′} {w′} {o} h e ew eb =
-      let s : Sound k o = rw e (sound-step close k (getD b r 0) (drop (r + 1) b)) in
+      let s : StepSound k o = rw e (sound-step close k (getD b r 0) (drop (r + 1) b)) in
       let n : length (stepWords o) ≡ o .count = words-length o (s .two) in
       record {
         moving = move-more (stepping close) owed (C .moving) h (ap ran e) (rw n (s .room)) eb (rw n ew);

@@ -22,8 +22,8 @@ use Rattle.book.proofs.SplicedRuns.{front, back, zeros, place-is, run-was, run-
 use Rattle.book.proofs.Runs.{standing-within}
 use Rattle.place.proofs.Heads.{book-good, book-room, book-long, book-month}
 use Rattle.removal.specs.Rewriting.{closed}
-use Rattle.removal.specs.Asked.{Delistable}
-use Rattle.removal.proofs.LentParts.{zeros-joined, part-is, put-part}
+use Rattle.removal.specs.RemovalsAsked.{Delistable}
+use Rattle.logic.proofs.Slices.{zeros-joined, part-is, put-part}
 
 -- ---- k words less from `at` on
 

@@ -10,21 +10,21 @@ use lib.Dec.{T, leb, ltb→lt, leb·zero, eqb·zero-suc}
 use borrow.Author.Tests.{lt-leb}
 use Rattle.word.specs.Kinds.{kindField, classKind, expirationKind}
 use Rattle.word.specs.Codec.{Word, isLegal, packed}
-use Rattle.logic.specs.Lists.{every, only}
+use Rattle.logic.specs.Lists.{every, only, firstAt}
 use Rattle.book.specs.Facts.{Series, inMonth, OpenClass, number, withSeries}
 use Rattle.word.specs.Figures.{figuresWords}
 use Rattle.book.specs.Layout.{seriesWords, classesWords}
 use Rattle.book.specs.Books.{isClass}
-use Rattle.logic.proofs.Tests.{ands, T-true, true-T}
+use Rattle.logic.proofs.Tests.{ands, T-true, true-T, ltb-not}
 use Rattle.logic.proofs.Lists.{every-imply, every-true}
 use Rattle.book.proofs.Forms.{areSeries}
 use Rattle.book.proofs.Layouts.{seriesWords-append, words-legal}
 use Rattle.logic.proofs.Parts.{every-kept, isUnder, isEqual, isOver, not-under}
 use Rattle.logic.proofs.Splits.{every-split}
 use Rattle.book.proofs.SeriesParts.{monthOf, month-parts, series-apart}
-use Rattle.place.specs.Search.{firstAt, isUpTo}
+use Rattle.place.specs.Search.{isUpTo}
 use Rattle.place.proofs.KeyedWords.{isEnding, up-to-packed}
-use Rattle.place.proofs.Laid.{first-after, every-series, not-from}
+use Rattle.place.proofs.Laid.{first-after, every-series}
 
 -- ---- the search for the next class
 
@@ -88,7 +88,7 @@ module _ (m : ℕ) where
       → T (every (λ w. not (isLaterWord w)) (seriesWords 0 ss []))
   passes-earlier ss t =
       every-series (λ w. not (isLaterWord w)) 0 ss []
-      (every-imply (isUnder monthOf m) (λ s. not (leb m (s .month))) (λ s u. not-from (s .month) m u) ss t) tt
+      (every-imply (isUnder monthOf m) (λ s. not (leb m (s .month))) (λ s u. ltb-not (s .month) m u) ss t) tt
 
   stops-later :
       (ss : List Series) (xs : List OpenClass) → T (every isLater ss)

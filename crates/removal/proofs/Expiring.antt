@@ -12,20 +12,19 @@ use borrow.Rule.Slice.PartMut.{putMid, mid-len}
 use Rattle.word.specs.Kinds.{kindField, classKind, expirationKind}
 use Rattle.word.specs.Head.{firstPlace}
 use Rattle.word.specs.Codec.{Word, Head, packed}
-use Rattle.logic.specs.Lists.{every}
+use Rattle.logic.specs.Lists.{every, firstAt}
 use Rattle.book.specs.Facts.{OpenClass, Facts}
 use Rattle.word.specs.Figures.{figuresWords, figuresLength}
 use Rattle.book.specs.Layout.{classesWords, used, layout, factsOf}
 use Rattle.book.specs.Books.{isClass, isBook}
 use Rattle.book.specs.Changes.{monthSet}
 use Rattle.logic.proofs.Tests.{ands}
+use Rattle.logic.proofs.Slices.{zeros-joined, stretch, drop-later, stretch-parts, stretch-known}
 use Rattle.book.proofs.Runs.{run-parts}
-use Rattle.place.specs.Search.{firstAt, isUpTo}
+use Rattle.place.specs.Search.{isUpTo}
 use Rattle.place.proofs.Heads.{book-form, book-is, book-room}
 use Rattle.place.proofs.Found.{body}
 use Rattle.removal.specs.Expiry.{MovedTo}
-use Rattle.removal.proofs.LentParts.{zeros-joined}
-use Rattle.removal.proofs.MovedStretches.{stretch, drop-later, stretch-parts, stretch-known}
 use Rattle.removal.proofs.Expired.{keptFrom, class-parts}
 
 module _ (m : ℕ) (ws : List ℕ) where

@@ -1,6 +1,5 @@
 -- The laws that the functions' proofs cite.
 pub mod Said
-pub mod LentParts
 pub mod Moving
 pub mod CompactionSteps
 pub mod MovedStretches

@@ -1,50 +1,14 @@
--- Stretches of a list from one index to another: where one ends the next begins, and a stretch moved down stands after
--- what was before it. Assumes nothing.
+-- A stretch of words moved down stands after what was before it: by the parts of the list. Assumes nothing.
 use Prim.Native.Nat.{ℕ, _+_, _-_, _≤_}
 use mathlib.Core.Path.{_≡_, refl, sym, ap, _∙_}
 use mathlib.Core.List.{List, _++_, append-assoc}
 use native.Mathlib.Omega.{arith}
 use lib.ListN.{length, take, drop, length-append, length-drop}
 use lib.Seq.{take-add, drop-drop, take-at, drop-at, take-append-add, length-take-le}
-use borrow.Rule.Slice.PartMut.{midOf, putMid, mid-len}
+use borrow.Rule.Slice.PartMut.{putMid, mid-len}
 use Rattle.removal.specs.Rewriting.{movedDown}
 use Rattle.removal.specs.Expiry.{MovedTo}
-
--- the words from a to b, as a part is lent
-abbrev pub stretch : ℕ → ℕ → List ℕ → List ℕ
-stretch a b ws = midOf a (b - a) ws
-
--- what is not changed from k on is not changed from a later index on
-pub drop-later : (k a : ℕ) (xs ys : List ℕ) → k ≤ a → drop k xs ≡ drop k ys → drop a xs ≡ drop a ys
-drop-later k a xs ys l e =
-    let q : k + (a - k) ≡ a = omega arith in
-    ap (λ (i : ℕ). drop i xs) (sym q)
-    ∙ sym (drop-drop (a - k) k xs)
-    ∙ ap (drop (a - k)) e
-    ∙ drop-drop (a - k) k ys
-    ∙ ap (λ (i : ℕ). drop i ys) q
-
-module _ (a b c : ℕ) (ws : List ℕ) (low : a ≤ b) (high : b ≤ c) where
-  pub stretch-parts : stretch a c ws ≡ stretch a b ws ++ stretch b c ws
-  stretch-parts =
-      let e : c - a ≡ b - a + (c - b) = omega arith in
-      let q : a + (b - a) ≡ b = omega arith in
-      ap (λ (k : ℕ). take k (drop a ws)) e
-      ∙ take-add (b - a) (c - b) (drop a ws)
-      ∙ ap (λ (l : List ℕ). stretch a b ws ++ take (c - b) l) (drop-drop (b - a) a ws ∙ ap (λ (k : ℕ). drop k ws) q)
-
-  -- a stretch whose words are known, from its first words on
-  pub stretch-known :
-      c ≤ length ws → (us vs : List ℕ) → stretch a c ws ≡ us ++ vs → length us ≡ b - a
-      → (stretch a b ws ≡ us) × (stretch b c ws ≡ vs)
-  stretch-known within us vs e long =
-      let n : length (stretch a b ws) ≡ b - a = mid-len a b ws (omega arith) in
-      let both = sym stretch-parts ∙ e in (
-        sym (take-at (stretch a b ws) (stretch b c ws) (b - a) n) ∙ ap (take (b - a)) both ∙ take-at us vs (b - a) long,
-        sym (drop-at (stretch a b ws) (stretch b c ws) (b - a) n) ∙ ap (drop (b - a)) both ∙ drop-at us vs (b - a) long,
-      )
-
--- ---- a stretch moved down
+use Rattle.logic.proofs.Slices.{stretch, stretch-parts}
 
 module _ (to from end : ℕ) (xs : List ℕ) (low : to ≤ from) (high : from ≤ end) where
   -- over no distance

@@ -1,24 +1,16 @@
 -- The loop that rewrites words in place, for any state and step that never writes past what is read: what is written
 -- and what the rest will give are what the whole gives. Assumes nothing.
-use Prim.Native.Nat.{ℕ, suc, _+_, _-_, _≤_, _<_, zero-le}
+use Prim.Native.Nat.{ℕ, _+_, _-_, _≤_, _<_, zero-le}
 use mathlib.Core.Path.{_≡_, refl, sym, ap, _∙_}
-use mathlib.Core.List.{List, [], _∷_, _++_, append-assoc, append-nil}
-use native.Mathlib.Nat.{add-suc, suc-add}
+use mathlib.Core.List.{List, _∷_, _++_, append-assoc, append-nil}
 use native.Mathlib.Numerals.{add-one}
 use native.Mathlib.Omega.{arith}
-use lib.ListN.{length, getD, set, take, drop, replicate, length-append, drop-of-length-le}
-use lib.Seq.{sets, sets-eq, length-sets, drop-set-lt, drop-cons, drop-drop, take-at, length-take-le}
+use lib.ListN.{length, getD, take, drop, replicate, length-append, drop-of-length-le}
+use lib.Seq.{sets, sets-eq, length-sets, drop-cons, drop-drop, take-at, length-take-le}
 use borrow.Rule.Slice.PartMut.{putMid}
 use Rattle.removal.specs.Rewriting.{Pass, following, run, padded}
-use Rattle.removal.proofs.LentParts.{tail-zeroed}
-
--- stores below n leave what lies from n on
-drop-sets : (vs l : List ℕ) (i n : ℕ) → i + length vs ≤ n → drop n (sets l i vs) ≡ drop n l
-drop-sets [] l i n h = refl
-drop-sets (v ∷ vs) l i n h =
-    let e = add-suc i (length vs) in
-    let q = suc-add i (length vs) in
-    drop-sets vs (set l i v) (suc i) n (omega arith) ∙ drop-set-lt n l i v (omega arith)
+use Rattle.logic.proofs.Slices.{tail-zeroed}
+use Rattle.logic.proofs.Stores.{drop-sets}
 
 -- a step may write a word more than it reads where an earlier one left room: `owed` is the room left
 module _ {S : Type 0} (step : S → ℕ → List ℕ → Pass S) (owed : S → ℕ) where

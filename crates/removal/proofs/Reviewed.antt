@@ -1,11 +1,12 @@
 -- The review by the bounds of the marked strikes is the review of document 01: a test of the bounds asks of each marked
 -- strike what the sentence asks. Assumes nothing.
-use Prim.Native.Nat.{ℕ, _+_, _^_, _≤_, _<_, min, max}
-use mathlib.Core.Path.{_≡_, refl, sym, ap, _∙_}
-use mathlib.Core.Bool.{Bool, cond, not, _&&_, _||_, and-true, and-assoc, Bool·not-not}
+use Prim.Native.Nat.{ℕ, _+_, _^_, _≤_, _<_}
+use mathlib.Core.Path.{_≡_, sym, ap, _∙_}
+use mathlib.Core.Bool.{Bool, not, _&&_, _||_, and-true, and-assoc, and-comm, Bool·not-not}
 use mathlib.Core.List.{List, [], _∷_}
 use native.Mathlib.Omega.{arith}
-use lib.Dec.{T, eqb, leb, ltb, leb→le, le→leb, ltb→lt, lt→ltb}
+use native.Mathlib.Numerals.{add-one}
+use lib.Dec.{T, eqb, leb, ltb, leb→le}
 use borrow.Author.Tests.{le-leb, lt-ltb}
 use Rattle.logic.specs.Lists.{every, only}
 use Rattle.word.specs.Limits.{highestStrike}
@@ -15,7 +16,8 @@ use Rattle.rule.specs.Spacing.{apart}
 use Rattle.book.specs.Facts.{Series, OpenClass, isMarked}
 use Rattle.book.specs.Books.{isSeries}
 use Rattle.book.specs.Views.{reviewDistance, isReviewed}
-use Rattle.logic.proofs.Tests.{and-left, and-right, and-intro, ands, same-bool}
+use Rattle.logic.proofs.Tests.{ands, leb-max, ltb-min}
+use Rattle.logic.proofs.Lists.{only-same}
 use Rattle.removal.specs.declared.marks.Bounds.{Bounds}
 use Rattle.removal.specs.Marks.{noneMarked, widened}
 use Rattle.removal.proofs.StayingSeries.{markedIn, widenedBy, staysAmong, staying, leaving}
@@ -33,28 +35,6 @@ widened-law q p one b (s ∷ ss) =
     ∙ ap (λ (t : Bool). t && each) (one b (s .strike))
     ∙ and-assoc (q b) (p (s .strike)) each
 
-above-asks : (h a k : ℕ) → leb (max a (k + 1)) h ≡ (leb a h && ltb k h)
-above-asks h a k =
-    same-bool (leb (max a (k + 1)) h) (leb a h && ltb k h)
-    (λ t.
-    let l : max a (k + 1) ≤ h = leb→le (max a (k + 1)) h t in
-    and-intro (leb a h) (ltb k h) (le→leb a h (omega arith)) (lt→ltb k h (omega arith)))
-    (λ t.
-    let l : a ≤ h = leb→le a h (and-left (leb a h) (ltb k h) t) in
-    let m : k < h = ltb→lt k h (and-right (leb a h) (ltb k h) t) in
-    le→leb (max a (k + 1)) h (omega arith))
-
-lowest-asks : (h a k : ℕ) → ltb h (min k a) ≡ (ltb h a && ltb h k)
-lowest-asks h a k =
-    same-bool (ltb h (min k a)) (ltb h a && ltb h k)
-    (λ t.
-    let l : h < min k a = ltb→lt h (min k a) t in
-    and-intro (ltb h a) (ltb h k) (lt→ltb h a (omega arith)) (lt→ltb h k (omega arith)))
-    (λ t.
-    let l : h < a = ltb→lt h a (and-left (ltb h a) (ltb h k) t) in
-    let m : h < k = ltb→lt h k (and-right (ltb h a) (ltb h k) t) in
-    lt→ltb h (min k a) (omega arith))
-
 -- above all, or below all
 beyond :
     (h : ℕ) (ss : List Series) → h < 2 ^ strikeKind .width
@@ -62,24 +42,16 @@ beyond :
     ≡ (every (λ t. ltb (t .strike) h) ss || every (λ t. ltb h (t .strike)) ss)
 beyond h ss l =
     let above =
-    widened-law (λ b. leb (b .above) h) (λ k. ltb k h) (λ b k. above-asks h (b .above) k) noneMarked ss
+    widened-law (λ b. leb (b .above) h) (λ k. ltb k h)
+    (λ b k. leb-max (b .above) (k + 1) h ∙ rw add-one) noneMarked ss
     ∙ ap (λ (t : Bool). t && every (λ t. ltb (t .strike) h) ss) (le-leb 0 h (omega arith)) in
     let below =
-    widened-law (λ b. ltb h (b .lowest)) (λ k. ltb h k) (λ b k. lowest-asks h (b .lowest) k) noneMarked ss
+    widened-law (λ b. ltb h (b .lowest)) (λ k. ltb h k)
+    (λ b k. ltb-min k (b .lowest) h ∙ and-comm (ltb h k) (ltb h (b .lowest))) noneMarked ss
     ∙ ap (λ (t : Bool). t && every (λ t. ltb h (t .strike)) ss) (lt-ltb h (2 ^ strikeKind .width) l) in
     λ i. above i || below i
 
 -- ---- the review
-
--- two tests that agree where p holds
-only-same :
-    {A : Type 0} (p f g : A → Bool) → ((x : A) → T (p x) → f x ≡ g x) → (xs : List A) → T (every p xs)
-    → only f xs ≡ only g xs
-only-same p f g agree [] t = refl
-only-same p f g agree (x ∷ xs) t =
-    let here : f x ≡ g x = agree x (search ands) in
-    let rest : only f xs ≡ only g xs = only-same p f g agree xs (search ands) in
-    λ i. cond (here i) (x ∷ rest i) (rest i)
 
 module _
     (now close : ℕ) (x : OpenClass) (e : close ≡ x .figures .close) (t : T (every (isSeries now) (x .series))) where

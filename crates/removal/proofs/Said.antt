@@ -2,7 +2,6 @@
 -- words. Assumes nothing.
 use Prim.Native.Nat.{ℕ}
 use mathlib.Core.Path.{_≡_, refl, ap}
-use mathlib.Core.Bool.{Bool, true, false, cond}
 use lib.Dec.{T, eqb}
 use borrow.Author.Tests.{eqb-true, ne-eqb}
 use Rattle.word.specs.Kinds.{kindOf, headKind, classKind, closeKind, volumeKind, expirationKind, strikeKind}
@@ -10,11 +9,7 @@ use Rattle.word.specs.Codec.{Word, Head, Class, Close, Volume, Expiration, Stri
 use Rattle.word.proofs.Words.{fields-packed}
 use Rattle.word.proofs.RawWords.{fits}
 use Rattle.removal.specs.Marks.{said, byKind}
-
-pub choose :
-    {A : Type 0} (P : A → Type 0) (b : Bool) (x y : A) → (b ≡ true → P x) → (b ≡ false → P y) → P (cond b x y)
-choose P true x y p q = p refl
-choose P false x y p q = q refl
+use Rattle.logic.proofs.Tests.{choose}
 
 pub said-is : (w k : ℕ) → kindOf w ≡ k → said w ≡ fieldsAs k w
 unfolding said

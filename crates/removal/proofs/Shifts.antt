@@ -8,9 +8,8 @@ use lib.ListN.{length, getD, set, take, drop, replicate, length-append, length-d
 use lib.Seq.{take-all, take-add, take-suc, take-append-le, take-take, take-at, drop-at, drop-drop, drop-cons, getD-drop, length-take-le, sets, sets-eq, length-sets}
 use borrow.Rule.Slice.PartMut.{midOf, putMid}
 use Rattle.logic.proofs.Stores.{sets-append}
+use Rattle.logic.proofs.Slices.{tail-all, tail-zeroed, drop-later}
 use Rattle.removal.specs.Rewriting.{movedDown, closed}
-use Rattle.removal.proofs.LentParts.{tail-all, tail-zeroed}
-use Rattle.removal.proofs.MovedStretches.{drop-later}
 
 -- the words xs became s: the first i after a gap moved to its front, the others as they were
 pub record Shifting (gap : ℕ) (xs s : List ℕ) (i : ℕ) : Type 0 where

@@ -11,7 +11,7 @@ use Rattle.word.specs.Head.{firstPlace}
 use Rattle.word.specs.Codec.{Head, packed}
 use Rattle.removal.specs.Rewriting.{closed}
 use Rattle.removal.specs.Compaction.{compacted, Compacted, Parted, Removed}
-use Rattle.removal.proofs.LentParts.{part-is, put-part}
+use Rattle.logic.proofs.Slices.{part-is, put-part}
 
 module _ (p k z c d : List ℕ) where
   regroup-before : p ++ ((k ++ z) ++ (c ++ d)) ≡ (p ++ k) ++ ((z ++ c) ++ d)

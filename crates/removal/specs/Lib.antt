@@ -2,4 +2,4 @@ pub mod Rewriting
 pub mod Marks
 pub mod Compaction
 pub mod Expiry
-pub mod Asked
+pub mod RemovalsAsked

@@ -23,8 +23,8 @@ abbrev pub padded : ℕ → List ℕ → List ℕ
 padded n ws = ws ++ replicate (n - length ws) 0
 
 -- how many words are moved at a time where the gap is no constant
-abbrev pub blockLength : ℕ
-blockLength = 8
+abbrev pub movedAtOnce : ℕ
+movedAtOnce = 8
 
 -- the words after a gap of n moved to its front; the last n stand as they were
 abbrev pub movedDown : ℕ → List ℕ → List ℕ

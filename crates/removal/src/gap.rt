@@ -3,11 +3,11 @@ ghost use mathlib.Core.Path.{_≡_};
 ghost use Prim.Native.Nat.{_+_, _≤_};
 ghost use lib.ListN.{drop, length, take};
 ghost use lib.Seq.{sets};
-ghost use Rattle.removal.specs.Rewriting.{blockLength, movedDown, closed};
+ghost use Rattle.removal.specs.Rewriting.{movedAtOnce, movedDown, closed};
 use word::zeros::zero_all;
 
 // How many words are moved at a time over a distance that is no constant.
-const BLOCK: usize = 8;
+const MOVED_AT_ONCE: usize = 8;
 
 // The loops with a constant distance compile to memmove.
 fn move_down_one(words: &mut [u32])
@@ -36,9 +36,9 @@ fn move_down_two(words: &mut [u32])
 
 // Moves a block of words down. All are read before one is written, so that they go at once whatever the distance.
 fn move_block(words: &mut [u32], to: usize, from: usize)
-    requires { ⌜ (to ≤ from) × (from + blockLength ≤ length (now words)) ⌝ }
+    requires { ⌜ (to ≤ from) × (from + movedAtOnce ≤ length (now words)) ⌝ }
     ensures { λ _. ⌜ now (words .exit)
-        ≡ sets (now (words .entry)) to (take blockLength (drop from (now (words .entry)))) ⌝ }
+        ≡ sets (now (words .entry)) to (take movedAtOnce (drop from (now (words .entry)))) ⌝ }
 {
     let a = words[from];
     let b = words[from + 1];
@@ -79,12 +79,12 @@ pub fn move_down_by(words: &mut [u32], gap: usize)
 {
     let count = words.len() - gap;
     let mut i = 0;
-    while i + BLOCK <= count {
+    while i + MOVED_AT_ONCE <= count {
         move_block(words, i, i + gap);
-        i += BLOCK;
+        i += MOVED_AT_ONCE;
     }
-    if (BLOCK <= gap) & (BLOCK <= count) {
-        let last = count - BLOCK;
+    if (MOVED_AT_ONCE <= gap) & (MOVED_AT_ONCE <= count) {
+        let last = count - MOVED_AT_ONCE;
         move_block(words, last, last + gap);
         return;
     }

@@ -4,7 +4,7 @@ ghost use lib.ListN.{length};
 ghost use Rattle.book.specs.Layout.{layout, factsOf};
 ghost use Rattle.book.specs.Views.{class};
 ghost use Rattle.book.specs.Changes.{classReviewed, reviewedCount, strikeRemoved, update};
-ghost use Rattle.removal.specs.Asked.{Delistable, Removable, Reviewable};
+ghost use Rattle.removal.specs.RemovalsAsked.{Delistable, Removable, Reviewable};
 ghost use Rattle.removal.specs.Compaction.{RemovedFrom};
 use crate::compaction::compact;
 use crate::gap::close_gap;

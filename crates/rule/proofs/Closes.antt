@@ -34,16 +34,16 @@ abbrev OfTerm : (Setting → Bool) → ℕ → ℕ → Type 0
 OfTerm test now month =
     (c : ClassRecord) → (isOutside (seenFrom now month c) ≡ false) × (test (seenFrom now month c) ≡ true)
 
-abbrev pub Holds : Case → Type 0
-Holds (permits s standing strikes) = permitted s standing ≡ strikes
-Holds (answers s standing h answer) = judgement s standing h ≡ answer
-Holds (refused now month) = (c : ClassRecord) → isOutside (seenFrom now month c) ≡ true
-Holds (near now month) = OfTerm isNear now month
-Holds (long now month) = OfTerm isLong now month
+abbrev pub CaseHolds : Case → Type 0
+CaseHolds (permits s standing strikes) = permitted s standing ≡ strikes
+CaseHolds (answers s standing h answer) = judgement s standing h ≡ answer
+CaseHolds (refused now month) = (c : ClassRecord) → isOutside (seenFrom now month c) ≡ true
+CaseHolds (near now month) = OfTerm isNear now month
+CaseHolds (long now month) = OfTerm isLong now month
 
 abbrev pub All : List Case → Type 0
 All [] = Unit {0}
-All (x ∷ xs) = Holds x × All xs
+All (x ∷ xs) = CaseHolds x × All xs
 
 -- what is computed for a case: the permitted strikes, looked for among those up to the end of the range
 data Outcome : Type 0 where
@@ -65,7 +65,7 @@ expected (refused now month) = testsOf (true ∷ [])
 expected (near now month) = testsOf (false ∷ true ∷ [])
 expected (long now month) = testsOf (false ∷ true ∷ [])
 
-holds : (x : Case) → ((c : ClassRecord) → computed c x ≡ expected x) → Holds x
+holds : (x : Case) → ((c : ClassRecord) → computed c x ≡ expected x) → CaseHolds x
 holds (permits s standing strikes) e =
     let e₁ : computed (s .class) (permits s standing strikes) ≡ strikesOf strikes = e (s .class) in
     permitted-short s standing ∙ cc

@@ -3,14 +3,14 @@
 use mathlib.Core.Path.{_≡_, refl, sym, ap, _∙_, fun-ext}
 use mathlib.Core.Bool.{Bool, true, false, cond, not, _&&_, _||_, and-false}
 use mathlib.Core.List.{_∷_}
-use Prim.Native.Nat.{ℕ, zero, suc, _+_, _/_, _≤_, _<_}
+use Prim.Native.Nat.{ℕ, zero, suc, _+_, _≤_, _<_}
 use native.Mathlib.Omega.{arith}
-use borrow.Author.Tests.{leb-true, ltb-false, eqb-true, eqb-false, lt-ltb, le-ltb, le-leb}
+use borrow.Author.Tests.{ltb-false, eqb-true, eqb-false, lt-ltb, le-leb}
 use lib.Dec.{T, leb, ltb, eqb, leb·suc-suc, leb→le, le→leb, ltb→lt, eqb→eq}
 use Rattle.word.specs.Limits.{highestStrike}
 use Rattle.rule.specs.declared.terms.Setting.{Setting}
 use Rattle.logic.specs.Lists.{every, some, upFrom}
-use Rattle.logic.proofs.Tests.{ands, and-middle, and-implied, same-leb}
+use Rattle.logic.proofs.Tests.{ands, and-middle, and-implied, same-leb, none-between}
 use Rattle.logic.proofs.Numbers.{every-number}
 use Rattle.rule.specs.Terms.{cents, inHalves, isDollarClass, isNear, price}
 use Rattle.rule.specs.Grids.{oneDollar, fiveDollars, fiveFifty, fiftyDollars, multiple, ladder, halfDollars}
@@ -18,21 +18,21 @@ use Rattle.rule.specs.Ranges.{lowPrice, rangeCount, lowest, amongFive, r
 use Rattle.rule.specs.Ends.{fifthAbove}
 
 -- the strike past the last one that `lowest` looks at
-endOf : (ℕ → Bool) → ℕ → ℕ → ℕ → ℕ
-endOf test zero n h = h
-endOf test (suc left) zero h = h
-endOf test (suc left) (suc n) h =
-    elim (test h) [ true ↦ endOf test left n (suc h) | false ↦ endOf test left (suc n) (suc h) ]
+walkEnd : (ℕ → Bool) → ℕ → ℕ → ℕ → ℕ
+walkEnd test zero n h = h
+walkEnd test (suc left) zero h = h
+walkEnd test (suc left) (suc n) h =
+    elim (test h) [ true ↦ walkEnd test left n (suc h) | false ↦ walkEnd test left (suc n) (suc h) ]
 
 -- one strike further, at one that passes and at one that does not
 module _ (test : ℕ → Bool) (left n a : ℕ) where
-  end-on : test a ≡ true → endOf test (suc left) (suc n) a ≡ endOf test left n (suc a)
-  unfolding endOf
-  end-on e = rw (e, endOf)
+  end-on : test a ≡ true → walkEnd test (suc left) (suc n) a ≡ walkEnd test left n (suc a)
+  unfolding walkEnd
+  end-on e = rw (e, walkEnd)
 
-  end-off : test a ≡ false → endOf test (suc left) (suc n) a ≡ endOf test left (suc n) (suc a)
-  unfolding endOf
-  end-off e = rw (e, endOf)
+  end-off : test a ≡ false → walkEnd test (suc left) (suc n) a ≡ walkEnd test left (suc n) (suc a)
+  unfolding walkEnd
+  end-off e = rw (e, walkEnd)
 
   lowest-on : test a ≡ true → lowest test (suc left) (suc n) a ≡ a ∷ lowest test left n (suc a)
   unfolding lowest
@@ -42,24 +42,16 @@ module _ (test : ℕ → Bool) (left n a : ℕ) where
   unfolding lowest
   lowest-off e = rw (e, lowest)
 
-end-low : (test : ℕ → Bool) (left n a : ℕ) → a ≤ endOf test left n a
-unfolding endOf
+end-low : (test : ℕ → Bool) (left n a : ℕ) → a ≤ walkEnd test left n a
+unfolding walkEnd
 end-low test zero n a = omega arith
 end-low test (suc left) zero a = omega arith
 end-low test (suc left) (suc n) a = go (test a) refl (end-low test left n (suc a)) (end-low test left (suc n) (suc a))
   where
-    go : (b : Bool) → test a ≡ b → suc a ≤ endOf test left n (suc a) → suc a ≤ endOf test left (suc n) (suc a) →
-        a ≤ endOf test (suc left) (suc n) a
+    go : (b : Bool) → test a ≡ b → suc a ≤ walkEnd test left n (suc a) → suc a ≤ walkEnd test left (suc n) (suc a) →
+        a ≤ walkEnd test (suc left) (suc n) a
     go true e x y = omega (arith, end-on test left n a e)
     go false e x y = omega (arith, end-off test left n a e)
-
--- no strike stands where the ends meet
-none : (a h : ℕ) (b : Bool) → false ≡ (leb a h && ltb h a && b)
-none a h b = go (leb a h) refl
-  where
-    go : (t : Bool) → leb a h ≡ t → false ≡ (leb a h && ltb h a && b)
-    go true e = rw (e, le-ltb h a (leb-true a h e))
-    go false e = rw e
 
 -- the same, of the strikes up to an end
 module _ (test : ℕ → Bool) (a end h : ℕ) where
@@ -88,39 +80,40 @@ module _ (test : ℕ → Bool) (a end h : ℕ) where
 
 -- the strikes that `lowest` finds are those that pass, up to where it ends
 among : (test : ℕ → Bool) (left n a h : ℕ) →
-    some (eqb h) (lowest test left n a) ≡ (leb a h && ltb h (endOf test left n a) && test h)
-unfolding lowest endOf
-among test zero n a h = none a h (test h)
-among test (suc left) zero a h = none a h (test h)
+    some (eqb h) (lowest test left n a) ≡ (leb a h && ltb h (walkEnd test left n a) && test h)
+unfolding lowest walkEnd
+among test zero n a h = none-between a h (test h)
+among test (suc left) zero a h = none-between a h (test h)
 among test (suc left) (suc n) a h = go (test a) refl (among test left n (suc a) h) (among test left (suc n) (suc a) h)
   where
     go : (b : Bool) → test a ≡ b →
-        some (eqb h) (lowest test left n (suc a)) ≡ (leb (suc a) h && ltb h (endOf test left n (suc a)) && test h) →
+        some (eqb h) (lowest test left n (suc a)) ≡ (leb (suc a) h && ltb h (walkEnd test left n (suc a)) && test h) →
         some (eqb h) (lowest test left (suc n) (suc a))
-        ≡ (leb (suc a) h && ltb h (endOf test left (suc n) (suc a)) && test h) →
-        some (eqb h) (lowest test (suc left) (suc n) a) ≡ (leb a h && ltb h (endOf test (suc left) (suc n) a) && test h)
+        ≡ (leb (suc a) h && ltb h (walkEnd test left (suc n) (suc a)) && test h) →
+        some (eqb h) (lowest test (suc left) (suc n) a)
+        ≡ (leb a h && ltb h (walkEnd test (suc left) (suc n) a) && test h)
     go true e x y =
         rw (lowest-on test left n a e, end-on test left n a e)
         (ap (λ (t : Bool). eqb h a || t) x
-        ∙ step-on test a (endOf test left n (suc a)) h e (end-low test left n (suc a)))
+        ∙ step-on test a (walkEnd test left n (suc a)) h e (end-low test left n (suc a)))
     go false e x y =
         rw (lowest-off test left n a e, end-off test left n a e)
-        (y ∙ step-off test a (endOf test left (suc n) (suc a)) h e)
+        (y ∙ step-off test a (walkEnd test left (suc n) (suc a)) h e)
 
 -- where the walk ends that looks for the five lowest strikes above the strike q
 endAbove : (ℕ → Bool) → ℕ → ℕ
-endAbove grid q = endOf (λ x. ltb q x && grid (cents x)) highestStrike rangeCount 1
+endAbove grid q = walkEnd (λ x. ltb q x && grid (cents x)) highestStrike rangeCount 1
 
 -- a strike is above a price when it is above the highest strike at or below the price
-above : (p h : ℕ) → ltb p (cents h) ≡ ltb (inHalves p) h
-above p h = same-leb (suc p) (cents h) (suc (inHalves p)) h (λ l. omega arith) (λ l. omega arith)
+above-price : (p h : ℕ) → ltb p (cents h) ≡ ltb (inHalves p) h
+above-price p h = same-leb (suc p) (cents h) (suc (inHalves p)) h (λ l. omega arith) (λ l. omega arith)
 
 among-above : (grid : ℕ → Bool) (p h : ℕ) →
     amongFive grid p h ≡ (ltb (inHalves p) h && ltb h (endAbove grid (inHalves p)) && grid (cents h))
 unfolding amongFive endAbove
 among-above grid p h =
     ap (λ (test : ℕ → Bool). some (eqb h) (lowest test highestStrike rangeCount 1))
-    (fun-ext (λ x. ap (λ (t : Bool). t && grid (cents x)) (above p x)))
+    (fun-ext (λ x. ap (λ (t : Bool). t && grid (cents x)) (above-price p x)))
     ∙ among (λ x. ltb (inHalves p) x && grid (cents x)) highestStrike rangeCount 1 h
     ∙ and-implied (leb 1 h) (ltb h (endAbove grid (inHalves p))) (ltb (inHalves p) h) (grid (cents h))
     (λ t. le→leb 1 h (omega (arith, ltb→lt (inHalves p) h t)))
@@ -135,7 +128,7 @@ endTest : Bool → Bool → ℕ → Bool
 endTest whole dollar q = eqb (endAbove (gridBy whole dollar) q) (suc (fifthAbove whole dollar q))
 
 ends : (whole dollar : Bool) → T (every (endTest whole dollar) (upFrom (inHalves lowPrice + 1) 0))
-unfolding endTest endAbove endOf
+unfolding endTest endAbove walkEnd
 ends true true = tt
 ends true false = tt
 ends false true = tt
@@ -166,7 +159,7 @@ halfEndTest : ℕ → Bool
 halfEndTest q = eqb (endAbove halfDollars q) (cond (ltb q 7) (q + 6) (highestStrike + 1))
 
 half-ends : T (every halfEndTest (upFrom (inHalves fiveFifty) 0))
-unfolding halfEndTest endAbove endOf
+unfolding halfEndTest endAbove walkEnd
 half-ends = tt
 
 half-end : (q h : ℕ) → q < h → h ≤ inHalves fiveFifty → ltb h (endAbove halfDollars q) ≡ leb h (q + 5)

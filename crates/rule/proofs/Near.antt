@@ -105,14 +105,14 @@ module _ (s : Setting) (h : ℕ) where
 -- ---- the words of strikes that stand
 
 -- the strike of the word at the index i
-abbrev strikeAt : List ℕ → ℕ → ℕ
-strikeAt ws i = standingOf (getD ws i 0) .strike
+abbrev strikeStanding : List ℕ → ℕ → ℕ
+strikeStanding ws i = standingOf (getD ws i 0) .strike
 
 -- the strikes before the index `from` and those from the index `to` on stand out of reach of h
 pub record Between (s : Setting) (h : ℕ) (ws : List ℕ) (from to : ℕ) : Type 0 where
   pub order : from ≤ to
-  pub below : (i : ℕ) → i < from → strikeAt ws i + reachOf s < h
-  pub above : (i : ℕ) → to ≤ i → i < length ws → h + reachOf s < strikeAt ws i
+  pub below : (i : ℕ) → i < from → strikeStanding ws i + reachOf s < h
+  pub above : (i : ℕ) → to ≤ i → i < length ws → h + reachOf s < strikeStanding ws i
 
 -- the strikes before, between and behind two indices
 module _ (ws : List ℕ) (from to : ℕ) where
@@ -140,8 +140,8 @@ module _ {s : Setting} {h : ℕ} {ws : List ℕ} {from to : ℕ} (between : Betw
       each i l =
           let k : i < from = omega (arith, length-take from ws) in
           rw (getD-take from ws i 0 k)
-          (or-left (ltb (strikeAt ws i + reachOf s) h) (ltb (h + reachOf s) (strikeAt ws i))
-          (lt→ltb (strikeAt ws i + reachOf s) h (between .below i k)))
+          (or-left (ltb (strikeStanding ws i + reachOf s) h) (ltb (h + reachOf s) (strikeStanding ws i))
+          (lt→ltb (strikeStanding ws i + reachOf s) h (between .below i k)))
 
   far-behind : T (every (isFar s h) (later ws from to))
   far-behind = rw (every-mapped (isFar s h) standingOf (drop to ws)) (every-places far 0 (drop to ws) each)
@@ -149,7 +149,7 @@ module _ {s : Setting} {h : ℕ} {ws : List ℕ} {from to : ℕ} (between : Betw
       each : (i : ℕ) → i < length (drop to ws) → T (far (getD (drop to ws) i 0))
       each i l =
           let k : to + i < length ws = omega (arith, length-drop to ws) in
-          let there : ℕ = strikeAt ws (to + i) in
+          let there : ℕ = strikeStanding ws (to + i) in
           rw (getD-drop to ws i 0)
           (or-right (ltb (there + reachOf s) h) (ltb (h + reachOf s) there)
           (lt→ltb (h + reachOf s) there (between .above (to + i) (omega arith) k)))
@@ -171,8 +171,8 @@ module _ {s : Setting} {h : ℕ} {ws : List ℕ} {from to : ℕ} (between : Betw
 pub record Nearest (h : ℕ) (ws : List ℕ) (k from to : ℕ) : Type 0 where
   pub rising : Rising (map (λ w. standingOf w .strike) ws)
   pub within : k ≤ length ws
-  pub under : (i : ℕ) → i < k → strikeAt ws i < h
-  pub over : (i : ℕ) → k ≤ i → i < length ws → h < strikeAt ws i
+  pub under : (i : ℕ) → i < k → strikeStanding ws i < h
+  pub over : (i : ℕ) → k ≤ i → i < length ws → h < strikeStanding ws i
   pub start : from ≤ k - 1
   pub stop : min (k + 1) (length ws) ≤ to
 
@@ -186,7 +186,7 @@ module _ (s : Setting) {h : ℕ} {ws : List ℕ} {k from to : ℕ} (n : Nearest 
 
   -- the strike at an index of the part that is lent is no nearer than the reach, where h clears the part
   reached : (g : ℕ) → T (spacingOf s (map standingOf lent) g h) → (i : ℕ) → from ≤ i → i < to → i < length ws →
-      0 < apart h (strikeAt ws i) → reachOf s ≤ apart h (strikeAt ws i)
+      0 < apart h (strikeStanding ws i) → reachOf s ≤ apart h (strikeStanding ws i)
   reached g clear i l m j other =
       let at : ℕ = i - from in
       let sum : from + at ≡ i = omega arith in

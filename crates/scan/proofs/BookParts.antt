@@ -1,6 +1,6 @@
 -- A run is a book exactly when its length, its head, the words used and the words past them pass their tests: by the
 -- layout of the facts. Assumes nothing.
-use Prim.Native.Nat.{ℕ, zero, suc, _+_, _-_, _^_, _/_, _*_, _≤_}
+use Prim.Native.Nat.{ℕ, zero, suc, _+_, _-_, _≤_}
 use mathlib.Core.Path.{_≡_, refl, sym, ap, _∙_}
 use mathlib.Core.Logic.{_↔_}
 use mathlib.Core.Bool.{true, false, not}
@@ -8,7 +8,7 @@ use mathlib.Core.List.{List, [], _∷_, _++_, map}
 use native.Mathlib.Omega.{arith}
 use lib.ListN.{length, take, drop, getD, replicate, length-map, length-drop, length-replicate, take-append-drop}
 use lib.Seq.{drop-cons, drop-drop, take-nil, take-all, take-at, drop-at, length-take-le}
-use lib.Dec.{T, eqb, leb, ltb, leb→le, le→leb, eqb→eq}
+use lib.Dec.{T, leb, ltb, leb→le, le→leb}
 use borrow.Author.Tests.{not-true, not-false}
 use Rattle.logic.specs.Lists.{rises, every}
 use Rattle.word.specs.Kinds.{headKind, usedField}
@@ -32,8 +32,8 @@ use Rattle.scan.proofs.Zeros.{zeros-replicate, replicate-zeros}
 abbrev pub front : List ℕ → List ℕ
 front ws = take (usedIn ws - firstPlace) (drop firstPlace ws)
 
-abbrev pub past : List ℕ → List ℕ
-past ws = take (length ws - usedIn ws) (drop (usedIn ws) ws)
+abbrev pub wordsPast : List ℕ → List ℕ
+wordsPast ws = take (length ws - usedIn ws) (drop (usedIn ws) ws)
 
 -- the words used, of which the head is dropped
 pub used-front : (u : ℕ) (ws : List ℕ) → drop firstPlace (take (u - 0) ws) ≡ take (u - firstPlace) (drop firstPlace ws)
@@ -48,7 +48,7 @@ record Parts (ws : List ℕ) : Type 0 where
   long : T (isLength (length ws))
   head : T (isHead ws)
   classes : Classes (monthIn ws) 0 0 0 (front ws)
-  zeros : T (every isZero (past ws))
+  zeros : T (every isZero (wordsPast ws))
 
 -- the first class's number is above 0
 numbered : (now : ℕ) (xs : List OpenClass) → T (every (isClass now) xs) → T (leads (λ x. ltb 0 (number x)) xs)
@@ -163,7 +163,7 @@ module _ (ws : List ℕ) (p : Parts ws) where
       let next : firstPlace + (u - firstPlace) ≡ u = omega (arith, within) in
       let after : drop (u - firstPlace) (drop firstPlace ws) ≡ drop u ws =
       rw (drop-drop (u - firstPlace) firstPlace ws, next) in
-      let all : past ws ≡ drop u ws = take-all (n - u) (drop u ws) (omega (arith, length-drop u ws)) in
+      let all : wordsPast ws ≡ drop u ws = take-all (n - u) (drop u ws) (omega (arith, length-drop u ws)) in
       let zeros : replicate (n - used told) 0 ≡ drop u ws =
       rw (told-used, ← length-drop u ws) (replicate-zeros (drop u ws) (rw all at (p .zeros))) in
       let rest : map packed (classesWords (told .classes) []) ++ replicate (n - used told) 0 ≡ drop firstPlace ws =
@@ -206,9 +206,9 @@ module _ (ws : List ℕ) where
   -- all tests but the last one passed
   pub zeros-left :
       isLength (length ws) ≡ true → not (isHead ws) ≡ false
-      → Classes (monthIn ws) 0 0 0 (front ws) → every isZero (past ws) ≡ isBook ws
+      → Classes (monthIn ws) 0 0 0 (front ws) → every isZero (wordsPast ws) ≡ isBook ws
   zeros-left l h classes =
       let long = true-T (isLength (length ws)) l in
-      same-bool (every isZero (past ws)) (isBook ws)
+      same-bool (every isZero (wordsPast ws)) (isBook ws)
       (λ z. book-parts ws .1 (record { long = long; head = good-head h; classes = classes; zeros = z }))
       (λ b. book-parts ws .0 b .zeros)

@@ -15,6 +15,7 @@ use Rattle.word.proofs.Digits.{binary-small, binary-parts, binary-later, digit-
 use Rattle.word.specs.Strikes.{isNextStrike}
 use Rattle.scan.specs.NextStrikes.{nextLength}
 use Rattle.scan.specs.Ahead.{others, otherBits}
+use Rattle.logic.proofs.Slices.{before-later}
 
 -- ---- the digits of some words
 
@@ -79,18 +80,9 @@ module _ (ws : List ℕ) where
   digits-long : (i : ℕ) → length (digits i) ≡ length ws - i
   digits-long i = others-long (getD ws (i - 1) 0) (drop i ws) ∙ length-drop i ws
 
-  -- the word before the one at i + j
-  before-later : (i j : ℕ) → getD (getD ws (i - 1) 0 ∷ drop i ws) j 0 ≡ getD ws (i + j - 1) 0
-  before-later i zero =
-      let here : i + 0 - 1 ≡ i - 1 = omega arith in
-      rw here
-  before-later i (suc j) =
-      let there : i + suc j - 1 ≡ i + j = omega arith in
-      rw there (getD-drop i ws j 0)
-
   digits-later : (i j : ℕ) → drop j (digits i) ≡ digits (i + j)
   digits-later i j =
-      others-drop j (getD ws (i - 1) 0) (drop i ws) ∙ ap₂ others (before-later i j) (drop-drop j i ws)
+      others-drop j (getD ws (i - 1) 0) (drop i ws) ∙ ap₂ others (before-later ws i j) (drop-drop j i ws)
 
   bits-digits : (i k : ℕ) → bitsAt ws i k ≡ binary (take k (digits i))
   bits-digits i k = ap binary (others-take k (getD ws (i - 1) 0) (drop i ws))
@@ -128,7 +120,7 @@ module _ (ws : List ℕ) where
       let place : 1 + i ≡ i + 1 = omega arith in
       let digit : getD (digits 1) i false ≡ not next =
       others-at (getD ws 0 0) (drop 1 ws) i (omega (arith, length-drop 1 ws))
-      ∙ rw (before-later 1 i, before, getD-drop 1 ws i 0, place, e) in
+      ∙ rw (before-later ws 1 i, before, getD-drop 1 ws i 0, place, e) in
       rw (bit-shifted next i h, bits-digits 1 i, bits-digits 1 (i + 1), ← digit)
       (digit-more (digits 1) i (omega (arith, digits-long 1)))
 

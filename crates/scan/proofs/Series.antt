@@ -21,6 +21,7 @@ use Rattle.book.specs.Layout.{strikeWord, expirationUnless, seriesWords, classe
 use Rattle.book.specs.Books.{isListed, isSeries, isClass}
 use Rattle.word.proofs.Words.{kind-packed}
 use Rattle.logic.proofs.Tests.{or-left, or-right, and-intro, ands, T-true, true-T, equal-test, or-else}
+use Rattle.logic.proofs.Slices.{nil-cons}
 use Rattle.word.proofs.RawWords.{fits, figures-legal, IsStrike, isStrikeAbove, strike-packed, strike-test, expiration-packed, expiration-field}
 use Rattle.book.proofs.LegalWords.{strike-legal, month-legal}
 use Rattle.scan.specs.NextStrikes.{nextLength}
@@ -29,8 +30,8 @@ use Rattle.scan.proofs.ExpirationWords.{isExpirationFrom}
 use Rattle.scan.proofs.NextStrikes.{lastNext, HasStrikes, next-strike, next-rises, next-above, above-next, above-none, next-rising, strike-order}
 
 -- the strike that a strike word says, in the expiration of the month m
-abbrev strikeIn : ℕ → ℕ → Series
-strikeIn m w =
+abbrev seriesIn : ℕ → ℕ → Series
+seriesIn m w =
     record {
       month = m;
       strike = keyOf strikeKind w;
@@ -75,15 +76,11 @@ above-after h s l =
     let higher : T (ltb h (s .strike)) = lt→ltb h (s .strike) l in
     or-right (ltb m m) (eqb m m && ltb h (s .strike)) (search and-intro)
 
--- no words are left where one stands
-empty : (w : ℕ) (ws : List ℕ) → _≡_ {A = List ℕ} [] (w ∷ ws) → ⊥
-empty w ws e = let z : _≡_ {A = ℕ} 0 1 = cc in omega arith
-
 module _ (now : ℕ) where
   class-first :
       (xs : List OpenClass) (w : ℕ) (ws : List ℕ) → T (every (isClass now) xs)
       → map packed (classesWords xs []) ≡ w ∷ ws → kindOf w ≡ classKind .number
-  class-first [] w ws legal e = absurd (empty w ws e)
+  class-first [] w ws legal e = absurd (nil-cons w ws e)
   class-first (x ∷ xs) w ws legal e =
       let f = x .figures in
       let word = figures-legal f (search ands) .0 in
@@ -144,8 +141,8 @@ module _ (now : ℕ) (xs : List OpenClass) (classesLegal : T (every (isClass now
       by :
           (s : Series) (ws : List Word) (stands : Bool)
           → map packed (expirationUnless stands (s .month) (strikeWord s ∷ ws)) ≡ [] → ⊥
-      by s ws true e = empty (packed (strikeWord s)) (map packed ws) (sym e)
-      by s ws false e = empty (packed (Expiration (s .month))) (packed (strikeWord s) ∷ map packed ws) (sym e)
+      by s ws true e = nil-cons (packed (strikeWord s)) (map packed ws) (sym e)
+      by s ws false e = nil-cons (packed (Expiration (s .month))) (packed (strikeWord s) ∷ map packed ws) (sym e)
 
       go : (ss : List Series) → map packed (seriesWords p ss last) ≡ [] → map packed last ≡ []
       go [] e = e
@@ -216,7 +213,7 @@ module _ (now : ℕ) (xs : List OpenClass) (classesLegal : T (every (isClass now
         (h w : ℕ) (ws : List ℕ) → T (isStrikeAbove h w) → Words (suc m) (isAfter m (keyOf strikeKind w)) ws
         → Words (suc m) (isAfter m h) (w ∷ ws)
     strike-to h w ws t r =
-        let s = strikeIn m w in
+        let s = seriesIn m w in
         let word = strike-packed h w t in
         let l : T (isLegal (strikeWord s)) = word .1 in
         let legal : T (isSeries now s) = search (ands, and-intro) depth 12 in
@@ -353,7 +350,7 @@ module _ (now : ℕ) (xs : List OpenClass) (classesLegal : T (every (isClass now
           leb→le (keyOf strikeKind (lastNext v vs)) highestStrike (search ands) in
           let few : keyOf strikeKind v ≤ highestStrike = omega (arith, next-rising v vs top) in
           let above = next-above w v next 0 (ltb→lt 0 (keyOf strikeKind v) (search ands)) few in
-          let s = strikeIn m v in
+          let s = seriesIn m v in
           let word = strike-packed 0 v above in
           let low : p ≤ m = leb→le p m (search ands) in
           let wordLegal : T (isLegal (strikeWord s)) = word .1 in

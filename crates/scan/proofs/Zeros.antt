@@ -1,29 +1,17 @@
 -- Runs of zeros: that all words are zero, by their bits together. Assumes nothing.
 use Prim.Native.Nat.{ℕ, zero, suc, _+_, _≤_, _<_}
 use mathlib.Core.Path.{_≡_, refl, sym}
-use mathlib.Core.Bool.{Bool, true, false, _&&_, and-assoc, and-true}
+use mathlib.Core.Bool.{_&&_, and-assoc, and-true}
 use mathlib.Core.List.{List, [], _∷_}
 use native.Mathlib.Numerals.{add-one}
-use native.Mathlib.Omega.{arith}
 use lib.ListN.{length, drop, getD, replicate, drop-of-length-le}
 use lib.Seq.{drop-cons}
-use lib.Bits.{bitOr, or-add-and, and-le-l, and-le-r}
+use lib.Bits.{bitOr}
 use lib.Dec.{T, eqb, eqb→eq}
-use borrow.Author.Tests.{eqb-true, eqb-false, eq-eqb, ne-eqb}
 use Rattle.scan.specs.Stretches.{isZero}
 use Rattle.logic.specs.Lists.{every}
 use Rattle.logic.proofs.Tests.{ands}
-
-or-zero : (a b : ℕ) → eqb (bitOr a b) 0 ≡ (eqb a 0 && eqb b 0)
-or-zero a b = go (eqb a 0) refl (eqb b 0) refl
-  where
-    go : (x : Bool) → eqb a 0 ≡ x → (y : Bool) → eqb b 0 ≡ y → eqb (bitOr a b) 0 ≡ (x && y)
-    go true p true q =
-        let e : a ≡ 0 = eqb-true a 0 p in
-        let f : b ≡ 0 = eqb-true b 0 q in
-        eq-eqb (bitOr a b) 0 (omega (arith, or-add-and a b))
-    go true p false q = ne-eqb (bitOr a b) 0 (λ z. eqb-false b 0 q (omega (arith, or-add-and a b, and-le-l a b)))
-    go false p y q = ne-eqb (bitOr a b) 0 (λ z. eqb-false a 0 p (omega (arith, or-add-and a b, and-le-r a b)))
+use Rattle.word.proofs.Digits.{or-zero}
 
 -- the words before i have the bits of `all`
 module _ (all i : ℕ) (ws : List ℕ) where

@@ -10,7 +10,7 @@ use word::strike::is_next_strike;
 // How many words are told of at a time, and how many of them at once.
 const BLOCK: usize = 64;
 
-const HALF: usize = 32;
+const HALF_BLOCK: usize = 32;
 
 // The others, words that are no next strikes, from `at` on: `bits` has one bit for each word of the block from `base`
 // on, lowest first, which is 1 for an other.
@@ -46,7 +46,7 @@ fn others_of_32(s: &[u32]) -> u32
 {
     let mut bits = 0;
     let mut i = 0;
-    while i < HALF {
+    while i < HALF_BLOCK {
         let bit = if is_next_strike(s[i], s[i + 1]) {
             0
         } else {
@@ -61,13 +61,14 @@ fn others_of_32(s: &[u32]) -> u32
 // The others among the words of the block from `base` on.
 fn others_of_64(s: &[u32], base: usize) -> u64
     requires { ⌜ (1 ≤ base) × (base + blockLength ≤ length (now s)) ⌝ }
-    ensures { λ r. ⌜ r ≡ otherBits (getD (now (s .entry)) (base - 1) 0) (take blockLength (drop base (now (s .entry)))) ⌝ }
+    ensures { λ r. ⌜ r
+        ≡ otherBits (getD (now (s .entry)) (base - 1) 0) (take blockLength (drop base (now (s .entry)))) ⌝ }
 {
     let before = base - 1;
-    let last = before + HALF;
-    let middle = base + HALF;
+    let last = before + HALF_BLOCK;
+    let middle = base + HALF_BLOCK;
     let end = base + BLOCK;
-    others_of_32(&s[before..middle]) as u64 | (others_of_32(&s[last..end]) as u64) << HALF
+    others_of_32(&s[before..middle]) as u64 | (others_of_32(&s[last..end]) as u64) << HALF_BLOCK
 }
 
 // The others from `base` on among few words.
@@ -77,18 +78,19 @@ fn others_of_rest(s: &[u32], base: usize) -> u64
 {
     let n = s.len();
     let before = base - 1;
-    if n - base < HALF {
+    if n - base < HALF_BLOCK {
         return others_few(&s[before..n]) as u64;
     }
-    let last = before + HALF;
-    let middle = base + HALF;
-    others_of_32(&s[before..middle]) as u64 | (others_few(&s[last..n]) as u64) << HALF
+    let last = before + HALF_BLOCK;
+    let middle = base + HALF_BLOCK;
+    others_of_32(&s[before..middle]) as u64 | (others_few(&s[last..n]) as u64) << HALF_BLOCK
 }
 
 // The others among the words of the block from `base` on. Where fewer are left, they are the last of a block.
 fn others_from(s: &[u32], base: usize) -> u64
     requires { ⌜ (1 ≤ base) × (base < length (now s)) ⌝ }
-    ensures { λ r. ⌜ r ≡ otherBits (getD (now (s .entry)) (base - 1) 0) (take blockLength (drop base (now (s .entry)))) ⌝ }
+    ensures { λ r. ⌜ r
+        ≡ otherBits (getD (now (s .entry)) (base - 1) 0) (take blockLength (drop base (now (s .entry)))) ⌝ }
 {
     let n = s.len();
     if n <= BLOCK {

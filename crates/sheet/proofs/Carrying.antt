@@ -75,10 +75,10 @@ carried-more :
 carried-more {n} {room} {r} {w} {v} {line = line} s c size long more =
     carried-same (bytes-unprinted n room (begun w v line) r s (begun-same c)) (rw (size, long) at more)
 
-held :
+held-on :
     {n put : ℕ} {r : Reader} {out w v out′ : List ℕ} {line : Line} → Holds n out r w v out′ line put
     → Carried n r w v line
-held h =
+held-on h =
     record {
       book = h .book;
       facts-are = h .facts-are;
@@ -143,7 +143,7 @@ module _
           room = room ∙ g .room;
           carried =
               rw (take-add from (r .read) piece, bytes-append n m (begun w v line₀) (take from piece) more)
-              (carried-more more (g .carried) (g .size) (g .room) (held (rw rest at (p .holds))));
+              (carried-more more (g .carried) (g .size) (g .room) (held-on (rw rest at (p .holds))));
         }
 
     pub reading-done : length piece ≤ from → AfterBytes w v line₀ piece run second line

@@ -1,12 +1,12 @@
 -- The words beside those of an expiration's strikes are no strikes, so that the words next to a place among them tell
 -- whether it has strikes below it and above it: by the kinds of the words of a book. Assumes nothing.
-use Prim.Native.Nat.{ℕ, zero, suc, _+_, _-_, _≤_, _<_}
+use Prim.Native.Nat.{ℕ, _+_, _-_, _≤_, _<_}
 use mathlib.Core.Path.{_≡_, refl, sym, ap, ap₂, _∙_, subst}
 use mathlib.Core.Bool.{Bool, true, false, cond, not, _&&_, and-false}
 use mathlib.Core.List.{List, [], _∷_, _++_, map, append-assoc}
 use native.Mathlib.Omega.{arith}
 use lib.Dec.{T, eqb, leb, ltb, le→leb}
-use lib.ListN.{length, getD, take, drop, replicate, length-append, length-drop, length-map}
+use lib.ListN.{length, getD, take, drop, length-append, length-drop, length-map}
 use lib.Seq.{getD-take, getD-drop, length-take-le}
 use borrow.Author.Tests.{ltb-true, ltb-false, lt-ltb, le-ltb, eq-eqb, ne-eqb}
 use Rattle.word.specs.Limits.{lastMonth, longestRun}
@@ -25,6 +25,7 @@ use Rattle.logic.proofs.Tests.{and-intro, ands, parts, T-true}
 use Rattle.logic.proofs.Lists.{every-at, every-map, every-true}
 use Rattle.logic.proofs.Parts.{isUnder, isOver, every-kept}
 use Rattle.logic.proofs.Splits.{every-split}
+use Rattle.logic.proofs.Slices.{zeros-first}
 use Rattle.book.proofs.ClassWords.{book-words}
 use Rattle.book.proofs.SeriesParts.{monthOf}
 use Rattle.book.proofs.Runs.{bookWords, run-word, strikes-within, strikes-part, strikes-good, expiration-strikes, expiration-length}
@@ -60,10 +61,6 @@ beside-within w at start stop below first last within =
     stops false e d = (omega arith, omega arith)
 
 -- ---- the kinds of the words of a book
-
-zeros-first : (k : ℕ) → _≡_ {A = ℕ} (getD (replicate k 0) 0 0) 0
-zeros-first zero = refl
-zeros-first (suc k) = refl
 
 module _ (w : List ℕ) (book : T (isBook w)) where
   words-legal : T (every isLegal (bookWords (length w) (factsOf w)))

@@ -1,6 +1,6 @@
 -- What `judge_found` asks and answers: each test on the way is a condition of the judgement in its turn, and the words
 -- next to the strike's place stand for all that stand. Assumes nothing.
-use Prim.Native.Nat.{ℕ, _+_, _-_, _≤_, _<_}
+use Prim.Native.Nat.{ℕ, _+_, _-_, _≤_}
 use mathlib.Core.Path.{_≡_, sym, ap, _∙_}
 use mathlib.Core.Bool.{Bool, true, false, cond, _&&_}
 use mathlib.Core.List.{List, map}

@@ -2,12 +2,11 @@
 -- in their order, the words by what the inner function leaves. Assumes nothing.
 use Prim.Native.Nat.{ℕ, _+_, _-_, _≤_, _<_}
 use mathlib.Core.Path.{_≡_, refl, sym, ap, _∙_}
-use mathlib.Core.Bool.{Bool, true, false, not, _&&_}
+use mathlib.Core.Bool.{true, false, not, _&&_}
 use mathlib.Core.List.{List, []}
 use native.Mathlib.Omega.{arith}
 use lib.Dec.{T, eqb}
 use lib.ListN.{length, getD}
-use borrow.Author.Tests.{not-false}
 use Rattle.word.specs.Strikes.{isMarkedIn}
 use Rattle.word.specs.declared.answer.Answer.the-variants.{Done, Refused}
 use Rattle.word.specs.declared.answer.Refusal.the-variants.{NotStanding, OpenInterest}
@@ -20,7 +19,7 @@ use Rattle.book.specs.Changes.{update, strikeRemoved, marksSet}
 use Rattle.book.specs.Calls.{on, callX, callI, isPlace, effectOn, answerTo}
 use Rattle.book.specs.Places.{strikesPlace, strikesEnd, strikePlace}
 use Rattle.book.specs.Made.{Made}
-use Rattle.logic.proofs.Tests.{true-T}
+use Rattle.logic.proofs.Tests.{passed}
 use Rattle.book.proofs.Layouts.{book-facts}
 use Rattle.book.proofs.Runs.{strike-stands, standing-within, interest-says, used-within}
 use Rattle.book.proofs.Answered.{made-refused, made-accepted}
@@ -28,9 +27,6 @@ use Rattle.place.specs.declared.lookup.StrikeSearch.{StrikeSearch}
 use Rattle.place.specs.Lookups.{strikeSearchOf}
 use Rattle.strike_call.proofs.Beside.{isStrikeAt, strike-alone}
 use Rattle.strike_call.proofs.Settings.{class-open}
-
-pub passed : (b : Bool) → not b ≡ false → T b
-passed b e = true-T b (not-false b e)
 
 module _
     (w : List ℕ) (book : T (isBook w)) (c m h : ℕ) (o : T (isOpen c (factsOf w .classes))) (r : StrikeSearch)

@@ -1,14 +1,13 @@
 -- The words of an expiration's strikes read as those that stand, which rise; and a judgement beside the words next to a
 -- strike's place that are strikes is one beside all: by the strikes below and above it. Assumes nothing.
-use Prim.Native.Nat.{ℕ, zero, suc, _+_, _-_, _≤_, _<_, min}
+use Prim.Native.Nat.{ℕ, _+_, _-_, _≤_, _<_, min}
 use mathlib.Core.Path.{_≡_, refl, sym, ap, _∙_}
 use mathlib.Core.Bool.{Bool, true, false, cond, _&&_}
-use mathlib.Core.List.{List, [], _∷_, _++_, map, map-map, map-append}
-use native.Mathlib.Nat.{zero-add, suc-add}
+use mathlib.Core.List.{List, [], _++_, map, map-map, map-append}
 use native.Mathlib.Omega.{arith}
 use lib.Dec.{T, ltb, ltb→lt}
 use lib.ListN.{length, getD, take, drop, length-append, length-map, List·getD-append, List·getD-map}
-use lib.Seq.{take-nil, take-take, drop-drop, getD-append-add}
+use lib.Seq.{getD-append-add}
 use borrow.Author.Tests.{ltb-true, ltb-false}
 use Rattle.rule.specs.declared.terms.Setting.{Setting}
 use Rattle.logic.specs.Lists.{Rising}
@@ -24,46 +23,23 @@ use Rattle.book.specs.Places.{hasExpiration, strikesPlace, strikesEnd, strikePl
 use Rattle.book.proofs.Layouts.{book-facts}
 use Rattle.logic.proofs.Lists.{every-at, every-mapped}
 use Rattle.logic.proofs.Parts.{only-absent, only-both, every-kept, isUnder, isEqual, isOver}
+use Rattle.logic.proofs.Slices.{part-part}
 use Rattle.book.proofs.ClassWords.{series-good}
 use Rattle.book.proofs.SeriesParts.{monthOf, strikeOf, low, placed, high, strike-parts, strikes-rise}
 use Rattle.book.proofs.Runs.{strikes-standing}
 use Rattle.strike_call.proofs.Beside.{isStrikeAt, strike-there, strike-below}
 
-drop-take : {A : Type 0} (n k : ℕ) (xs : List A) → drop n (take (n + k) xs) ≡ take k (drop n xs)
-drop-take zero k xs = rw zero-add
-drop-take (suc n) k [] = rw suc-add (sym (take-nil k))
-drop-take (suc n) k (x ∷ xs) = rw suc-add (drop-take n k xs)
-
--- a part of a part
-part-part : {A : Type 0} (xs : List A) (from start stop to : ℕ) → from ≤ start → start ≤ stop → stop ≤ to →
-    take ((stop - from) - (start - from)) (drop (start - from) (take (to - from) (drop from xs)))
-    ≡ take (stop - start) (drop start xs)
-part-part xs from start stop to a b c =
-    let n : ℕ = start - from in
-    let k : ℕ = to - start in
-    let size : (stop - from) - (start - from) ≡ stop - start = omega arith in
-    let whole : to - from ≡ n + k = omega arith in
-    let here : from + n ≡ start = omega arith in
-    rw (
-      size,
-      whole,
-      drop-take n k (drop from xs),
-      take-take (stop - start) k (drop n (drop from xs)) (omega arith),
-      drop-drop n from xs,
-      here,
-    )
-
 -- of the words from `from` to `to`, those from `start` to `stop` have the one before `at` and the one there
-record Lent (from at to start stop : ℕ) : Type 0 where
+record LentPart (from at to start stop : ℕ) : Type 0 where
   begins : from ≤ start
   order : start ≤ stop
   ends : stop ≤ to
   below : start - from ≤ (at - from) - 1
   above : min (at + 1) to ≤ stop
 
-lent : {from at to start stop : ℕ} → from ≤ at → at ≤ to → start ≡ cond {A = ℕ} (ltb from at) (at - 1) at →
-    stop ≡ cond {A = ℕ} (ltb at to) (at + 1) at → Lent from at to start stop
-lent {from} {at} {to} {start} {stop} a b x y =
+lent-part : {from at to start stop : ℕ} → from ≤ at → at ≤ to → start ≡ cond {A = ℕ} (ltb from at) (at - 1) at →
+    stop ≡ cond {A = ℕ} (ltb at to) (at + 1) at → LentPart from at to start stop
+lent-part {from} {at} {to} {start} {stop} a b x y =
     let l = starts (ltb from at) refl x in
     let k = stops (ltb at to) refl y in
     record { begins = l .0; order = omega arith; ends = k .1 .0; below = l .1 .1; above = k .1 .1 }
@@ -182,8 +158,9 @@ module _
       let behind : at - from ≡ length lower = omega (arith, length-map (low series m h) strikeOf) in
       let least : from ≤ at = omega arith in
       let most : at ≤ to = omega (arith, all) in
-      let part : Lent from at to start stop =
-      lent least most (first ∙ ap (λ (b : Bool). cond {A = ℕ} b (at - 1) at) (strike-below w book c m o at least most))
+      let part : LentPart from at to start stop =
+      lent-part least most
+      (first ∙ ap (λ (b : Bool). cond {A = ℕ} b (at - 1) at) (strike-below w book c m o at least most))
       (last ∙ ap (λ (b : Bool). cond {A = ℕ} b (at + 1) at) (strike-there w book c m o at least most)) in
       ap (λ (l : List ℕ). judgement s (map standingOf l) h)
       (sym (part-part w from start stop to (part .begins) (part .order) (part .ends)))

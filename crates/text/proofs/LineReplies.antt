@@ -1,12 +1,12 @@
 -- What is printed for a call that has been made is the reply to it: its answer tells how many words of the second run
 -- are its strikes. Assumes nothing.
-use Prim.Native.Nat.{ℕ, zero, suc, _+_, _-_, _≤_, _<_}
+use Prim.Native.Nat.{ℕ, _+_, _-_, _≤_, _<_}
 use mathlib.Core.Path.{_≡_, sym, ap, _∙_}
-use mathlib.Core.List.{List, [], _∷_}
+use mathlib.Core.List.{List}
 use native.Mathlib.Omega.{arith}
 use lib.Dec.{T}
 use lib.ListN.{length, take, drop, getD, length-append, length-take}
-use lib.Seq.{sets, take-nil, take-at}
+use lib.Seq.{sets, take-at}
 use mir.Val.{Val}
 use denote.Laws.{Is}
 use denote.Enum.Declared.{row}
@@ -18,18 +18,12 @@ use Rattle.book.specs.Books.{isBook}
 use Rattle.book.specs.Calls.{Call, answerTo, written}
 use Rattle.book.specs.Made.{over, Made}
 use Rattle.logic.proofs.Tests.{T-true}
+use Rattle.logic.proofs.Slices.{each-front}
 use Rattle.book.proofs.Order.{written-count}
 use Rattle.book.proofs.Followed.{made-words, made-book}
 use Rattle.text.specs.Printing.{answerText, replyTo}
 use Rattle.text.specs.Pieces.{lineRoom, Ended}
 use Rattle.text.proofs.Bounds.{wordLimit, answer-bound}
-
--- the numbers at the front of a list are among its numbers
-each-front : (l : List ℕ) (n : ℕ) {limit : ℕ} → ((k : ℕ) → getD l k 0 < limit) → (k : ℕ) → getD (take n l) k 0 < limit
-each-front [] n each k = rw (take-nil n) (each k)
-each-front (a ∷ l) zero each k = omega (arith, each (suc (length l)))
-each-front (a ∷ l) (suc n) each zero = each 0
-each-front (a ∷ l) (suc n) each (suc k) = each-front l n (λ j. each (suc j)) k
 
 -- the call x has been made on a book, and `count` words of the second run are printed
 module _

@@ -82,8 +82,8 @@ too-many c (a ∷ b ∷ d ∷ e ∷ f ∷ []) h = absurd (omega arith)
 too-many c (a ∷ b ∷ d ∷ e ∷ f ∷ g ∷ more) h = refl
 
 -- a line that has ended is at Letter, or is the malformed one
-pushed : (l : Line) → (pushOf l Letter .phase ≡ Letter) ⊎ (pushOf l Letter ≡ malformedLine)
-pushed l =
+pushed-line : (l : Line) → (pushOf l Letter .phase ≡ Letter) ⊎ (pushOf l Letter ≡ malformedLine)
+pushed-line l =
     let full = leb numbersKept (l .count) in
     ⊎-elim (λ (e : full ≡ true). inr (rw e)) (λ (e : full ≡ false). inl (rw e)) (bool-cases full)
 
@@ -92,8 +92,8 @@ unfolding endBy
 ended Start l e = inr refl
 ended Letter l e = inl e
 ended Space l e = inr refl
-ended Zero l e = pushed l
-ended Number l e = pushed l
+ended Zero l e = pushed-line l
+ended Number l e = pushed-line l
 ended Malformed l e = inr refl
 
 -- the call on the sheet, and the call that is held of it

@@ -1,6 +1,6 @@
 -- A sheet read line by line: what the lines that are left make of the present words is what the whole sheet makes of
 -- the first ones; by what one call makes of any words. Assumes nothing.
-use Prim.Native.Nat.{ℕ, suc, _+_, _≤_, _<_, min, zero-le}
+use Prim.Native.Nat.{ℕ, suc, _+_, _≤_, _<_, zero-le}
 use mathlib.Core.Path.{_≡_, refl, sym, ap, _∙_}
 use mathlib.Core.Bool.{Bool, true, false}
 use mathlib.Core.Logic.{_⊎_, ⊎-elim}
@@ -9,7 +9,7 @@ use native.Mathlib.Omega.{arith}
 use native.Mathlib.Numerals.{add-one}
 use lib.Dec.{eqb}
 use lib.ListN.{length, take, drop, getD, drop-of-length-le}
-use lib.Seq.{sets, set-out, drop-cons, drop-drop, drop-length}
+use lib.Seq.{sets, drop-cons, drop-drop}
 use borrow.Author.Tests.{eq-eqb, ne-eqb}
 use Rattle.word.specs.declared.answer.Answer.{Answer}
 use Rattle.word.specs.Answers.{answerNumber, answerValue}
@@ -17,7 +17,8 @@ use Rattle.book.specs.Books.{isBook}
 use Rattle.book.specs.Calls.{Call, steps}
 use Rattle.book.specs.CallLists.{answersTo, told, secondAfter}
 use Rattle.book.specs.Made.{Made}
-use Rattle.logic.proofs.Tests.{T-true, true-T, bool-cases, lt-or-le}
+use Rattle.logic.proofs.Tests.{T-true, true-T, bool-cases}
+use Rattle.logic.proofs.Slices.{drop-min}
 use Rattle.book.proofs.Layouts.{book-facts}
 use Rattle.book.proofs.Followed.{made-book}
 use Rattle.text.specs.declared.sheet.LineAnswer.{LineAnswer}
@@ -80,16 +81,6 @@ line-first b (d ∷ s) =
     (λ (e : eqb b lineFeed ≡ false). rw e (ap (withByte b) (line-first d s)))
     (bool-cases (eqb b lineFeed))
 
--- past the end nothing is left
-drop-min : (l : List ℕ) (k : ℕ) → drop (min k (length l)) l ≡ drop k l
-drop-min l k =
-    ⊎-elim
-    (λ (h : k < length l). let same : min k (length l) ≡ k = omega arith in rw same)
-    (λ (h : length l ≤ k).
-    let all : min k (length l) ≡ length l = omega arith in
-    rw (all, drop-length, drop-of-length-le l h))
-    (lt-or-le k (length l))
-
 -- the lines from a place on: the one that begins there, and those after it
 line-next :
     (sheet : List ℕ) (from : ℕ) → from < length sheet
@@ -114,13 +105,6 @@ module _ (s : List ℕ) (i : ℕ) where
   pub end-none : length s ≤ i → lineEnd (drop i s) ≡ 0
   unfolding lineEnd
   end-none l = rw (drop-of-length-le s l)
-
--- ---- the answers that are written
-
--- there is no place past the end
-pub sets-out : (l : List ℕ) (i : ℕ) (xs : List ℕ) → length l ≤ i → sets l i xs ≡ l
-sets-out l i [] h = refl
-sets-out l i (x ∷ xs) h = rw (set-out l i x h) (sets-out l (suc i) xs (omega arith))
 
 -- ---- a sheet that has been read up to the place `from`
 

@@ -306,9 +306,9 @@ malformed-ends {sheet} {i} is e within =
     record { end-is = e; within = within; line-is = is ∙ sym (after-malformed (drop i sheet)) }
 
 -- a line that ends malformed is passed
-passed : {l : Line} {sheet : List ℕ} {i : ℕ} {r : WholeLine} → lineAfter l (drop i sheet) ≡ malformedLine
+malformed-passed : {l : Line} {sheet : List ℕ} {i : ℕ} {r : WholeLine} → lineAfter l (drop i sheet) ≡ malformedLine
     → EndsAfter malformedLine sheet i r → EndsAfter l sheet i r
-passed {l} {sheet} {i} e r =
+malformed-passed {l} {sheet} {i} e r =
     record {
       end-is = r .end-is;
       within = r .within;
@@ -316,18 +316,19 @@ passed {l} {sheet} {i} e r =
     }
 
 -- the numbers of a line have been read up to the place i, and it goes on there as it did at `from`
-pub record Going (letter : ℕ) (sheet : List ℕ) (from count : ℕ) (numbers : List ℕ) (i : ℕ) : Type 0 where
+pub record LineGoing (letter : ℕ) (sheet : List ℕ) (from count : ℕ) (numbers : List ℕ) (i : ℕ) : Type 0 where
   pub within : i ≤ length sheet
   pub few : count ≤ numbersKept
   pub ends : i + lineEnd (drop i sheet) ≡ from + lineEnd (drop from sheet)
   pub same : lineAfter (state Letter letter 0 count numbers) (drop i sheet)
       ≡ lineAfter (letterLine letter) (drop from sheet)
 
-pub going-start : (letter : ℕ) (sheet : List ℕ) (from : ℕ) → from ≤ length sheet → Going letter sheet from 0 zeros from
-going-start letter sheet from within = record { within = within; few = omega arith; ends = refl; same = refl }
+pub line-going-start :
+    (letter : ℕ) (sheet : List ℕ) (from : ℕ) → from ≤ length sheet → LineGoing letter sheet from 0 zeros from
+line-going-start letter sheet from within = record { within = within; few = omega arith; ends = refl; same = refl }
 
 module _ {letter : ℕ} {sheet : List ℕ} {from count : ℕ} {numbers : List ℕ} {i : ℕ}
-    (g : Going letter sheet from count numbers i) where
+    (g : LineGoing letter sheet from count numbers i) where
   going : {r : WholeLine} → EndsAfter (state Letter letter 0 count numbers) sheet i r
       → EndsAfter (letterLine letter) sheet from r
   going r = record { end-is = r .end-is ∙ g .ends; within = r .within; line-is = r .line-is ∙ g .same }
@@ -388,7 +389,7 @@ module _ {letter : ℕ} {sheet : List ℕ} {from count : ℕ} {numbers : List �
         (or-cases (not (eqb b space)) (eqb count numbersKept) (true-T _ h)))
         (λ other. no-space differs other)
         (eq-or-not b space) in
-        going (passed malformed r)
+        going (malformed-passed malformed r)
 
     -- a space, and fewer than five numbers
     module _ (h : (not (eqb (getD sheet i 0) space) || eqb count numbersKept) ≡ false) where
@@ -402,10 +403,10 @@ module _ {letter : ℕ} {sheet : List ℕ} {from count : ℕ} {numbers : List �
         pub going-none : {r : WholeLine} → end ≡ i + 1 → EndsAfter malformedLine sheet i r
             → EndsAfter (letterLine letter) sheet from r
         going-none e r =
-            going (passed (spaced is-space
+            going (malformed-passed (spaced is-space
             ∙ space-refused letter 0 count numbers (drop (i + 1) sheet) (omega (arith, n .end-is))) r)
 
-        pub going-more : (end ≡ i + 1 → ⊥) → Going letter sheet from (count + 1) (set numbers count value) end
+        pub going-more : (end ≡ i + 1 → ⊥) → LineGoing letter sheet from (count + 1) (set numbers count value) end
         going-more some =
             let rest = drop (i + 1) sheet in
             let after : drop (numeralLength rest) rest ≡ drop end sheet =
@@ -445,7 +446,7 @@ module _ {sheet : List ℕ} {i : ℕ} (l : i < length sheet) {r : WholeLine} whe
       (λ (is : b ≡ lineFeed). after-end emptyLine b (drop (suc i) sheet) is)
       (λ differs. after-refused emptyLine b (drop (suc i) sheet) differs fed)
       (eq-or-not b lineFeed) in
-      passed (rw (drop-cons sheet i 0 l) malformed) r
+      malformed-passed (rw (drop-cons sheet i 0 l) malformed) r
 
   pub a-letter : (ltb (getD sheet i 0) firstLetter || ltb lastLetter (getD sheet i 0)) ≡ false
       → EndsAfter (letterLine (getD sheet i 0)) sheet (i + 1) r → WholeAt sheet i r

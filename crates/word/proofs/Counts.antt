@@ -1,13 +1,9 @@
 -- A class adds at most one to a count of own classes, by cases on the test of its designation. Assumes nothing.
-use mathlib.Core.Bool.{Bool, true, false, cond}
 use Prim.Native.Nat.{ℕ, _≤_}
 use native.Mathlib.Omega.{arith}
 use lib.Dec.{eqb}
 use Rattle.word.specs.Caps.{own}
-
-at-most-one : (b : Bool) → cond {A = ℕ} b 1 0 ≤ 1
-at-most-one true = omega arith
-at-most-one false = omega arith
+use Rattle.logic.proofs.Tests.{choose}
 
 pub own-at-most-one : (d : ℕ) → own d ≤ 1
-own-at-most-one d = at-most-one (eqb d 1)
+own-at-most-one d = choose (λ n. n ≤ 1) (eqb d 1) 1 0 (λ e. omega arith) (λ e. omega arith)

@@ -1,19 +1,23 @@
 -- Binary digits and the number that they make: in two parts, with one digit more by `|`, and by the first digit that is
--- 1, which the trailing zeros count and `&` clears. By induction on the digits. Assumes nothing.
+-- 1, which the trailing zeros count and `&` clears. By induction on the digits, and by the kit's laws of `|`. Assumes
+-- nothing.
 use Prim.Native.Nat.{ℕ, zero, suc, _+_, _-_, _*_, _/_, _%_, _^_, _≤_, _<_}
-use mathlib.Core.Path.{_≡_, refl, sym, ap, _∙_, subst}
-use mathlib.Core.Bool.{Bool, true, false, cond}
+use mathlib.Core.Path.{_≡_, refl, sym, ap, ap₂, _∙_, subst}
+use mathlib.Core.Bool.{Bool, true, false, cond, _&&_}
 use mathlib.Core.List.{List, [], _∷_, _++_, map}
 use mathlib.Core.Logic.{⊎-elim}
 use native.Mathlib.Nat.{pow-succ', mul-assoc, mul-comm, mul-zero, mul-right-comm, add-comm, add-mul}
 use native.Mathlib.Numerals.{add-one}
 use native.Mathlib.Omega.{arith}
 use lib.Pow.{pow-pos, high}
-use lib.Bits.{bitOr, bitAnd, or-zero-r, or-shifted-r, and-block, and-step, and-self, and-zero-l}
+use lib.Bits.{bitOr, bitAnd, or-zero-l, or-zero-r, or-shifted-r, or-block, or-add-and, and-block, and-step, and-self, and-zero-l, and-le-l, and-le-r}
 use lib.Count.{trailingZeros}
 use lib.ListN.{length, take, drop, getD, length-map, drop-of-length-le}
+use lib.Dec.{eqb}
+use borrow.Author.Tests.{eqb-true, eqb-false, eq-eqb, ne-eqb}
 use lib.Seq.{length-take-le, take-suc, take-add, take-all, take-nil, take-length, drop-length}
 use Rattle.logic.proofs.Tests.{lt-or-le}
+use Rattle.logic.proofs.Slices.{take-map, mapped-at}
 use Rattle.word.specs.Digits.{binary, firstOne}
 
 -- ---- the number in two parts
@@ -84,25 +88,34 @@ digit-more bs i l =
     ∙ digit-put (take i bs) (getD bs i false)
     ∙ ap binary (sym (ap (λ (k : ℕ). take k bs) (add-one i) ∙ take-suc bs i false l))
 
-take-map : {A B : Type 0} (f : A → B) (n : ℕ) (xs : List A) → take n (map f xs) ≡ map f (take n xs)
-take-map f zero xs = refl
-take-map f (suc n) [] = refl
-take-map f (suc n) (x ∷ xs) = ap (λ (l : List _). f x ∷ l) (take-map f n xs)
-
-getD-map : {A : Type 0} (p : A → Bool) (none : A) (xs : List A) (i : ℕ) → i < length xs →
-    getD (map p xs) i false ≡ p (getD xs i none)
-getD-map p none [] i l = absurd (omega arith)
-getD-map p none (x ∷ xs) zero l = refl
-getD-map p none (x ∷ xs) (suc i) l = getD-map p none xs i (omega arith)
-
 -- the digits that say which pass a test, with those of one element more
 pub digits-more :
     {A : Type 0} (p : A → Bool) (none : A) (xs : List A) (i : ℕ) → i < length xs
     → bitOr (binary (map p (take i xs))) (cond {A = ℕ} (p (getD xs i none)) (2 ^ i) 0)
     ≡ binary (map p (take (i + 1) xs))
 digits-more p none xs i l =
-    rw (← take-map p i xs, ← take-map p (i + 1) xs, ← getD-map p none xs i l)
+    rw (← take-map p i xs, ← take-map p (i + 1) xs, ← mapped-at p none false xs i l)
     (digit-more (map p xs) i (omega (arith, length-map xs p)))
+
+-- ---- bits joined by `|`
+
+pub or-doubled : (a b : ℕ) → bitOr (2 * a) (2 * b) ≡ 2 * bitOr a b
+or-doubled a b =
+    let x : 2 * a ≡ a * 2 ^ 1 + 0 = omega arith in
+    let y : 2 * b ≡ b * 2 ^ 1 + 0 = omega arith in
+    let z : bitOr a b * 2 ^ 1 + bitOr 0 0 ≡ 2 * bitOr a b = omega (arith, or-zero-l 0) in
+    ap₂ bitOr x y ∙ or-block 1 a b 0 0 (omega arith) (omega arith) ∙ z
+
+pub or-zero : (a b : ℕ) → eqb (bitOr a b) 0 ≡ (eqb a 0 && eqb b 0)
+or-zero a b = go (eqb a 0) refl (eqb b 0) refl
+  where
+    go : (x : Bool) → eqb a 0 ≡ x → (y : Bool) → eqb b 0 ≡ y → eqb (bitOr a b) 0 ≡ (x && y)
+    go true p true q =
+        let e : a ≡ 0 = eqb-true a 0 p in
+        let f : b ≡ 0 = eqb-true b 0 q in
+        eq-eqb (bitOr a b) 0 (omega (arith, or-add-and a b))
+    go true p false q = ne-eqb (bitOr a b) 0 (λ z. eqb-false b 0 q (omega (arith, or-add-and a b, and-le-l a b)))
+    go false p y q = ne-eqb (bitOr a b) 0 (λ z. eqb-false a 0 p (omega (arith, or-add-and a b, and-le-r a b)))
 
 -- ---- the first digit that is 1
 

@@ -3,7 +3,7 @@ use mathlib.Core.List.{[]}
 use borrow.Author.Needs.{needs}
 use Rattle.book.specs.Calls.{on, callJ}
 use Rattle.book.proofs.Answered.{made-no-book}
-use Rattle.call.proofs.Tested.{no-book, is-a-book}
+use Rattle.logic.proofs.Tests.{told-false, told-true}
 use Rattle.call.proofs.judge_strike.Statement.{statement}
 use Rattle.call.proofs.judge_strike.Tie as tie
 
@@ -14,7 +14,7 @@ returns : tie.Need-returns
 returns c =
     let s = c .before .before .before in
     made-no-book (on (s .args .c) (callJ (s .args .m) (s .args .h))) (s .args .run .now) []
-    (no-book (c .before .is-book .ensures) (c .if1 .taken))
+    (told-false (c .before .is-book .ensures) (c .if1 .taken))
 
 slice-aggregate-judge-strike : tie.Need-slice-aggregate-judge-strike
 slice-aggregate-judge-strike c = search needs
@@ -22,7 +22,7 @@ slice-aggregate-judge-strike c = search needs
 judge-strike-requires : tie.Need-judge-strike-requires
 judge-strike-requires c κs =
     let book = c .before in
-    is-a-book (book .before .is-book .ensures) (book .if1 .left)
+    told-true (book .before .is-book .ensures) (book .if1 .left)
 
 returns-2 : tie.Need-returns-2
 returns-2 c = search needs

@@ -2,7 +2,7 @@
 use borrow.Author.Needs.{needs}
 use Rattle.book.specs.Calls.{on, callA}
 use Rattle.book.proofs.Answered.{made-no-book}
-use Rattle.call.proofs.Tested.{no-book, is-a-book}
+use Rattle.logic.proofs.Tests.{told-false, told-true}
 use Rattle.call.proofs.list_permitted.Statement.{statement}
 use Rattle.call.proofs.list_permitted.Tie as tie
 
@@ -13,7 +13,7 @@ returns : tie.Need-returns
 returns c =
     let a = c .before .before .before .before .args in
     made-no-book (on (a .c) (callA (a .m))) (a .run .now) (a .second .now)
-    (no-book (c .before .is-book .ensures) (c .if1 .taken))
+    (told-false (c .before .is-book .ensures) (c .if1 .taken))
 
 slice-aggregate-list-permitted : tie.Need-slice-aggregate-list-permitted
 slice-aggregate-list-permitted c = search needs
@@ -21,7 +21,7 @@ slice-aggregate-list-permitted c = search needs
 list-permitted-requires : tie.Need-list-permitted-requires
 list-permitted-requires c κs =
     let book = c .before .before in
-    is-a-book (book .before .is-book .ensures) (book .if1 .left)
+    told-true (book .before .is-book .ensures) (book .if1 .left)
 
 same-length : tie.Need-same-length
 same-length c = search needs

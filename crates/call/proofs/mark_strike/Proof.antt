@@ -3,7 +3,7 @@ use mathlib.Core.List.{[]}
 use borrow.Author.Needs.{needs}
 use Rattle.book.specs.Calls.{on, callI}
 use Rattle.book.proofs.Answered.{made-no-book}
-use Rattle.call.proofs.Tested.{no-book, is-a-book}
+use Rattle.logic.proofs.Tests.{told-false, told-true}
 use Rattle.call.proofs.mark_strike.Statement.{statement}
 use Rattle.call.proofs.mark_strike.Tie as tie
 
@@ -17,7 +17,7 @@ returns : tie.Need-returns
 returns c =
     let s = c .before .before .before .before in
     made-no-book (on (s .args .c) (callI (s .args .m) (s .args .h) (s .args .a) (s .args .b))) (s .args .run .now) []
-    (no-book (c .before .is-book .ensures) (c .if1 .taken))
+    (told-false (c .before .is-book .ensures) (c .if1 .taken))
 
 slice-aggregate-mark-strike : tie.Need-slice-aggregate-mark-strike
 slice-aggregate-mark-strike c = search needs
@@ -25,7 +25,7 @@ slice-aggregate-mark-strike c = search needs
 mark-strike-requires : tie.Need-mark-strike-requires
 mark-strike-requires c κs =
     let book = c .before .before in
-    is-a-book (book .before .is-book .ensures) (book .if1 .left)
+    told-true (book .before .is-book .ensures) (book .if1 .left)
 
 same-length-2 : tie.Need-same-length-2
 same-length-2 c = search needs

@@ -3,7 +3,7 @@ use mathlib.Core.List.{[]}
 use borrow.Author.Needs.{needs}
 use Rattle.book.specs.Calls.{callM}
 use Rattle.book.proofs.Answered.{made-no-book}
-use Rattle.call.proofs.Tested.{no-book, is-a-book}
+use Rattle.logic.proofs.Tests.{told-false, told-true}
 use Rattle.call.proofs.set_month.Statement.{statement}
 use Rattle.call.proofs.set_month.Tie as tie
 
@@ -17,10 +17,10 @@ returns : tie.Need-returns
 returns c =
     let s = c .before .before .before .before in
     made-no-book (callM (s .args .m)) (s .args .run .now) []
-    (no-book (c .before .is-book .ensures) (c .if1 .taken))
+    (told-false (c .before .is-book .ensures) (c .if1 .taken))
 
 set-month-requires : tie.Need-set-month-requires
-set-month-requires c κs = is-a-book (c .before .before .is-book .ensures) (c .before .if1 .left)
+set-month-requires c κs = told-true (c .before .before .is-book .ensures) (c .before .if1 .left)
 
 same-length-2 : tie.Need-same-length-2
 same-length-2 c = search needs

@@ -8,10 +8,10 @@ use Rattle.word.specs.Limits.{isClassNumber, isDesignation}
 use Rattle.word.specs.Programs.{isProgram}
 use Rattle.book.specs.Layout.{factsOf}
 use Rattle.book.specs.Calls.{on, callD, effectOn}
-use Rattle.logic.proofs.Tests.{ands}
+use Rattle.logic.proofs.Tests.{ands, passed}
 use Rattle.book.proofs.Answered.{made-beyond, made-not-open}
 use Rattle.book.proofs.OpenPlaces.{place-none}
-use Rattle.class_call.proofs.Ways.{passed, open-room, Found}
+use Rattle.class_call.proofs.Ways.{open-room, Found}
 use Rattle.class_call.proofs.DesignationWays.{designation-program, designation-refused, designation-storable, designation-set}
 use Rattle.class_call.proofs.designate.Statement.{statement}
 use Rattle.class_call.proofs.designate.Tie as tie

@@ -9,9 +9,10 @@ use Rattle.book.specs.Layout.{factsOf}
 use Rattle.book.specs.Calls.{on, callO, effectOn}
 use Rattle.book.proofs.Answered.{made-beyond}
 use Rattle.place.proofs.Heads.{book-room, book-long}
-use Rattle.class_call.proofs.Ways.{passed, already-open, out-of-words, class-openable, class-opened}
+use Rattle.class_call.proofs.Ways.{already-open, out-of-words, class-openable, class-opened}
 use Rattle.class_call.proofs.open_class.Statement.{statement}
 use Rattle.class_call.proofs.open_class.Tie as tie
+use Rattle.logic.proofs.Tests.{passed}
 
 -- before the place where the class is not open: that where it was looked up, and that where the limits were passed
 abbrev found : tie.After-is-open-at → tie.After-class-at

@@ -12,10 +12,11 @@ use Rattle.book.specs.Calls.{on, callR, effectOn}
 use Rattle.book.proofs.Answered.{made-beyond, made-not-open}
 use Rattle.book.proofs.OpenPlaces.{place-none}
 use Rattle.place.proofs.Heads.{book-long}
-use Rattle.removal.specs.Asked.{Reviewable}
-use Rattle.class_call.proofs.Ways.{passed, open-within, open-room, Found, review-no-close, class-reviewable, review-count, review-made}
+use Rattle.removal.specs.RemovalsAsked.{Reviewable}
+use Rattle.class_call.proofs.Ways.{open-within, open-room, Found, review-no-close, class-reviewable, review-count, review-made}
 use Rattle.class_call.proofs.review_class.Statement.{statement}
 use Rattle.class_call.proofs.review_class.Tie as tie
+use Rattle.logic.proofs.Tests.{passed}
 
 -- before the place where the class is open: that where it was looked up, and that where the limits were passed
 abbrev sought : tie.Else2 → tie.After-open-at

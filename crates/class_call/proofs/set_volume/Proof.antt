@@ -6,10 +6,10 @@ use borrow.Author.Needs.{needs}
 use Rattle.word.specs.Limits.{isClassNumber, isVolume}
 use Rattle.book.specs.Layout.{factsOf}
 use Rattle.book.specs.Calls.{on, callV, effectOn}
-use Rattle.logic.proofs.Tests.{ands}
+use Rattle.logic.proofs.Tests.{ands, passed}
 use Rattle.book.proofs.Answered.{made-beyond, made-not-open}
 use Rattle.book.proofs.OpenPlaces.{place-none}
-use Rattle.class_call.proofs.Ways.{passed, open-room, Found}
+use Rattle.class_call.proofs.Ways.{open-room, Found}
 use Rattle.class_call.proofs.FigureWays.{volume-storable, volume-set}
 use Rattle.class_call.proofs.set_volume.Statement.{statement}
 use Rattle.class_call.proofs.set_volume.Tie as tie

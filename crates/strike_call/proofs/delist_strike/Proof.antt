@@ -10,13 +10,13 @@ use borrow.Author.Needs.{needs}
 use Rattle.book.specs.Layout.{factsOf}
 use Rattle.book.specs.Calls.{on, callX, isPlace, effectOn}
 use Rattle.book.specs.Places.{ClassBegins}
-use Rattle.logic.proofs.Tests.{ands}
+use Rattle.logic.proofs.Tests.{ands, passed}
 use Rattle.book.proofs.Answered.{made-beyond, made-not-open}
 use Rattle.book.proofs.OpenPlaces.{place-none, place-begins}
 use Rattle.place.specs.Lookups.{strikeSearchOf}
 use Rattle.place.proofs.Heads.{book-long}
-use Rattle.removal.specs.Asked.{Delistable}
-use Rattle.strike_call.proofs.Standing.{passed, found-place, found-alone, strike-standing, place-within, delist-not-standing, delist-marked, delist-done}
+use Rattle.removal.specs.RemovalsAsked.{Delistable}
+use Rattle.strike_call.proofs.Standing.{found-place, found-alone, strike-standing, place-within, delist-not-standing, delist-marked, delist-done}
 use Rattle.strike_call.proofs.delist_strike.Statement.{statement}
 use Rattle.strike_call.proofs.delist_strike.Tie as tie
 

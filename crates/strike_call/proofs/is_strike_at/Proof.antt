@@ -1,7 +1,6 @@
 -- `is_strike_at` meets its contract: from the count of the words used on there is none, and before it the word's kind
 -- is read. Assumes nothing.
 use mathlib.Core.Path.{_∙_}
-use Prim.Native.Nat.{ℕ}
 use native.Mathlib.Omega.{arith}
 use borrow.Author.Needs.{needs}
 use borrow.Author.Tests.{lt-ltb, le-ltb}

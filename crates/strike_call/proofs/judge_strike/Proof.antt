@@ -7,11 +7,10 @@ use borrow.Author.Needs.{needs}
 use Rattle.book.specs.Layout.{factsOf}
 use Rattle.book.specs.Calls.{on, callJ, isPlace, effectOn}
 use Rattle.book.specs.Places.{ClassBegins}
-use Rattle.logic.proofs.Tests.{ands}
+use Rattle.logic.proofs.Tests.{ands, passed}
 use Rattle.book.proofs.Answered.{made-beyond, made-not-open}
 use Rattle.book.proofs.OpenPlaces.{place-none, place-begins}
 use Rattle.strike_call.specs.Judging.{Sought}
-use Rattle.strike_call.proofs.Standing.{passed}
 use Rattle.strike_call.proofs.ListedStrikes.{judge-done}
 use Rattle.strike_call.proofs.judge_strike.Statement.{statement}
 use Rattle.strike_call.proofs.judge_strike.Tie as tie

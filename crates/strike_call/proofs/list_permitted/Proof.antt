@@ -10,13 +10,12 @@ use Rattle.word.specs.Limits.{isMonth, isClassNumber}
 use Rattle.book.specs.Layout.{factsOf}
 use Rattle.book.specs.Calls.{on, callA, effectOn}
 use Rattle.book.specs.Places.{ClassBegins}
-use Rattle.logic.proofs.Tests.{ands}
+use Rattle.logic.proofs.Tests.{ands, passed}
 use Rattle.book.proofs.Answered.{made-beyond, made-not-open}
 use Rattle.book.proofs.OpenPlaces.{place-none, place-begins}
 use Rattle.place.specs.Lookups.{expirationOf}
 use Rattle.place.proofs.Found.{begins-room}
 use Rattle.place.proofs.Heads.{book-long, book-month, book-room}
-use Rattle.strike_call.proofs.Standing.{passed}
 use Rattle.strike_call.proofs.Permitting.{part-within, permitting-outside, permitting-no-close, permitting-listable, permitting-filled}
 use Rattle.strike_call.proofs.list_permitted.Statement.{statement}
 use Rattle.strike_call.proofs.list_permitted.Tie as tie

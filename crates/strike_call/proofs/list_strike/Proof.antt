@@ -11,14 +11,13 @@ use Rattle.book.specs.Layout.{factsOf}
 use Rattle.book.specs.Views.{viewOf}
 use Rattle.book.specs.Calls.{on, callL, isPlace, effectOn}
 use Rattle.book.specs.Places.{ClassBegins, hasExpiration}
-use Rattle.logic.proofs.Tests.{ands}
+use Rattle.logic.proofs.Tests.{ands, passed}
 use Rattle.book.proofs.Answered.{made-beyond, made-not-open}
 use Rattle.book.proofs.OpenPlaces.{place-none, place-begins}
 use Rattle.place.specs.declared.lookup.StrikeSearch.{StrikeSearch}
 use Rattle.place.proofs.Heads.{book-room, book-long}
-use Rattle.edit.specs.Asked.{Insertable}
+use Rattle.edit.specs.EditsAsked.{Insertable}
 use Rattle.strike_call.specs.Judging.{Sought, judged}
-use Rattle.strike_call.proofs.Standing.{passed}
 use Rattle.strike_call.proofs.ListedStrikes.{Permits, permits, no-ground, list-refused, out-of-words, list-done}
 use Rattle.strike_call.proofs.list_strike.Statement.{statement}
 use Rattle.strike_call.proofs.list_strike.Tie as tie

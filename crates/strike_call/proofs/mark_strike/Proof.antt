@@ -8,11 +8,11 @@ use Rattle.word.specs.Limits.{isMark}
 use Rattle.book.specs.Layout.{factsOf}
 use Rattle.book.specs.Calls.{on, callI, isPlace, effectOn}
 use Rattle.book.specs.Places.{ClassBegins, StrikeStands}
-use Rattle.logic.proofs.Tests.{ands}
+use Rattle.logic.proofs.Tests.{ands, passed}
 use Rattle.book.proofs.Answered.{made-beyond, made-not-open}
 use Rattle.book.proofs.OpenPlaces.{place-none, place-begins}
 use Rattle.place.specs.Lookups.{strikeSearchOf}
-use Rattle.strike_call.proofs.Standing.{passed, found-place, strike-standing, mark-not-standing, mark-done}
+use Rattle.strike_call.proofs.Standing.{found-place, strike-standing, mark-not-standing, mark-done}
 use Rattle.strike_call.proofs.mark_strike.Statement.{statement}
 use Rattle.strike_call.proofs.mark_strike.Tie as tie
 

@@ -9,10 +9,12 @@ use lib.Dec.{leb}
 use lib.ListN.{length}
 use borrow.Author.Needs.{needs}
 use Rattle.word.specs.Kinds.{gradeOf}
-use Rattle.place.specs.Search.{firstAt, isUpTo}
-use Rattle.place.proofs.Firsts.{Seeking, seek-start, seek-rest, seek-digit, seek-no-digit}
+use Rattle.place.specs.Search.{isUpTo}
+use Rattle.place.proofs.Blocks.{seek-digit, seek-no-digit}
 use Rattle.place.proofs.search.first.Statement.{statement}
 use Rattle.place.proofs.search.first.Tie as tie
+use Rattle.logic.proofs.Firsts.{Seeking, seek-start, seek-rest}
+use Rattle.logic.specs.Lists.{firstAt}
 
 abbrev Inv-loop : tie.InvT-loop
 Inv-loop words kind key most i₀ i = Seeking (λ w. leb (gradeOf kind w) most) words i

@@ -8,9 +8,9 @@ use lib.ListN.{length}
 use borrow.Author.Needs.{needs}
 use borrow.Author.Tests.{le-leb, lt-leb}
 use Rattle.word.specs.Kinds.{gradeOf}
-use Rattle.place.proofs.Firsts.{Seeking, seek-start, seek-hit, seek-miss, seek-end}
 use Rattle.place.proofs.search.first_plainly.Statement.{statement}
 use Rattle.place.proofs.search.first_plainly.Tie as tie
+use Rattle.logic.proofs.Firsts.{Seeking, seek-start, seek-hit, seek-miss, seek-end}
 
 abbrev Inv-loop : tie.InvT-loop
 Inv-loop words kind most i₀ i = Seeking (λ w. leb (gradeOf kind w) most) words i

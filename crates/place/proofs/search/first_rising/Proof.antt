@@ -12,11 +12,11 @@ use lib.ListN.{length, getD}
 use lib.Pow.{pow-mono}
 use borrow.Author.Needs.{needs}
 use Rattle.logic.proofs.Tests.{parts}
+use Rattle.logic.proofs.Firsts.{part-passes, Seeking, seek-start, seek-before, seek-hit, seek-end, seek-rest}
 use Rattle.word.specs.Limits.{longestRun}
 use Rattle.word.proofs.Fields.{field-less}
 use Rattle.word.specs.Kinds.{isOfKind, kindField}
 use Rattle.place.specs.Search.{isFrom, guessWidth}
-use Rattle.place.proofs.Firsts.{part-passes, Seeking, seek-start, seek-before, seek-hit, seek-end, seek-rest}
 use Rattle.place.proofs.KeyedWords.{part-from}
 use Rattle.place.proofs.search.first_rising.Statement.{statement}
 use Rattle.place.proofs.search.first_rising.Tie as tie

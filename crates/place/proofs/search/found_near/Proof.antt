@@ -8,10 +8,11 @@ use lib.Dec.{ltb}
 use lib.ListN.{length, take, drop}
 use borrow.Author.Needs.{needs}
 use borrow.Author.Tests.{ltb-true, ltb-false, le-ltb}
-use Rattle.place.specs.Search.{firstAt, isUpTo, aboutCount, beforeCount, isAmid, firstAbout, foundNear}
+use Rattle.place.specs.Search.{isUpTo, aboutCount, beforeCount, isAmid, firstAbout, foundNear}
 use Rattle.place.proofs.FoundNear.{is-amid, not-amid, near-there, near-about}
 use Rattle.place.proofs.search.found_near.Statement.{statement}
 use Rattle.place.proofs.search.found_near.Tie as tie
+use Rattle.logic.specs.Lists.{firstAt}
 
 -- ---- the places of the proof
 

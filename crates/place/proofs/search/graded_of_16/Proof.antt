@@ -16,7 +16,7 @@ use borrow.Author.Needs.{needs}
 use borrow.Author.Tests.{le-leb, lt-leb}
 use Rattle.word.specs.Digits.{binary}
 use Rattle.word.specs.Kinds.{gradeOf}
-use Rattle.place.proofs.Firsts.{doubled-more}
+use Rattle.place.proofs.Blocks.{doubled-more}
 use Rattle.place.proofs.search.graded_of_16.Statement.{statement}
 use Rattle.place.proofs.search.graded_of_16.Tie as tie
 

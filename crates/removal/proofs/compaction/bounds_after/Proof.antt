@@ -2,9 +2,9 @@
 -- Assumes nothing.
 use Prim.Native.Nat.{_+_}
 use borrow.Author.Needs.{needs}
-use Rattle.removal.proofs.LentParts.{tail-all}
 use Rattle.removal.proofs.compaction.bounds_after.Statement.{statement}
 use Rattle.removal.proofs.compaction.bounds_after.Tie as tie
+use Rattle.logic.proofs.Slices.{tail-all}
 
 add-from : tie.Need-add-from
 add-from c = search needs

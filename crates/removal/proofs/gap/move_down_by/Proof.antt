@@ -8,7 +8,7 @@ use lib.ListN.{length}
 use lib.Dec.{T, leb, leb→le}
 use borrow.Author.Needs.{needs}
 use Rattle.logic.proofs.Tests.{ands, true-T}
-use Rattle.removal.specs.Rewriting.{blockLength}
+use Rattle.removal.specs.Rewriting.{movedAtOnce}
 use Rattle.removal.proofs.Shifts.{Shifting, shift-start, shift-on, shift-done, shift-rest}
 use Rattle.removal.proofs.gap.move_down_by.Statement.{statement}
 use Rattle.removal.proofs.gap.move_down_by.Tie as tie
@@ -43,12 +43,12 @@ loop-less c = omega arith
 loop-again : tie.Need-loop-again Inv-loop μ-loop
 loop-again c =
     let moved = c .before .before in
-    rw (moved .move-block .ensures) (shift-on (moved .before .before .before .loop .inv) _ blockLength (omega arith))
+    rw (moved .move-block .ensures) (shift-on (moved .before .before .before .loop .inv) _ movedAtOnce (omega arith))
 
 -- the test before the last block goes: neither the gap nor what moves over it is shorter
 block-fits : (c : tie.Then1 Inv-loop μ-loop) →
     let a = c .before .before .before .before .args in
-    (blockLength ≤ a .gap) × (blockLength ≤ length (a .words .now) - a .gap)
+    (movedAtOnce ≤ a .gap) × (movedAtOnce ≤ length (a .words .now) - a .gap)
 block-fits c =
     let a = c .before .before .before .before .args in
     let rest = length (a .words .now) - a .gap in
@@ -76,7 +76,7 @@ returns c =
     let left = moved .before .before in
     moved .move-block2 .ensures
     ∙ shift-done
-    (shift-on (left .before .before .loop .inv) _ blockLength
+    (shift-on (left .before .before .loop .inv) _ movedAtOnce
     (omega (arith, block-fits left, left .before .loop-test .left)))
     (omega (arith, block-fits left))
 

@@ -1,14 +1,14 @@
--- `read_numbers` reads the numbers: `Going` says that the line goes on from the place that is reached as it did from
--- the first, and each way out is one of its laws. Assumes nothing.
+-- `read_numbers` reads the numbers: `LineGoing` says that the line goes on from the place that is reached as it did
+-- from the first, and each way out is one of its laws. Assumes nothing.
 use Prim.Native.Nat.{_-_}
 use borrow.Author.Needs.{needs}
 use lib.ListN.{length}
-use Rattle.text.proofs.WholeLines.{Going, going-start, going-ended, going-passed, going-room, going-none, going-more, going-done}
+use Rattle.text.proofs.WholeLines.{LineGoing, line-going-start, going-ended, going-passed, going-room, going-none, going-more, going-done}
 use Rattle.text.proofs.line.read_numbers.Statement.{statement}
 use Rattle.text.proofs.line.read_numbers.Tie as tie
 
 abbrev Inv-loop : tie.InvT-loop
-Inv-loop sheet from letter numbers₀ count₀ i₀ numbers count i = Going letter sheet from count numbers i
+Inv-loop sheet from letter numbers₀ count₀ i₀ numbers count i = LineGoing letter sheet from count numbers i
 
 abbrev μ-loop : tie.MeasureT-loop
 μ-loop sheet from letter numbers₀ count₀ i₀ numbers count i = length sheet - i
@@ -18,7 +18,7 @@ abbrev more : tie.After-read-number Inv-loop μ-loop → tie.In-loop Inv-loop μ
 more read = read .before .before .before .before
 
 loop-holds : tie.Need-loop-holds Inv-loop μ-loop
-loop-holds c = going-start _ _ _ (c .before .pre)
+loop-holds c = line-going-start _ _ _ (c .before .pre)
 
 shared-slice-read-byte : tie.Need-shared-slice-read-byte Inv-loop μ-loop
 shared-slice-read-byte c = search needs

@@ -1,13 +1,11 @@
 -- `answer_line` makes the call of the line that is read: no book is refused with 1, and on a book the call that is read
 -- is made. Assumes nothing.
-use mathlib.Core.Path.{sym, _∙_}
 use mathlib.Core.Logic.{⊎-elim}
 use native.Mathlib.Omega.{arith}
 use lib.Dec.{T}
 use borrow.Author.Needs.{needs}
-use borrow.Author.Tests.{not-true, not-false}
 use Rattle.book.specs.Books.{isBook}
-use Rattle.logic.proofs.Tests.{true-T}
+use Rattle.logic.proofs.Tests.{told-false, told-true}
 use Rattle.book.proofs.Answered.{made-no-book}
 use Rattle.text.specs.Sheets.{lineAt}
 use Rattle.text.proofs.CallsRead.{made-read}
@@ -38,7 +36,7 @@ returns c =
     let start = entry read in
     let whole = read .read-line .ensures in
     record {
-      made = made-no-book _ _ _ (sym (start .pre .book) ∙ not-true (start .args .tested) (c .if2 .taken));
+      made = made-no-book _ _ _ (told-false (start .pre .book) (c .if2 .taken));
       next-is = ⊎-elim (λ w. omega (arith, w .1)) (λ w. omega (arith, w .1)) (c .before .if1 .came);
     }
 
@@ -46,7 +44,7 @@ returns c =
 is-a-book : (c : tie.Else2) → T (isBook (entry (c .before .before) .args .run .now))
 is-a-book c =
     let start = entry (c .before .before) in
-    true-T _ (sym (start .pre .book) ∙ not-false (start .args .tested) (c .if2 .left))
+    told-true (start .pre .book) (c .if2 .left)
 
 make-line-requires : tie.Need-make-line-requires
 make-line-requires c κs = is-a-book (c .before .before .before)

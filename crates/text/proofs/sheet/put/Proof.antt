@@ -3,9 +3,9 @@ use mathlib.Core.Path.{sym, _∙_}
 use mathlib.Core.List.{_∷_}
 use native.Mathlib.Numerals.{add-one}
 use borrow.Author.Needs.{needs}
-use Rattle.text.proofs.Sheets.{sets-out}
 use Rattle.text.proofs.sheet.put.Statement.{statement}
 use Rattle.text.proofs.sheet.put.Tie as tie
+use Rattle.logic.proofs.Stores.{sets-out}
 
 mul-answers : tie.Need-mul-answers
 mul-answers c = search needs

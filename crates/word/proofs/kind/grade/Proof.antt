@@ -1,5 +1,5 @@
 -- `grade` grades a word: its mask reads the key, which is one of 28 bits at most. Assumes nothing.
-use Prim.Native.Nat.{ℕ, _+_, _-_, _*_, _/_, _^_}
+use Prim.Native.Nat.{_+_, _-_, _*_, _/_, _^_}
 use mathlib.Core.Path.{_≡_}
 use native.Mathlib.Omega.{arith}
 use lib.Bits.{bitAnd}
