@@ -4,7 +4,7 @@ ghost use mathlib.Core.List.{[]};
 ghost use mathlib.Core.Path.{_≡_};
 ghost use Rattle.book.specs.Books.{isBook};
 ghost use Rattle.book.specs.Calls.{callM, on, callO, callC, callV, callD, callL, callJ, callX, callI, callR, callA};
-ghost use Rattle.text.specs.Sheets.{SheetRun};
+ghost use Rattle.sheet_calls.specs.Sheets.{SheetRun};
 ghost use Rattle.export.specs.CallReplies.{Answered, Carries, Started};
 use word::answer::Answer;
 
@@ -152,5 +152,5 @@ pub extern "C" fn strike_book_run_sheet(
     ensures { λ r. ⌜ SheetRun (now (run .entry)) (now (second .entry)) (now (sheet .entry)) (now (answers .entry))
         r (now (run .exit)) (now (second .exit)) (now (answers .exit)) ⌝ }
 {
-    text::sheet::run_sheet(run, second, sheet, answers)
+    sheet_calls::sheet::run_sheet(run, second, sheet, answers)
 }

@@ -15,13 +15,14 @@ use Rattle.book.specs.Books.{isBook}
 use Rattle.book.proofs.Layouts.{factsOf-layout, book-layout, book-facts, fresh-well-formed}
 use Rattle.text.specs.declared.line.Phase.the-variants.{Start}
 use Rattle.text.specs.declared.line.Line.{Line}
-use Rattle.text.specs.declared.piece.PieceProgress.{PieceProgress}
+use Rattle.sheet_calls.specs.declared.piece.PieceProgress.{PieceProgress}
 use Rattle.text.specs.Reading.{emptyLine, endOf}
 use Rattle.text.specs.Grammar.{callHeld}
-use Rattle.text.specs.Sheets.{callsIn}
-use Rattle.text.specs.Pieces.{Reader, callMade, bytesRead, hasBegun, lastEnded, callsMade, lineRoom, Ended, Holds, begun, Pieced}
-use Rattle.text.proofs.Readers.{unprinted, bytes-append, bytes-unprinted, last-unprinted, taken-within, taken-some}
-use Rattle.text.proofs.Pieces.{sheet-read}
+use Rattle.sheet_calls.specs.Sheets.{callsIn}
+use Rattle.sheet_calls.specs.Pieces.{Reader, callMade, bytesRead, hasBegun, lastEnded, callsMade, Ended, Holds, begun, Pieced}
+use Rattle.text.specs.Printing.{lineRoom}
+use Rattle.sheet_calls.proofs.Readers.{unprinted, bytes-append, bytes-unprinted, last-unprinted, taken-within, taken-some}
+use Rattle.sheet_calls.proofs.Pieces.{sheet-read}
 use Rattle.sheet.specs.declared.Turn.{Turn}
 use Rattle.sheet.specs.InputRead.{bookLength, Left, Carried, AfterBytes, TurnTaken, AllRead, SheetRead}
 

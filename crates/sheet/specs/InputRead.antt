@@ -12,8 +12,8 @@ use Rattle.book.specs.Calls.{after}
 use Rattle.book.specs.CallLists.{lentEach, secondAfter}
 use Rattle.text.specs.declared.line.Line.{Line}
 use Rattle.text.specs.Reading.{emptyLine}
-use Rattle.text.specs.Sheets.{callsIn}
-use Rattle.text.specs.Pieces.{Reader, bytesRead, begun}
+use Rattle.sheet_calls.specs.Sheets.{callsIn}
+use Rattle.sheet_calls.specs.Pieces.{Reader, bytesRead, begun}
 use Rattle.sheet.specs.declared.Turn.{Turn}
 
 -- "a fresh book of 4,096 words"

@@ -7,16 +7,17 @@ ghost use lib.ListN.{length};
 ghost use Rattle.book.specs.Facts.{fresh};
 ghost use Rattle.book.specs.Layout.{layout};
 ghost use Rattle.book.specs.Books.{isBook};
-ghost use Rattle.text.specs.Pieces.{lineRoom, begun, lastEnded};
+ghost use Rattle.text.specs.Printing.{lineRoom};
+ghost use Rattle.sheet_calls.specs.Pieces.{begun, lastEnded};
 ghost use Rattle.sheet.specs.InputRead.{bookLength, Left, AfterBytes, TurnTaken, AllRead, SheetRead};
 use libc::STDIN_FILENO;
 use libc::STDOUT_FILENO;
 use scan::fresh;
+use sheet_calls::piece::end_line;
+use sheet_calls::piece::read_piece;
 use text::line::Line;
 use text::line::Phase;
 use text::line::empty;
-use text::piece::end_line;
-use text::piece::read_piece;
 
 // The words of the book, and of the second run.
 const BOOK_LENGTH: usize = 4096;

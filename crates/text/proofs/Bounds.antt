@@ -18,8 +18,7 @@ use Rattle.word.specs.declared.answer.Answer.the-variants.{Done, Ground, Remove
 use Rattle.word.specs.Answers.{refusalNumber, refusalValue, answerNumber, answerValue}
 use Rattle.word.proofs.answer.Answer.{the-type as answer-type}
 use Rattle.word.proofs.answer.Refusal.{the-type as refusal-type}
-use Rattle.text.specs.Printing.{spacedNumber, spacedNumbers, valueOrNone, afterNumber, answerText}
-use Rattle.text.specs.Pieces.{strikeRoom, lineRoom}
+use Rattle.text.specs.Printing.{spacedNumber, spacedNumbers, valueOrNone, afterNumber, answerText, strikeRoom, lineRoom}
 use Rattle.logic.proofs.Tests.{bool-cases}
 use Rattle.text.proofs.Decimals.{length-decimal}
 use Rattle.text.proofs.SpacedNumbers.{one-number}

@@ -4,15 +4,11 @@ pub mod Sound
 mod LineParts
 pub mod Limited
 pub mod Lines
-mod CallsRead
-mod Sheets
+pub mod SheetLines
 mod WholeLines
-mod LineReplies
-pub mod Readers
-pub mod Pieces
 pub mod Decimals
 mod SpacedNumbers
-mod AnswerTexts
+pub mod AnswerTexts
 pub mod RoundTrip
 pub mod Bounds
 mod SheetExamples

@@ -3,6 +3,5 @@ pub mod Alphabet
 pub mod Reading
 pub mod Grammar
 pub mod Printing
-pub mod Sheets
+pub mod SheetLines
 pub mod WholeLines
-pub mod Pieces

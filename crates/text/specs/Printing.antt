@@ -1,6 +1,6 @@
 -- Document 01, "prints per line the number, then any value, then `A`'s strikes", "All figures are written in base
 -- ten.": the bytes that are printed for an answer. Assumes nothing.
-use Prim.Native.Nat.{ℕ, zero, suc, _+_, _/_, _%_}
+use Prim.Native.Nat.{ℕ, zero, suc, _+_, _*_, _/_, _%_}
 use mathlib.Core.Bool.{cond}
 use mathlib.Core.List.{List, [], _∷_, _++_}
 use lib.Dec.{eqb, ltb}
@@ -50,3 +50,15 @@ answerText a strikes = decimal (answerNumber a) ++ (spacedNumbers (afterNumber a
 -- the line that is printed for a call on a book of the facts f, in a run of n words and with a second run of `room`
 abbrev pub replyTo : (n room : ℕ) → Call → Facts → List ℕ
 replyTo n room x f = answerText (answerTo n room x f) (written n room x f)
+
+-- the bytes that a strike takes at most: a space, and the digits of a number of 32 bits
+abbrev pub strikeRoom : ℕ
+strikeRoom = 11
+
+-- the bytes for the rest of an answer: its number, any value and the line end
+abbrev pub answerRoom : ℕ
+answerRoom = 32
+
+-- the bytes that the line of one answer takes at most, with a second run of `room` words
+abbrev pub lineRoom : ℕ → ℕ
+lineRoom room = strikeRoom * room + answerRoom

@@ -12,7 +12,7 @@ use Rattle.text.specs.declared.line.Line.{Line}
 use Rattle.text.specs.Alphabet.{zeroDigit, base}
 use Rattle.text.specs.Reading.{capped, zeros, emptyLine, runOf, endOf}
 use Rattle.text.specs.Grammar.{isDigit}
-use Rattle.text.specs.Sheets.{lineEnd}
+use Rattle.text.specs.SheetLines.{lineEnd}
 
 -- how many bytes at the front are digits
 unfoldable pub digitsLength : List ℕ → ℕ

@@ -4,7 +4,7 @@ ghost use mathlib.Core.Path.{_≡_};
 ghost use Prim.Native.Nat.{_+_, _*_, _<_, _≤_};
 ghost use lib.ListN.{drop, length};
 ghost use Rattle.text.specs.Alphabet.{base};
-ghost use Rattle.text.specs.Sheets.{lineEnd};
+ghost use Rattle.text.specs.SheetLines.{lineEnd};
 ghost use Rattle.text.specs.WholeLines.{letterLine, DigitsAt, NumeralAt, EndsAfter, WholeAt};
 ghost use Rattle.text.specs.Reading.{capped, emptyLine, malformedLine, pushOf, startOf, letterOf, spaceOf, zeroOf, numberOf, feedOf, endOf};
 use crate::ascii::BASE;

@@ -11,6 +11,12 @@ use crate::ascii::SPACE;
 use crate::ascii::ZERO;
 use word::answer::Answer;
 
+// The bytes that a strike takes at most: a space, and the digits of a number of 32 bits.
+pub const STRIKE_ROOM: usize = 11;
+
+// The bytes for the rest of an answer: its number, any value and the line end.
+pub const ANSWER_ROOM: usize = 32;
+
 // The digits of a number, of any length.
 fn put_digits(out: &mut [u8], at: usize, number: u32) -> usize
     requires { ⌜ at + length (decimal number) ≤ length (now out) ⌝ }

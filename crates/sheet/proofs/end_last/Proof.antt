@@ -8,7 +8,7 @@ use denote.Enum.Declared.{tagOf}
 use borrow.Author.Needs.{needs}
 use Rattle.text.specs.declared.line.Phase.{Phase}
 use Rattle.text.specs.declared.line.Phase.the-variants.{Start, Letter, Space, Zero, Number, Malformed}
-use Rattle.text.specs.Pieces.{hasBegun}
+use Rattle.sheet_calls.specs.Pieces.{hasBegun}
 use Rattle.text.proofs.line.Phase.{the-type}
 use Rattle.sheet.proofs.Carrying.{last-none, last-made}
 use Rattle.sheet.proofs.end_last.Statement.{statement}

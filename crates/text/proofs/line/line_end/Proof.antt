@@ -5,8 +5,8 @@ use mathlib.Core.Path.{_≡_, refl}
 use native.Mathlib.Omega.{arith}
 use lib.ListN.{length, drop}
 use borrow.Author.Needs.{needs}
-use Rattle.text.specs.Sheets.{lineEnd}
-use Rattle.text.proofs.Sheets.{end-here, end-later, end-none}
+use Rattle.text.specs.SheetLines.{lineEnd}
+use Rattle.text.proofs.SheetLines.{end-here, end-later, end-none}
 use Rattle.text.proofs.line.line_end.Statement.{statement}
 use Rattle.text.proofs.line.line_end.Tie as tie
 
