@@ -17,7 +17,7 @@ use Rattle.text.specs.declared.line.Phase.the-variants.{Start}
 use Rattle.text.specs.declared.line.Line.{Line}
 use Rattle.sheet_calls.specs.declared.piece.PieceProgress.{PieceProgress}
 use Rattle.text.specs.Reading.{emptyLine, endOf}
-use Rattle.text.specs.Grammar.{callHeld}
+use Rattle.sheet_calls.specs.LineCalls.{callHeld}
 use Rattle.sheet_calls.specs.Sheets.{callsIn}
 use Rattle.sheet_calls.specs.Pieces.{Reader, callMade, bytesRead, hasBegun, lastEnded, callsMade, Ended, Holds, begun, Pieced}
 use Rattle.text.specs.Printing.{lineRoom}
@@ -89,13 +89,13 @@ held-on h =
 
 -- ---- a piece of which the bytes before `from` have been read
 
-pub record Reading (w v piece : List ℕ) (line₀ : Line) (run second : List ℕ) (line : Line) (from : ℕ) : Type 0 where
+pub record PieceSoFar (w v piece : List ℕ) (line₀ : Line) (run second : List ℕ) (line : Line) (from : ℕ) : Type 0 where
   pub within : from ≤ length piece
   pub size : length run ≡ length w
   pub room : length second ≡ length v
   pub carried : AfterBytes w v line₀ (take from piece) run second line
 
-pub reading-start : (w v piece : List ℕ) (line : Line) → T (isBook w) → Reading w v piece line w v line 0
+pub reading-start : (w v piece : List ℕ) (line : Line) → T (isBook w) → PieceSoFar w v piece line w v line 0
 unfolding bytesRead
 reading-start w v piece line book =
     record { within = zero-le; size = refl; room = refl; carried = carried-start w v line book }
@@ -106,7 +106,7 @@ module _
     {run second : List ℕ}
     {line : Line}
     {from : ℕ}
-    (g : Reading w v piece line₀ run second line from)
+    (g : PieceSoFar w v piece line₀ run second line from)
   where
     -- what is left of the piece
     rest : take (length piece - from) (drop from piece) ≡ drop from piece
@@ -133,7 +133,7 @@ module _
         → lineRoom (length second) ≤ length out
         → Pieced run second (take (length piece - from) (drop from piece)) out line r run′ second′ out′
         → length run′ ≡ length run → length second′ ≡ length second
-        → Reading w v piece line₀ run′ second′ (r .line) (from + r .read)
+        → PieceSoFar w v piece line₀ run′ second′ (r .line) (from + r .read)
     reading-more {r = r} h enough p size room =
         let n = length w in
         let m = length v in

@@ -9,9 +9,9 @@ use Rattle.book.specs.Layout.{factsOf}
 use Rattle.book.specs.Made.{Made}
 use Rattle.text.specs.declared.line.Line.{Line}
 use Rattle.text.specs.Reading.{lineOf}
-use Rattle.text.specs.Grammar.{callIn, callHeld}
-use Rattle.text.proofs.Limited.{same-answer, same-written, same-step}
-use Rattle.text.proofs.Lines.{call-read}
+use Rattle.sheet_calls.specs.LineCalls.{callIn, callHeld}
+use Rattle.sheet_calls.proofs.Limited.{same-answer, same-written, same-step}
+use Rattle.sheet_calls.proofs.Lines.{call-read}
 
 -- the call of the line l, which has been read in s
 pub made-read :

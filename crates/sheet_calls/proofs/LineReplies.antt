@@ -16,14 +16,14 @@ use Rattle.book.specs.Layout.{factsOf}
 use Rattle.book.specs.Books.{isBook}
 use Rattle.book.specs.Calls.{Call, answerTo, written}
 use Rattle.book.specs.Made.{over, Made}
-use Rattle.text.specs.Printing.{answerText, replyTo, lineRoom}
+use Rattle.text.specs.Printing.{answerText, lineRoom}
 use Rattle.word.proofs.answer.Answer.{the-type}
 use Rattle.logic.proofs.Tests.{T-true}
 use Rattle.logic.proofs.Slices.{each-front}
 use Rattle.book.proofs.Order.{written-count}
 use Rattle.book.proofs.Followed.{made-words, made-book}
 use Rattle.text.proofs.Bounds.{wordLimit, answer-bound}
-use Rattle.sheet_calls.specs.Pieces.{Ended}
+use Rattle.sheet_calls.specs.Pieces.{replyTo, Ended}
 
 -- the call x has been made on a book, and `count` words of the second run are printed
 module _

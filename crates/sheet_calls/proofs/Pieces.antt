@@ -15,13 +15,13 @@ use Rattle.text.specs.declared.line.Phase.the-variants.{Start, Letter, Space, Z
 use Rattle.text.specs.declared.line.Line.{Line}
 use Rattle.text.specs.Alphabet.{lineFeed}
 use Rattle.text.specs.Reading.{capped, emptyLine, feedBy, feedOf, endOf, runOf}
-use Rattle.text.specs.Grammar.{callIn, callHeld}
 use Rattle.text.specs.SheetLines.{withByte, linesOf}
 use Rattle.logic.proofs.Tests.{bool-cases}
-use Rattle.text.proofs.Limited.{same-answer, same-written, same-step}
-use Rattle.text.proofs.Lines.{call-read}
+use Rattle.sheet_calls.specs.LineCalls.{callIn, callHeld}
 use Rattle.sheet_calls.specs.Sheets.{callsIn}
 use Rattle.sheet_calls.specs.Pieces.{Reader, callEnded, callMade, byteRead, bytesRead, hasBegun, lastEnded, repliesTo, callsMade}
+use Rattle.sheet_calls.proofs.Limited.{same-answer, same-written, same-step}
+use Rattle.sheet_calls.proofs.Lines.{call-read}
 
 -- ---- one line
 

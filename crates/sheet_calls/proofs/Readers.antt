@@ -17,8 +17,7 @@ use Rattle.book.specs.Calls.{Call, step}
 use Rattle.text.specs.declared.line.Line.{Line}
 use Rattle.text.specs.Alphabet.{lineFeed}
 use Rattle.text.specs.Reading.{emptyLine, feedOf, endOf, runOf}
-use Rattle.text.specs.Grammar.{callHeld}
-use Rattle.text.specs.Printing.{replyTo, lineRoom}
+use Rattle.text.specs.Printing.{lineRoom}
 use Rattle.text.specs.SheetLines.{lineEnd}
 use Rattle.text.specs.WholeLines.{lineAfter, WholeAt}
 use Rattle.book.proofs.Layouts.{factsOf-layout, book-facts}
@@ -26,8 +25,9 @@ use Rattle.book.proofs.Keep.{step-keeps}
 use Rattle.book.proofs.Followed.{layout-size}
 use Rattle.logic.proofs.Tests.{bool-cases, eq-or-not, nors}
 use Rattle.text.proofs.AnswerTexts.{stores-after}
+use Rattle.sheet_calls.specs.LineCalls.{callHeld}
+use Rattle.sheet_calls.specs.Pieces.{replyTo, Reader, callEnded, callMade, byteRead, bytesRead, hasBegun, lastEnded, bytesTaken, FirstTaken, Ended, Holds, begun, LinesRead, Pieced}
 use Rattle.sheet_calls.specs.declared.piece.Lines.{Lines}
-use Rattle.sheet_calls.specs.Pieces.{Reader, callEnded, callMade, byteRead, bytesRead, hasBegun, lastEnded, bytesTaken, FirstTaken, Ended, Holds, begun, LinesRead, Pieced}
 
 -- ---- the bytes in turn
 

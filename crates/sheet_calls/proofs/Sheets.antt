@@ -14,12 +14,12 @@ use Rattle.book.specs.Books.{isBook}
 use Rattle.book.specs.Calls.{Call, steps}
 use Rattle.book.specs.CallLists.{answersTo, told, secondAfter}
 use Rattle.book.specs.Made.{Made}
-use Rattle.text.specs.Grammar.{callIn}
 use Rattle.text.specs.SheetLines.{linesOf, nextLine}
 use Rattle.logic.proofs.Tests.{T-true, true-T, bool-cases}
 use Rattle.book.proofs.Layouts.{book-facts}
 use Rattle.book.proofs.Followed.{made-book}
 use Rattle.text.proofs.SheetLines.{line-next}
+use Rattle.sheet_calls.specs.LineCalls.{callIn}
 use Rattle.sheet_calls.specs.declared.sheet.LineAnswer.{LineAnswer}
 use Rattle.sheet_calls.specs.Sheets.{callsIn, answersOver, wordsAfter, secondOver, LineMade, SheetRun}
 
@@ -66,7 +66,7 @@ none-left w v room =
 
 -- ---- a sheet that has been read up to the place `from`
 
-pub record Reading
+pub record SheetSoFar
     (w₀ v₀ sheet answers₀ : List ℕ) (tested : Bool) (w v answers : List ℕ) (lines at from : ℕ) : Type 0
   where
     pub within : from ≤ length sheet
@@ -84,7 +84,7 @@ pub record Reading
 
 pub read-start :
     (w v sheet answers : List ℕ) {tested : Bool} → tested ≡ isBook w
-    → Reading w v sheet answers tested w v answers 0 0 0
+    → SheetSoFar w v sheet answers tested w v answers 0 0 0
 read-start w v sheet answers is =
     record {
       within = zero-le;
@@ -104,7 +104,7 @@ module _
     {tested : Bool}
     {w v answers : List ℕ}
     {lines at from : ℕ}
-    (i : Reading w₀ v₀ sheet answers₀ tested w v answers lines at from)
+    (i : SheetSoFar w₀ v₀ sheet answers₀ tested w v answers lines at from)
   where
     -- one line more
     pub read-more :
@@ -115,7 +115,7 @@ module _
         → ((rest : List ℕ) → sets answers′ at′ rest ≡ sets answers at (number ∷ rest))
         → value ≡ answerValue (r .answer)
         → ((rest : List ℕ) → sets answers″ at″ rest ≡ sets answers′ at′ (value ∷ rest))
-        → Reading w₀ v₀ sheet answers₀ tested w′ v′ answers″ (lines + 1) at″ (r .next)
+        → SheetSoFar w₀ v₀ sheet answers₀ tested w′ v′ answers″ (lines + 1) at″ (r .next)
     read-more {value = value} {r = r} {w′ = w′} l m size room places n first k then =
         let split = line-next sheet from l in
         let calls = ap (map callIn) split in

@@ -11,7 +11,7 @@ use lib.Seq.{sets}
 use Rattle.book.specs.Facts.{Facts}
 use Rattle.book.specs.Layout.{layout, factsOf}
 use Rattle.book.specs.Books.{isBook}
-use Rattle.book.specs.Calls.{Call, written, step, steps}
+use Rattle.book.specs.Calls.{Call, answerTo, written, step, steps}
 use Rattle.book.specs.CallLists.{lentEach, secondAfter}
 use Rattle.book.specs.Made.{over}
 use Rattle.text.specs.declared.line.Phase.{Phase}
@@ -19,8 +19,8 @@ use Rattle.text.specs.declared.line.Phase.the-variants.{Start, Letter, Space, Z
 use Rattle.text.specs.declared.line.Line.{Line}
 use Rattle.text.specs.Alphabet.{lineFeed}
 use Rattle.text.specs.Reading.{emptyLine, feedOf, endOf}
-use Rattle.text.specs.Grammar.{callHeld}
-use Rattle.text.specs.Printing.{replyTo, lineRoom}
+use Rattle.text.specs.Printing.{answerText, lineRoom}
+use Rattle.sheet_calls.specs.LineCalls.{callHeld}
 use Rattle.sheet_calls.specs.declared.piece.PieceProgress.{PieceProgress}
 use Rattle.sheet_calls.specs.declared.piece.Lines.{Lines}
 
@@ -36,6 +36,10 @@ pub record Reader : Type 0 where
 -- the call of the line that ends here
 abbrev pub callEnded : Reader → Call
 callEnded r = callHeld (endOf (r .line))
+
+-- the line that is printed for a call on a book of the facts f, in a run of n words and with a second run of `room`
+abbrev pub replyTo : (n room : ℕ) → Call → Facts → List ℕ
+replyTo n room x f = answerText (answerTo n room x f) (written n room x f)
 
 -- a call is made, its answer printed, and a line begins
 unfoldable pub callMade : (n room : ℕ) → Call → Reader → Reader

@@ -14,8 +14,8 @@ use Rattle.book.specs.Books.{isBook}
 use Rattle.book.specs.Calls.{Call, steps}
 use Rattle.book.specs.CallLists.{lentEach, answersTo, told, secondAfter}
 use Rattle.book.specs.Made.{Made}
-use Rattle.text.specs.Grammar.{callIn}
 use Rattle.text.specs.SheetLines.{linesOf, lineAt, nextLine}
+use Rattle.sheet_calls.specs.LineCalls.{callIn}
 use Rattle.sheet_calls.specs.declared.sheet.LineAnswer.{LineAnswer}
 
 -- the calls of a sheet

@@ -7,7 +7,7 @@ ghost use lib.ListN.{length};
 ghost use Rattle.word.specs.Answers.{strikesListed};
 ghost use Rattle.book.specs.Books.{isBook};
 ghost use Rattle.text.specs.Reading.{endOf};
-ghost use Rattle.text.specs.Grammar.{callHeld};
+ghost use Rattle.sheet_calls.specs.LineCalls.{callHeld};
 ghost use Rattle.text.specs.Printing.{lineRoom};
 ghost use Rattle.sheet_calls.specs.Pieces.{Ended, LinesBegin, LinesRead, Pieced};
 use crate::sheet::PLACES_REMEMBERED;

@@ -6,7 +6,7 @@ ghost use lib.Dec.{T};
 ghost use lib.Seq.{sets};
 ghost use Rattle.book.specs.Books.{isBook};
 ghost use Rattle.book.specs.Made.{Made};
-ghost use Rattle.text.specs.Grammar.{callHeld};
+ghost use Rattle.sheet_calls.specs.LineCalls.{callHeld};
 ghost use Rattle.text.specs.Reading.{numbersKept};
 ghost use Rattle.sheet_calls.specs.Sheets.{LineBegins, LineMade, SheetRun};
 use dispatch::make_call;

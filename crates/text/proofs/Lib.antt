@@ -1,9 +1,7 @@
 -- The laws of the lines and of what is printed, for the functions' proofs and other crates.
 pub mod Complete
 pub mod Sound
-mod LineParts
-pub mod Limited
-pub mod Lines
+pub mod LineParts
 pub mod SheetLines
 mod WholeLines
 pub mod Decimals
@@ -11,4 +9,3 @@ mod SpacedNumbers
 pub mod AnswerTexts
 pub mod RoundTrip
 pub mod Bounds
-mod SheetExamples

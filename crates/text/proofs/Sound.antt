@@ -1,9 +1,11 @@
 -- No other line is read as well formed: what may follow each phase, by recursion on the bytes that are left.
 use mathlib.Core.Path.{_≡_, refl, ap, subst, _∙_}
-use mathlib.Core.Logic.{⊎-elim}
+use mathlib.Core.Logic.{_⊎_, inl, inr, ⊎-elim}
+use mathlib.Core.Bool.{true, false}
 use mathlib.Core.List.{List, [], _∷_, _++_}
 use Prim.Native.Nat.{ℕ, _+_, _*_, _-_, _≤_, _<_}
 use native.Mathlib.Omega.{arith}
+use lib.Dec.{leb}
 use lib.ListN.{length, set}
 use borrow.Author.Tests.{le-leb, lt-ltb, le-ltb, eq-eqb, ne-eqb}
 use Rattle.text.specs.declared.line.Phase.{Phase}
@@ -12,7 +14,7 @@ use Rattle.text.specs.declared.line.Line.{Line}
 use Rattle.text.specs.Alphabet.{space, zeroDigit, nineDigit, firstLetter, lastLetter, base}
 use Rattle.text.specs.Reading.{numbersKept, capped, zeros, malformedLine, pushOf, feedBy, feedOf, endBy, endOf, runOf, lineOf}
 use Rattle.text.specs.Grammar.{Digits, Numeral, Numerals, Formed, no-digits, a-digit, lone-zero, leading, no-numbers, a-number, spaced, lineText}
-use Rattle.logic.proofs.Tests.{lt-or-le, eq-or-not}
+use Rattle.logic.proofs.Tests.{bool-cases, lt-or-le, eq-or-not}
 use Rattle.text.proofs.Complete.{state, push-room}
 
 -- the line is well formed if s follows the state l
@@ -182,6 +184,21 @@ follows (b ∷ s) Number c v k ns few h =
     (lt-or-le b zeroDigit))
     (eq-or-not b space)
 follows (b ∷ s) Malformed c v k ns few h = malformed-never s h
+
+-- a line that has ended is at Letter, or is the malformed one
+pushed-line : (l : Line) → (pushOf l Letter .phase ≡ Letter) ⊎ (pushOf l Letter ≡ malformedLine)
+pushed-line l =
+    let full = leb numbersKept (l .count) in
+    ⊎-elim (λ (e : full ≡ true). inr (rw e)) (λ (e : full ≡ false). inl (rw e)) (bool-cases full)
+
+pub ended : (p : Phase) (l : Line) → l .phase ≡ p → (endBy p l .phase ≡ Letter) ⊎ (endBy p l ≡ malformedLine)
+unfolding endBy
+ended Start l e = inr refl
+ended Letter l e = inl e
+ended Space l e = inr refl
+ended Zero l e = pushed-line l
+ended Number l e = pushed-line l
+ended Malformed l e = inr refl
 
 -- a line that is read as well formed has the form, with at most five numbers
 pub sound : (s : List ℕ) → lineOf s .phase ≡ Letter

@@ -23,9 +23,8 @@ use Rattle.text.specs.SheetLines.{lineEnd}
 use Rattle.text.specs.WholeLines.{digitsLength, grownBy, numeralLength, numeralValue, NumeralAt, lineAfter, EndsAfter, letterLine, WholeAt}
 use Rattle.logic.proofs.Tests.{equal-test, bool-cases, lt-or-le, eq-or-not, true-T, nors, or-cases, outside, inside}
 use Rattle.text.proofs.Complete.{Pending, at-zero, in-number, state, feed-space, end-number}
-use Rattle.text.proofs.Sound.{Follows, follows, run-malformed}
+use Rattle.text.proofs.Sound.{Follows, follows, run-malformed, ended}
 use Rattle.text.proofs.LineParts.{between-true, between-both}
-use Rattle.text.proofs.Lines.{ended}
 use Rattle.text.proofs.SheetLines.{end-here, end-later, end-none}
 
 -- ---- digits

@@ -1,16 +1,14 @@
--- Document 01, "letter, then numbers without leading zeros, single spaces", "An empty line, or any other form, is
--- malformed.": the lines of this form, and the call that a line is. Assumes nothing.
+-- Document 01, "letter, then numbers without leading zeros, single spaces": the lines of this form, and the parts of a
+-- line whatever its bytes. Assumes nothing.
 use mathlib.Core.Path.{_≡_}
 use Prim.Native.Nat.{ℕ, _+_, _*_, _-_, _≤_, _<_}
 use mathlib.Core.Bool.{Bool, false, cond, _&&_}
 use mathlib.Core.List.{List, [], _∷_, _++_, map}
-use lib.ListN.{length, take}
+use lib.ListN.{length}
 use lib.Seq.{sets}
 use lib.Dec.{eqb}
 use Rattle.word.specs.Limits.{between}
 use Rattle.logic.specs.Lists.{every}
-use Rattle.book.specs.Calls.{Call, malformed}
-use Rattle.book.specs.Letters.{callOf}
 use Rattle.text.specs.declared.line.Phase.the-variants.{Letter}
 use Rattle.text.specs.declared.line.Line.{Line}
 use Rattle.text.specs.Alphabet.{space, zeroDigit, nineDigit, firstLetter, lastLetter, base}
@@ -58,7 +56,7 @@ valueFrom v (b ∷ ds) = valueFrom (base * v + (b - zeroDigit)) ds
 abbrev pub numberIn : List ℕ → ℕ
 numberIn t = valueFrom 0 t
 
--- ---- the call that a line is, whatever its bytes
+-- ---- the parts of a line, whatever its bytes
 
 -- a byte from `0` to `9`
 abbrev pub isDigit : ℕ → Bool
@@ -80,18 +78,7 @@ unfoldable pub laterParts : List ℕ → List (List ℕ)
 laterParts [] = []
 laterParts (b ∷ s) = cond (eqb b space) (firstPart s ∷ laterParts s) (laterParts s)
 
--- the first part is a capital letter, and each later one a numeral
-unfoldable pub callOfParts : List ℕ → List (List ℕ) → Call
-callOfParts [] ts = malformed
-callOfParts (c ∷ []) ts =
-    cond (between firstLetter lastLetter c && every isNumeral ts) (callOf c (map numberIn ts)) malformed
-callOfParts (c ∷ d ∷ more) ts = malformed
-
--- "An empty line, or any other form, is malformed."
-abbrev pub callIn : List ℕ → Call
-callIn s = callOfParts (firstPart s) (laterParts s)
-
--- ---- the call of a line as it has been read
+-- ---- a line as it has been read
 
 -- a number as a line keeps it
 abbrev pub held : List ℕ → ℕ
@@ -100,7 +87,3 @@ held t = capped (numberIn t)
 -- what reading a line of the form gives
 abbrev pub lineFor : ℕ → List (List ℕ) → Line
 lineFor c ts = record { phase = Letter; letter = c; value = 0; count = length ts; numbers = sets zeros 0 (map held ts) }
-
--- the call of a line that has ended: a line that has not ended well has the letter 0, which names none
-abbrev pub callHeld : Line → Call
-callHeld l = callOf (l .letter) (take (l .count) (l .numbers))

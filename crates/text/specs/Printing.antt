@@ -7,8 +7,6 @@ use lib.Dec.{eqb, ltb}
 use Rattle.word.specs.declared.answer.Answer.{Answer}
 use Rattle.word.specs.declared.answer.Answer.the-variants.{Done, Ground, Removed, Listed, Refused}
 use Rattle.word.specs.Answers.{answerNumber, refusalValue}
-use Rattle.book.specs.Facts.{Facts}
-use Rattle.book.specs.Calls.{Call, answerTo, written}
 use Rattle.text.specs.Alphabet.{lineFeed, space, zeroDigit, base}
 
 -- the digits of a number, the last f + 1 of them at most
@@ -46,10 +44,6 @@ afterNumber (Refused why) strikes = valueOrNone (refusalValue why)
 -- "prints per line the number, then any value, then `A`'s strikes", and the line end
 unfoldable pub answerText : Answer → List ℕ → List ℕ
 answerText a strikes = decimal (answerNumber a) ++ (spacedNumbers (afterNumber a strikes) ++ (lineFeed ∷ []))
-
--- the line that is printed for a call on a book of the facts f, in a run of n words and with a second run of `room`
-abbrev pub replyTo : (n room : ℕ) → Call → Facts → List ℕ
-replyTo n room x f = answerText (answerTo n room x f) (written n room x f)
 
 -- the bytes that a strike takes at most: a space, and the digits of a number of 32 bits
 abbrev pub strikeRoom : ℕ

@@ -1,5 +1,5 @@
 -- Inner: a line of a sheet read byte by byte: what the state is after each byte, by the phase and the byte.
--- proofs/Lines.antt shows that what is read is the call that the line is. Assumes nothing.
+-- Complete and Sound (proofs) show that the lines of the form are read as written, and no others. Assumes nothing.
 use Prim.Native.Nat.{ℕ, _+_, _*_, _-_, min}
 use mathlib.Core.Bool.{cond}
 use mathlib.Core.List.{List, [], _∷_}

@@ -66,7 +66,7 @@ fn second_run(random: &mut Random, run: &mut [u32], call: &Call) -> Vec<u32> {
 fn random_lists() {
     let mut random = Random::new(0x5eed_0001);
     let mut tally = Tally::default();
-    for _ in 0..6_000 {
+    for _ in 0..1_500 {
         let mix = any_mix(&mut random);
         let most = random.pick(&[40, 200, 600, 600]);
         let length = 1 + random.index(most);
@@ -85,7 +85,7 @@ fn random_lists() {
 fn long_lists() {
     let mut random = Random::new(0x5eed_0002);
     let mut tally = Tally::default();
-    for round in 0..60 {
+    for round in 0..16 {
         let mix = Mix {
             weights: WEIGHTS,
             highest: 1 + round % 4,
@@ -139,7 +139,7 @@ fn caps() {
 fn damaged_runs() {
     let mut random = Random::new(0x5eed_0004);
     let mut tally = Tally::default();
-    for _ in 0..40_000 {
+    for _ in 0..10_000 {
         let mix = any_mix(&mut random);
         let most = random.pick(&[60, 400]);
         let mut run = runs::damaged(&mut random, most);
@@ -155,7 +155,7 @@ fn damaged_runs() {
 fn crowded_expirations() {
     let mut random = Random::new(0x5eed_0006);
     let mut tally = Tally::default();
-    for _ in 0..3_000 {
+    for _ in 0..800 {
         let (mut run, m) = books::crowded(&mut random);
         assert!(PlainBook::read(&run).is_some());
         let (c, p) = (CROWDED, words::close(run[2]));
@@ -187,7 +187,7 @@ fn crowded_expirations() {
 fn long_books() {
     let mut random = Random::new(0x5eed_0005);
     let mut tally = Tally::default();
-    for _ in 0..40 {
+    for _ in 0..12 {
         let mix = any_mix(&mut random);
         let length = random.pick(&[1_000, 4_096, 10_000, 65_535]);
         let mut run = books::any(&mut random, length);
@@ -202,7 +202,7 @@ fn long_books() {
 fn every_class() {
     let mut random = Random::new(0x5eed_0007);
     let mut tests = 0;
-    for _ in 0..6_000 {
+    for _ in 0..1_500 {
         let most = random.pick(&[100, 300, 1_000, 4_096]);
         let length = 1 + random.index(most);
         let run = books::any(&mut random, length);

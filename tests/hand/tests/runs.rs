@@ -12,7 +12,7 @@ fn is_book(run: &[u32]) -> bool {
 fn changed_books() {
     let mut random = Random::new(0x5eed_0011);
     let (mut books, mut others) = (0, 0);
-    for _ in 0..60_000 {
+    for _ in 0..15_000 {
         let most = random.pick(&[30, 600, 600]);
         let length = 1 + random.index(most);
         let book = books::any(&mut random, length);
@@ -38,7 +38,7 @@ fn changed_books() {
 fn every_bit() {
     let mut random = Random::new(0x5eed_0012);
     let mut tests = 0;
-    for round in 0..120 {
+    for round in 0..32 {
         let length = 60 + round + random.index(100);
         let book = books::any(&mut random, length);
         for at in 0..length {

@@ -6,13 +6,13 @@ use native.Mathlib.Omega.{arith}
 use lib.ListN.{length}
 use lib.Seq.{length-take-le}
 use borrow.Author.Needs.{needs}
-use Rattle.sheet.proofs.Carrying.{Reading, reading-start, some-read, reading-more, reading-done}
+use Rattle.sheet.proofs.Carrying.{PieceSoFar, reading-start, some-read, reading-more, reading-done}
 use Rattle.sheet.proofs.read_whole.Statement.{statement}
 use Rattle.sheet.proofs.read_whole.Tie as tie
 
 abbrev Inv-loop : tie.InvT-loop
 Inv-loop run₀ second₀ piece out₀ line₀ from₀ run second out line from =
-    Reading run₀ second₀ piece line₀ run second line from × (length out ≡ length out₀)
+    PieceSoFar run₀ second₀ piece line₀ run second line from × (length out ≡ length out₀)
 
 abbrev μ-loop : tie.MeasureT-loop
 μ-loop run₀ second₀ piece out₀ line₀ from₀ run second out line from = length piece - from

@@ -5,13 +5,13 @@ use mathlib.Core.Path.{_≡_, refl, _∙_}
 use native.Mathlib.Omega.{arith}
 use lib.ListN.{length}
 use borrow.Author.Needs.{needs}
-use Rattle.sheet_calls.proofs.Sheets.{Reading, read-start, read-more, read-done}
+use Rattle.sheet_calls.proofs.Sheets.{SheetSoFar, read-start, read-more, read-done}
 use Rattle.sheet_calls.proofs.sheet.run_sheet.Statement.{statement}
 use Rattle.sheet_calls.proofs.sheet.run_sheet.Tie as tie
 
 abbrev Inv-loop : tie.InvT-loop
 Inv-loop run₀ second₀ sheet answers₀ tested places₀ lines₀ at₀ from₀ run second answers places lines at from =
-    Reading run₀ second₀ sheet answers₀ tested run second answers lines at from × (length places ≡ length places₀)
+    SheetSoFar run₀ second₀ sheet answers₀ tested run second answers lines at from × (length places ≡ length places₀)
 
 abbrev μ-loop : tie.MeasureT-loop
 μ-loop run₀ second₀ sheet answers₀ tested places₀ lines₀ at₀ from₀ run second answers places lines at from =

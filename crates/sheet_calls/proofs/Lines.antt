@@ -8,22 +8,21 @@ use Prim.Native.Nat.{ℕ, suc, _≤_, _<_}
 use native.Mathlib.Omega.{arith}
 use lib.ListN.{length, take}
 use lib.Seq.{sets}
-use lib.Dec.{leb}
 use borrow.Author.Tests.{le-leb}
 use Rattle.word.specs.Limits.{between}
-use Rattle.logic.proofs.Tests.{parts, bool-cases, lt-or-le}
 use Rattle.logic.specs.Lists.{every}
 use Rattle.book.specs.Calls.{malformed}
 use Rattle.book.specs.Letters.{callOf}
-use Rattle.text.specs.declared.line.Phase.{Phase}
-use Rattle.text.specs.declared.line.Phase.the-variants.{Start, Letter, Space, Zero, Number, Malformed}
+use Rattle.text.specs.declared.line.Phase.the-variants.{Letter}
 use Rattle.text.specs.declared.line.Line.{Line}
 use Rattle.text.specs.Alphabet.{firstLetter, lastLetter}
-use Rattle.text.specs.Reading.{numbersKept, capped, zeros, malformedLine, pushOf, emptyLine, runOf, endBy, lineOf}
-use Rattle.text.specs.Grammar.{Formed, numberIn, isNumeral, firstPart, laterParts, callOfParts, callIn, held, callHeld}
+use Rattle.text.specs.Reading.{numbersKept, capped, zeros, malformedLine, emptyLine, runOf, lineOf}
+use Rattle.text.specs.Grammar.{Formed, numberIn, isNumeral, firstPart, laterParts, held}
+use Rattle.logic.proofs.Tests.{parts, bool-cases, lt-or-le}
 use Rattle.text.proofs.Complete.{complete}
-use Rattle.text.proofs.Sound.{sound}
+use Rattle.text.proofs.Sound.{ended, sound}
 use Rattle.text.proofs.LineParts.{between-both, numerals-true, true-numerals, joined, first-formed, later-formed}
+use Rattle.sheet_calls.specs.LineCalls.{callOfParts, callIn, callHeld}
 
 -- ---- the call that a line is
 
@@ -80,21 +79,6 @@ too-many c (a ∷ b ∷ d ∷ []) h = absurd (omega arith)
 too-many c (a ∷ b ∷ d ∷ e ∷ []) h = refl
 too-many c (a ∷ b ∷ d ∷ e ∷ f ∷ []) h = absurd (omega arith)
 too-many c (a ∷ b ∷ d ∷ e ∷ f ∷ g ∷ more) h = refl
-
--- a line that has ended is at Letter, or is the malformed one
-pushed-line : (l : Line) → (pushOf l Letter .phase ≡ Letter) ⊎ (pushOf l Letter ≡ malformedLine)
-pushed-line l =
-    let full = leb numbersKept (l .count) in
-    ⊎-elim (λ (e : full ≡ true). inr (rw e)) (λ (e : full ≡ false). inl (rw e)) (bool-cases full)
-
-pub ended : (p : Phase) (l : Line) → l .phase ≡ p → (endBy p l .phase ≡ Letter) ⊎ (endBy p l ≡ malformedLine)
-unfolding endBy
-ended Start l e = inr refl
-ended Letter l e = inl e
-ended Space l e = inr refl
-ended Zero l e = pushed-line l
-ended Number l e = pushed-line l
-ended Malformed l e = inr refl
 
 -- the call on the sheet, and the call that is held of it
 pub record CallRead (s : List ℕ) : Type 0 where

@@ -10,12 +10,12 @@ use lib.Dec.{T, eqb, leb, leb→le, le→leb}
 use borrow.Author.Tests.{leb-true}
 use Rattle.word.specs.declared.answer.Answer.the-variants.{Refused}
 use Rattle.word.specs.declared.answer.Refusal.the-variants.{BeyondLimits}
-use Rattle.logic.proofs.Tests.{and-intro, ands, parts, same-bool, same-leb, bool-cases}
 use Rattle.logic.specs.Lists.{every}
 use Rattle.book.specs.Facts.{Facts}
 use Rattle.book.specs.Calls.{Call, callM, on, callO, callC, callV, callD, callL, callJ, callX, callI, callR, callA, effectOn, effect, answerTo, written, step}
 use Rattle.book.specs.Letters.{callOf}
 use Rattle.text.specs.Reading.{capped}
+use Rattle.logic.proofs.Tests.{and-intro, ands, parts, same-bool, same-leb, bool-cases}
 
 -- ---- numbers below the cap
 

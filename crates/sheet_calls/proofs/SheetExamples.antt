@@ -6,8 +6,9 @@ use Rattle.word.specs.declared.answer.Answer.the-variants.{Done, Ground, Listed
 use Rattle.word.specs.declared.answer.Refusal.the-variants.{AlreadyStanding, OutOfRange, OutOfWords}
 use Rattle.book.specs.Calls.{callM, on, callL, callA, malformed}
 use Rattle.book.specs.Letters.{callOf}
-use Rattle.text.specs.Grammar.{callIn, callOfParts, firstPart, laterParts, isNumeral, valueFrom}
+use Rattle.text.specs.Grammar.{firstPart, laterParts, isNumeral, valueFrom}
 use Rattle.text.specs.Printing.{decimalBy, decimal, spacedNumbers, valueOrNone, afterNumber, answerText}
+use Rattle.sheet_calls.specs.LineCalls.{callIn, callOfParts}
 
 -- `M 4`
 line-m : callIn (77 ∷ 32 ∷ 52 ∷ []) ≡ callM 4
