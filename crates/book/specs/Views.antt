@@ -10,7 +10,8 @@ use Rattle.word.specs.Class.{designation}
 use Rattle.word.specs.Answers.{answerValue}
 use Rattle.rule.specs.declared.terms.Setting.{Setting}
 use Rattle.logic.specs.Lists.{every, some, only}
-use Rattle.rule.specs.Terms.{cents}
+use Rattle.word.specs.Limits.{cents}
+use Rattle.rule.specs.Grids.{dollarGround, wingGround}
 use Rattle.rule.specs.Spacing.{Standing, apart}
 use Rattle.rule.specs.Judgement.{rowsOf, judgement}
 use Rattle.word.specs.Programs.{program}
@@ -91,6 +92,6 @@ reviewDistance = 500
 -- "It removes each strike of ground 1 or 3 with |K − P| above 500, both marks 0, and h above .. or below .."
 abbrev pub isReviewed : OpenClass → Series → Bool
 isReviewed x s =
-    (eqb (s .ground) 1 || eqb (s .ground) 3)
+    (eqb (s .ground) dollarGround || eqb (s .ground) wingGround)
     && (ltb reviewDistance (apart (cents (s .strike)) (x .figures .close))
     && (not (isMarked s) && isBeyondMarked s (x .series)))

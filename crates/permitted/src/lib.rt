@@ -12,7 +12,6 @@ ghost use Rattle.rule.specs.Spacing.{standingOf};
 ghost use Rattle.rule.specs.Judgement.{isPermittedBeside};
 ghost use Rattle.permitted.specs.Listing.{Listable, Triable, OpenTriable, Continuable, Climbable, Continued};
 ghost use Rattle.permitted.specs.Listing.{standingStrike, strikeFrom, permittedBeside, Filled};
-use rule::amounts::HALF_DOLLAR;
 use rule::amounts::ONE_DOLLAR;
 use rule::bounds::RUNGS;
 use rule::bounds::Rung;
@@ -30,6 +29,7 @@ use word::answer::Answer;
 use word::answer::Refusal;
 use word::kind::STRIKE;
 use word::kind::key_of;
+use word::strike::HALF_DOLLAR;
 use word::strike::Strike;
 
 // A number above all strikes.

@@ -9,9 +9,9 @@ use native.Mathlib.Numerals.{add-one}
 use lib.Dec.{T, eqb, leb, ltb, leb→le}
 use borrow.Author.Tests.{le-leb, lt-ltb}
 use Rattle.logic.specs.Lists.{every, only}
-use Rattle.word.specs.Limits.{highestStrike}
+use Rattle.word.specs.Limits.{highestStrike, cents}
 use Rattle.word.specs.Kinds.{strikeKind}
-use Rattle.rule.specs.Terms.{cents}
+use Rattle.rule.specs.Grids.{dollarGround, wingGround}
 use Rattle.rule.specs.Spacing.{apart}
 use Rattle.book.specs.Facts.{Series, OpenClass, isMarked}
 use Rattle.book.specs.Books.{isSeries}
@@ -59,7 +59,7 @@ module _
   agrees s u =
       let l : s .strike ≤ highestStrike = leb→le (s .strike) highestStrike (search ands) in
       λ i.
-      not ((eqb (s .ground) 1 || eqb (s .ground) 3)
+      not ((eqb (s .ground) dollarGround || eqb (s .ground) wingGround)
       && (ltb reviewDistance (apart (cents (s .strike)) (e i))
       && (not (isMarked s) && beyond (s .strike) (markedIn (s .month) (x .series)) (omega arith) i)))
 

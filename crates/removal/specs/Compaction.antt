@@ -8,7 +8,8 @@ use lib.ListN.{length, take, replicate}
 use Rattle.word.specs.Codec.{Word, Head, packed}
 use Rattle.word.specs.Head.{firstPlace}
 use Rattle.word.specs.Strikes.{marks}
-use Rattle.rule.specs.Terms.{cents}
+use Rattle.word.specs.Limits.{cents}
+use Rattle.rule.specs.Grids.{dollarGround, wingGround}
 use Rattle.rule.specs.Spacing.{apart}
 use Rattle.book.specs.Views.{reviewDistance}
 use Rattle.removal.specs.declared.marks.Bounds.{Bounds}
@@ -20,7 +21,7 @@ use Rattle.removal.specs.Marks.{said, byKind, noneMarked, boundsIn}
 -- whether a strike stays in the review at a close, by the bounds of the marked strikes of its expiration
 abbrev pub stays : ℕ → Bounds → (h ground put call : ℕ) → Bool
 stays close b h ground put call =
-    not ((eqb ground 1 || eqb ground 3)
+    not ((eqb ground dollarGround || eqb ground wingGround)
     && (ltb reviewDistance (apart (cents h) close)
     && (not (marks put call) && (leb (b .above) h || ltb h (b .lowest)))))
 

@@ -11,6 +11,8 @@ ghost use Rattle.removal.specs.Compaction.{stays, settled, strikeStep, s
 use crate::marks::Bounds;
 use crate::marks::bounds_in;
 use crate::marks::none_marked;
+use rule::grids::DOLLAR_GROUND;
+use rule::grids::WING_GROUND;
 use rule::spacing::distance;
 use word::field::field_of;
 use word::kind::EXPIRATION;
@@ -56,7 +58,7 @@ fn does_stay(close: u32, b: Bounds, w: u32) -> bool
     let ground = field_of(w, GROUND);
     let far = REVIEW_DISTANCE < distance(Strike(h).cents(), close);
     let beyond = (b.above <= h) | (h < b.lowest);
-    !(((ground == 1) | (ground == 3)) & (far & (!is_marked(w) & beyond)))
+    !(((ground == DOLLAR_GROUND) | (ground == WING_GROUND)) & (far & (!is_marked(w) & beyond)))
 }
 
 // No expiration word waits.

@@ -3,39 +3,45 @@
 use mathlib.Core.Path.{_≡_, refl, subst}
 use mathlib.Core.Bool.{Bool, true, false, not, cond, _&&_, _||_}
 use mathlib.Core.Logic.{⊎-elim}
-use Prim.Native.Nat.{ℕ, _+_, _*_, _/_, _%_, _≤_, _<_, min, max}
+use Prim.Native.Nat.{ℕ, _+_, _*_, _-_, _/_, _%_, _≤_, _<_, min, max}
 use native.Mathlib.Omega.{arith}
 use lib.Dec.{T, leb, ltb, leb→le, le→leb}
 use borrow.Author.Tests.{ltb-false, leb-true, leb-false, le-leb, lt-ltb, le-ltb, eq-eqb}
 use Rattle.logic.proofs.Tests.{ands, parts, true-T, T-true, or-cases, same-bool}
 use Rattle.logic.proofs.Multiples.{times}
-use Rattle.word.specs.Limits.{highestStrike}
+use Rattle.word.specs.Limits.{highestStrike, halfDollar, cents}
 use Rattle.rule.specs.declared.terms.Setting.{Setting}
 use Rattle.word.specs.Programs.{halfPrice, halfVolume}
-use Rattle.rule.specs.Terms.{halfDollar, cents, inHalves, isDollarClass, isHalfClass, isLong, isNear, price}
+use Rattle.rule.specs.Terms.{inHalves, isDollarClass, isHalfClass, isLong, isNear, price}
 use Rattle.rule.specs.Grids.{multiple, standardGrid, dollarGrid, halfDollars, halfGrid, wingBase, wingGrid}
-use Rattle.rule.specs.Grids.{oneDollar, fiveDollars, fiveFifty}
-use Rattle.rule.specs.Ranges.{lowPrice, amongFive, rangeBy, rangeGrid, standardRange, rangeOf}
-use Rattle.rule.specs.Ends.{fifthAbove, halfEnd, lowEnd, highEnd, lastDollar, reachOf}
+use Rattle.rule.specs.Grids.{oneDollar, twoFifty, fiveDollars, fiveFifty}
+use Rattle.rule.specs.Ranges.{rangeCount, lowPrice, amongFive, rangeBy, rangeGrid, standardRange, rangeOf}
+use Rattle.rule.specs.Ends.{fifthOn, fifteenDollars, fifthAbove, quarterDollar, halfEnd, lowEnd, highEnd, lastDollar, reachOf}
 use Rattle.rule.proofs.Five.{five, five-half-dollars}
 use Rattle.rule.proofs.Steps.{standard-five, fives-standard, Wing, wing-stepped}
 
 -- the fifth strike above a price of at most $20
 module _ (whole dollar : Bool) (q : ℕ) where
-  fifth-most : q ≤ 40 → fifthAbove whole dollar q ≤ 100
-  fifth-most l = go whole dollar (ltb q 30)
+  fifth-most : q ≤ inHalves lowPrice → fifthAbove whole dollar q ≤ lastDollar
+  fifth-most l = go whole dollar (ltb q (inHalves fifteenDollars))
     where
       go : (w d t : Bool) →
-          cond w (q / 2 * 2 + 10) (cond d (q / 10 * 10 + 50) (cond t (q / 5 * 5 + 25) (q / 5 * 10))) ≤ 100
+          cond w (fifthOn (inHalves oneDollar) q)
+          (cond d (fifthOn (inHalves fiveDollars) q)
+          (cond t (fifthOn (inHalves twoFifty) q) (q / inHalves twoFifty * inHalves fiveDollars)))
+          ≤ lastDollar
       go true d t = omega arith
       go false true t = omega arith
       go false false true = omega arith
       go false false false = omega arith
 
-  fifth-least : q < 30 → q + 5 ≤ fifthAbove whole dollar q
-  fifth-least l = rw (lt-ltb q 30 l) (go whole dollar)
+  fifth-least : q < inHalves fifteenDollars → q + rangeCount ≤ fifthAbove whole dollar q
+  fifth-least l = rw (lt-ltb q (inHalves fifteenDollars) l) (go whole dollar)
     where
-      go : (w d : Bool) → q + 5 ≤ cond w (q / 2 * 2 + 10) (cond d (q / 10 * 10 + 50) (q / 5 * 5 + 25))
+      go : (w d : Bool) →
+          q + rangeCount
+          ≤ cond w (fifthOn (inHalves oneDollar) q)
+          (cond d (fifthOn (inHalves fiveDollars) q) (fifthOn (inHalves twoFifty) q))
       go true d = omega arith
       go false true = omega arith
       go false false = omega arith
@@ -77,10 +83,10 @@ module _ (s : Setting) where
                 (⊎-elim double among (or-cases (leb (cents h) (2 * p)) (amongFive (rangeGrid s) p h) (true-T _ e)));
           }
         where
-          double : T (leb (cents h) (2 * p)) → h ≤ max (p / 25) fifth
+          double : T (leb (cents h) (2 * p)) → h ≤ max (p / quarterDollar) fifth
           double a = omega (arith, leb→le (cents h) (2 * p) a)
 
-          among : T (amongFive (rangeGrid s) p h) → h ≤ max (p / 25) fifth
+          among : T (amongFive (rangeGrid s) p h) → h ≤ max (p / quarterDollar) fifth
           among a =
               let b : T (ltb (inHalves p) h && leb h fifth && rangeGrid s (cents h)) =
               subst T (five s h (ltb-false lowPrice p q)) a in
@@ -90,8 +96,8 @@ module _ (s : Setting) where
   ranged-standard h on = go (ltb lowPrice p) refl (leb (cents h) (2 * p)) refl
     where
       go : (t : Bool) → ltb lowPrice p ≡ t → (u : Bool) → leb (cents h) (2 * p) ≡ u →
-          cond {A = ℕ} t ((p + 99) / 100) 0 ≤ h →
-          h ≤ cond {A = ℕ} t (min (3 * p / 100) highestStrike) (max (p / 25) fifth) →
+          cond {A = ℕ} t ((p + (oneDollar - 1)) / oneDollar) 0 ≤ h →
+          h ≤ cond {A = ℕ} t (min (3 * p / oneDollar) highestStrike) (max (p / quarterDollar) fifth) →
           cond t (leb p (2 * cents h) && leb (2 * cents h) (3 * p))
           (leb (cents h) (2 * p) || amongFive (rangeGrid s) p h)
           ≡ true
@@ -174,7 +180,7 @@ module _ (s : Setting) where
   high-strike = go (ltb lowPrice p) refl
     where
       go : (t : Bool) → ltb lowPrice p ≡ t →
-          cond {A = ℕ} t (min (3 * p / 100) highestStrike) (max (p / 25) fifth) ≤ highestStrike
+          cond {A = ℕ} t (min (3 * p / oneDollar) highestStrike) (max (p / quarterDollar) fifth) ≤ highestStrike
       go true q = omega arith
       go false q =
           let cheap : p ≤ lowPrice = ltb-false lowPrice p q in
@@ -190,7 +196,7 @@ module _ (s : Setting) where
   half-within = go halfAsked refl
     where
       go : (t : Bool) → halfAsked ≡ t →
-          cond {A = ℕ} t (min (max (p / 25) (inHalves p + 5)) (inHalves fiveFifty)) 0 ≤ highEnd s
+          cond {A = ℕ} t (min (max (p / quarterDollar) (inHalves p + rangeCount)) (inHalves fiveFifty)) 0 ≤ highEnd s
       go true a =
           let l : p ≤ halfPrice = half-price a in
           rw (le-ltb lowPrice p (omega arith))
@@ -210,7 +216,7 @@ module _ (s : Setting) where
       go : (long : Bool) →
           1
           ≤ cond {A = ℕ} (not long && isHalfClass (s .class) && leb p halfPrice && leb halfVolume (s .class .volume))
-          (min (max (p / 25) (inHalves p + 5)) (inHalves fiveFifty))
+          (min (max (p / quarterDollar) (inHalves p + rangeCount)) (inHalves fiveFifty))
           0 →
           cond {A = ℕ} long 2 1 ≤ 1
       go true l = absurd (omega arith)
@@ -223,20 +229,20 @@ module _ (s : Setting) where
       let most : cents h ≤ fiveFifty = leb-true (cents h) fiveFifty (search parts) in
       let within : (leb (cents h) (2 * p) || amongFive halfDollars p h) ≡ true =
       rw (le-ltb lowPrice p (omega arith)) at range in
-      let near : h ≤ max (p / 25) (inHalves p + 5) =
+      let near : h ≤ max (p / quarterDollar) (inHalves p + rangeCount) =
       ⊎-elim double among (or-cases (leb (cents h) (2 * p)) (amongFive halfDollars p h) (true-T _ within)) in
       rw a (omega arith)
     where
-      double : T (leb (cents h) (2 * p)) → h ≤ max (p / 25) (inHalves p + 5)
+      double : T (leb (cents h) (2 * p)) → h ≤ max (p / quarterDollar) (inHalves p + rangeCount)
       double b = omega (arith, leb→le (cents h) (2 * p) b)
 
-      among : T (amongFive halfDollars p h) → h ≤ max (p / 25) (inHalves p + 5)
+      among : T (amongFive halfDollars p h) → h ≤ max (p / quarterDollar) (inHalves p + rangeCount)
       among b =
-          let c : T (ltb (inHalves p) h && leb h (inHalves p + 5) && halfDollars (cents h)) =
+          let c : T (ltb (inHalves p) h && leb h (inHalves p + rangeCount) && halfDollars (cents h)) =
           subst T (five-half-dollars p h) b in
-          omega (arith, leb→le h (inHalves p + 5) (search ands))
+          omega (arith, leb→le h (inHalves p + rangeCount) (search ands))
 
-  half-near : (h : ℕ) → halfAsked ≡ true → h ≤ min (max (p / 25) (inHalves p + 5)) (inHalves fiveFifty) →
+  half-near : (h : ℕ) → halfAsked ≡ true → h ≤ min (max (p / quarterDollar) (inHalves p + rangeCount)) (inHalves fiveFifty) →
       (halfGrid s (cents h) ≡ true) × (rangeBy halfDollars p h ≡ true)
   half-near h a m =
       let cheap : p ≤ halfPrice = half-price a in
@@ -250,13 +256,13 @@ module _ (s : Setting) where
       near false q on =
           let above : 2 * p < cents h = leb-false (cents h) (2 * p) q in
           let over : ltb (inHalves p) h ≡ true = lt-ltb (inHalves p) h (omega arith) in
-          rw (q, five-half-dollars p h, on, over, le-leb h (inHalves p + 5) (omega arith))
+          rw (q, five-half-dollars p h, on, over, le-leb h (inHalves p + rangeCount) (omega arith))
 
   pub half-each : (h : ℕ) → 1 ≤ h → h ≤ halfEnd s → (halfGrid s (cents h) ≡ true) × (rangeBy halfDollars p h ≡ true)
   half-each h l = go halfAsked refl
     where
       go : (t : Bool) → halfAsked ≡ t →
-          h ≤ cond {A = ℕ} t (min (max (p / 25) (inHalves p + 5)) (inHalves fiveFifty)) 0 →
+          h ≤ cond {A = ℕ} t (min (max (p / quarterDollar) (inHalves p + rangeCount)) (inHalves fiveFifty)) 0 →
           (halfGrid s (cents h) ≡ true) × (rangeBy halfDollars p h ≡ true)
       go true a m = half-near h a m
       go false a m = absurd (omega arith)

@@ -7,12 +7,12 @@ use Prim.Native.Nat.{ℕ, zero, suc, _+_, _≤_, _<_}
 use native.Mathlib.Omega.{arith}
 use borrow.Author.Tests.{ltb-false, eqb-true, eqb-false, lt-ltb, le-leb}
 use lib.Dec.{T, leb, ltb, eqb, leb·suc-suc, leb→le, le→leb, ltb→lt, eqb→eq}
-use Rattle.word.specs.Limits.{highestStrike}
+use Rattle.word.specs.Limits.{highestStrike, cents}
 use Rattle.rule.specs.declared.terms.Setting.{Setting}
 use Rattle.logic.specs.Lists.{every, some, upFrom}
 use Rattle.logic.proofs.Tests.{ands, and-middle, and-implied, same-leb, none-between}
 use Rattle.logic.proofs.Numbers.{every-number}
-use Rattle.rule.specs.Terms.{cents, inHalves, isDollarClass, isNear, price}
+use Rattle.rule.specs.Terms.{inHalves, isDollarClass, isNear, price}
 use Rattle.rule.specs.Grids.{oneDollar, fiveDollars, fiveFifty, fiftyDollars, multiple, ladder, halfDollars}
 use Rattle.rule.specs.Ranges.{lowPrice, rangeCount, lowest, amongFive, rangeGrid}
 use Rattle.rule.specs.Ends.{fifthAbove}
@@ -156,29 +156,29 @@ five s h cheap = five-by (isNear s && isDollarClass (s .class)) (isDollarClass (
 
 -- from $3.50 up the half dollars to $5.50 are fewer than five: the walk then goes on to the highest strike
 halfEndTest : ℕ → Bool
-halfEndTest q = eqb (endAbove halfDollars q) (cond (ltb q 7) (q + 6) (highestStrike + 1))
+halfEndTest q = eqb (endAbove halfDollars q) (cond (ltb q 7) (q + rangeCount + 1) (highestStrike + 1))
 
 half-ends : T (every halfEndTest (upFrom (inHalves fiveFifty) 0))
 unfolding halfEndTest endAbove walkEnd
 half-ends = tt
 
-half-end : (q h : ℕ) → q < h → h ≤ inHalves fiveFifty → ltb h (endAbove halfDollars q) ≡ leb h (q + 5)
+half-end : (q h : ℕ) → q < h → h ≤ inHalves fiveFifty → ltb h (endAbove halfDollars q) ≡ leb h (q + rangeCount)
 unfolding halfEndTest
 half-end q h low high =
     go (ltb q 7) refl
     (eqb→eq _ _ (every-number halfEndTest (inHalves fiveFifty) 0 half-ends q (omega arith) (omega arith)))
   where
-    go : (t : Bool) → ltb q 7 ≡ t → endAbove halfDollars q ≡ cond t (q + 6) (highestStrike + 1) →
-        ltb h (endAbove halfDollars q) ≡ leb h (q + 5)
-    go true e end = same-leb (suc h) (endAbove halfDollars q) h (q + 5) (λ l. omega arith) (λ l. omega arith)
+    go : (t : Bool) → ltb q 7 ≡ t → endAbove halfDollars q ≡ cond t (q + rangeCount + 1) (highestStrike + 1) →
+        ltb h (endAbove halfDollars q) ≡ leb h (q + rangeCount)
+    go true e end = same-leb (suc h) (endAbove halfDollars q) h (q + rangeCount) (λ l. omega arith) (λ l. omega arith)
     go false e end =
-        lt-ltb h (endAbove halfDollars q) (omega arith) ∙ sym (le-leb h (q + 5) (omega (arith, ltb-false q 7 e)))
+        lt-ltb h (endAbove halfDollars q) (omega arith) ∙ sym (le-leb h (q + rangeCount) (omega (arith, ltb-false q 7 e)))
 
 pub five-half-dollars : (p h : ℕ) →
-    amongFive halfDollars p h ≡ (ltb (inHalves p) h && leb h (inHalves p + 5) && halfDollars (cents h))
+    amongFive halfDollars p h ≡ (ltb (inHalves p) h && leb h (inHalves p + rangeCount) && halfDollars (cents h))
 five-half-dollars p h =
     among-above halfDollars p h
-    ∙ and-middle (ltb (inHalves p) h) (ltb h (endAbove halfDollars (inHalves p))) (leb h (inHalves p + 5))
+    ∙ and-middle (ltb (inHalves p) h) (ltb h (endAbove halfDollars (inHalves p))) (leb h (inHalves p + rangeCount))
     (halfDollars (cents h))
     (λ low on. half-end (inHalves p) h (ltb→lt (inHalves p) h low) (high on))
   where

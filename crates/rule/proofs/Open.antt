@@ -8,14 +8,14 @@ use Prim.Native.Nat.{ℕ, zero, suc, _+_, _*_, _/_, _%_, _≤_, _<_, min}
 use native.Mathlib.Omega.{arith}
 use lib.Dec.{T, ltb, eqb, eqb→eq}
 use borrow.Author.Tests.{le-leb, eq-eqb}
-use Rattle.word.specs.Limits.{highestStrike}
+use Rattle.word.specs.Limits.{highestStrike, cents}
 use Rattle.rule.specs.declared.terms.Setting.{Setting}
 use Rattle.logic.specs.Lists.{some}
 use Rattle.logic.proofs.Tests.{ands, parts, and-intro, true-T, T-true, refuted}
 use Rattle.logic.proofs.Lists.{some-cases, some-imply}
 use Rattle.logic.proofs.Multiples.{times}
 use Rattle.word.specs.Programs.{dollarPrice}
-use Rattle.rule.specs.Terms.{cents, inHalves, isDollarClass, isNear, price}
+use Rattle.rule.specs.Terms.{inHalves, isDollarClass, isNear, price}
 use Rattle.rule.specs.Grids.{multiple, standardGrid, dollarGrid, halfDollars, halfGrid, wingBase, wingGrid}
 use Rattle.rule.specs.Grids.{oneDollar, fiftyDollars, gridOf, grounds}
 use Rattle.rule.specs.Ranges.{rangeBy, standardRange, rangeOf}

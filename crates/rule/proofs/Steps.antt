@@ -13,7 +13,8 @@ use Rattle.logic.proofs.Multiples.{times}
 use Rattle.word.specs.Programs.{dollarPrice}
 use Rattle.word.specs.declared.class.ClassRecord.{ClassRecord}
 use Rattle.rule.specs.declared.terms.Setting.{Setting}
-use Rattle.rule.specs.Terms.{cents, isDollarClass, isLong, isNear, price}
+use Rattle.word.specs.Limits.{cents}
+use Rattle.rule.specs.Terms.{isDollarClass, isLong, isNear, price}
 use Rattle.rule.specs.Grids.{oneDollar, twoDollars, twoFifty, threeDollars, fiveDollars, tenDollars}
 use Rattle.rule.specs.Grids.{twentyFiveDollars, fortyFiveDollars, fiftyDollars, twoHundredDollars}
 use Rattle.rule.specs.Grids.{multiple, ladder, standardGrid, dollarGrid, wingBase, wingAt, wingGrid}

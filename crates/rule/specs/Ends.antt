@@ -1,28 +1,43 @@
 -- Inner: closed forms that the code computes, and the table of rungs; proofs/Five.antt, proofs/Open.antt and
 -- proofs/Most.antt show that they are right. Assumes nothing.
-use Prim.Native.Nat.{ℕ, _+_, _*_, _/_, _%_, _≤_, min, max}
+use Prim.Native.Nat.{ℕ, _+_, _*_, _-_, _/_, _%_, _≤_, min, max}
 use mathlib.Core.Path.{_≡_}
 use mathlib.Core.Bool.{Bool, true, false, cond, _&&_}
 use mathlib.Core.List.{List, [], _∷_}
 use lib.Dec.{leb, ltb}
 use lib.ListN.{length}
-use Rattle.word.specs.Limits.{highestStrike}
+use Rattle.word.specs.Limits.{highestStrike, halfDollar}
 use Rattle.word.specs.declared.class.ClassRecord.{ClassRecord}
 use Rattle.rule.specs.declared.terms.Setting.{Setting}
 use Rattle.rule.specs.declared.bounds.Rung.{Rung}
 use Rattle.word.specs.Programs.{dollarPrice, halfPrice, halfVolume}
-use Rattle.rule.specs.Terms.{halfDollar, inHalves, isDollarClass, isHalfClass, isLong, isNear}
+use Rattle.rule.specs.Terms.{inHalves, isDollarClass, isHalfClass, isLong, isNear}
 use Rattle.rule.specs.Grids.{oneDollar, twoFifty, fiveDollars, fiveFifty, tenDollars, twentyFiveDollars}
 use Rattle.rule.specs.Grids.{fiftyDollars, twoHundredDollars}
-use Rattle.rule.specs.Ranges.{lowPrice}
+use Rattle.rule.specs.Ranges.{rangeCount, lowPrice}
 use Rattle.word.specs.Answers.{isAccepted}
 use Rattle.rule.specs.Judgement.{judgement}
+
+-- of the multiples of a step, the last of the five lowest above q
+abbrev pub fifthOn : ℕ → ℕ → ℕ
+fifthOn step q = (q / step + rangeCount) * step
+
+-- above a price below it all five are multiples of $2.50
+abbrev pub fifteenDollars : ℕ
+fifteenDollars = 1500
 
 -- The last of the five lowest strikes above a price of at most $20 on the range grid of Standard and Dollar:
 -- `whole` in a near $1 class, `dollar` in any $1 class; q is the highest strike at or below the price
 abbrev pub fifthAbove : Bool → Bool → ℕ → ℕ
 fifthAbove whole dollar q =
-    cond whole (q / 2 * 2 + 10) (cond dollar (q / 10 * 10 + 50) (cond (ltb q 30) (q / 5 * 5 + 25) (q / 5 * 10)))
+    cond whole (fifthOn (inHalves oneDollar) q)
+    (cond dollar (fifthOn (inHalves fiveDollars) q)
+    (cond (ltb q (inHalves fifteenDollars)) (fifthOn (inHalves twoFifty) q)
+    (q / inHalves twoFifty * inHalves fiveDollars)))
+
+-- K ≤ 2P when h is at most P in quarters of a dollar
+abbrev pub quarterDollar : ℕ
+quarterDollar = 25
 
 -- a $1 class whose close allows strikes of $1
 abbrev pub isProgramClass : ClassRecord → Bool
@@ -33,18 +48,18 @@ abbrev pub halfEnd : Setting → ℕ
 halfEnd s =
     cond {A = ℕ}
     (isNear s && isHalfClass (s .class) && leb (s .class .close) halfPrice && leb halfVolume (s .class .volume))
-    (min (max (s .class .close / 25) (inHalves (s .class .close) + 5)) (inHalves fiveFifty))
+    (min (max (s .class .close / quarterDollar) (inHalves (s .class .close) + rangeCount)) (inHalves fiveFifty))
     0
 
--- the lowest strike in range on the other grounds at the price p; one of at most $20 sets none
+-- the lowest strike in range on the other grounds at the price p, where 2K is $1 × h; one of at most $20 sets none
 abbrev pub lowEnd : ℕ → ℕ
-lowEnd p = cond {A = ℕ} (ltb lowPrice p) ((p + 99) / 100) 0
+lowEnd p = cond {A = ℕ} (ltb lowPrice p) ((p + (oneDollar - 1)) / oneDollar) 0
 
 -- the highest strike in range on the other grounds, of those on their grids
 abbrev pub highEnd : Setting → ℕ
 highEnd s =
-    cond {A = ℕ} (ltb lowPrice (s .class .close)) (min (3 * s .class .close / 100) highestStrike)
-    (max (s .class .close / 25)
+    cond {A = ℕ} (ltb lowPrice (s .class .close)) (min (3 * s .class .close / oneDollar) highestStrike)
+    (max (s .class .close / quarterDollar)
     (fifthAbove (isNear s && isDollarClass (s .class)) (isDollarClass (s .class)) (inHalves (s .class .close))))
 
 -- the last strikes of these, in half dollars: "whole dollars from $1 to $50"; "multiples of $2.50 to $25, of $5 above

@@ -6,7 +6,8 @@ use lib.Dec.{leb, ltb, eqb}
 use Rattle.word.specs.declared.class.ClassRecord.{ClassRecord}
 use Rattle.rule.specs.declared.terms.Setting.{Setting}
 use Rattle.word.specs.Programs.{dollarPrice, halfPrice, halfVolume}
-use Rattle.rule.specs.Terms.{halfDollar, cents, isDollarClass, isHalfClass, isLong, isNear, price}
+use Rattle.word.specs.Limits.{halfDollar, cents}
+use Rattle.rule.specs.Terms.{isDollarClass, isHalfClass, isLong, isNear, price}
 
 abbrev pub multiple : ℕ → ℕ → Bool
 multiple n k = eqb (k % n) 0
@@ -91,9 +92,21 @@ wingGrid s k =
     isLong s && isDollarClass (s .class) && ltb (price s) dollarPrice
     && (leb fiveDollars (wingBase k) && leb (wingBase k) fortyFiveDollars && wingAt (price s) (wingBase k) k)
 
--- "Four grounds, each with its own grid"
+-- "Four grounds, each with its own grid": their numbers
+abbrev pub standardGround : ℕ
+standardGround = 0
+
+abbrev pub dollarGround : ℕ
+dollarGround = 1
+
+abbrev pub halfGround : ℕ
+halfGround = 2
+
+abbrev pub wingGround : ℕ
+wingGround = 3
+
 abbrev pub grounds : List ℕ
-grounds = 0 ∷ 1 ∷ 2 ∷ 3 ∷ []
+grounds = standardGround ∷ dollarGround ∷ halfGround ∷ wingGround ∷ []
 
 abbrev pub gridOf : Setting → ℕ → ℕ → Bool
 gridOf s zero h = standardGrid (s .class) (cents h)

@@ -3,10 +3,10 @@ use Prim.Native.Nat.{ℕ, zero, suc, _+_, _*_}
 use mathlib.Core.Bool.{Bool, true, false, cond, _&&_, _||_}
 use mathlib.Core.List.{List, [], _∷_}
 use lib.Dec.{leb, ltb, eqb}
-use Rattle.word.specs.Limits.{highestStrike}
+use Rattle.word.specs.Limits.{highestStrike, cents}
 use Rattle.rule.specs.declared.terms.Setting.{Setting}
 use Rattle.logic.specs.Lists.{some}
-use Rattle.rule.specs.Terms.{cents, inHalves, isDollarClass, isNear, price}
+use Rattle.rule.specs.Terms.{inHalves, isDollarClass, isNear, price}
 use Rattle.rule.specs.Grids.{oneDollar, fiveDollars, multiple, standardGrid, halfDollars, wingBase}
 
 -- the n lowest strikes that pass the test, of the `left` strikes from h up

@@ -7,8 +7,9 @@ use Rattle.word.specs.Field.{field}
 use Rattle.word.specs.Kinds.{keyOf, strikeKind, groundField}
 use Rattle.rule.specs.declared.terms.Setting.{Setting}
 use Rattle.logic.specs.Lists.{every}
-use Rattle.rule.specs.Terms.{halfDollar, cents, isLong}
-use Rattle.rule.specs.Grids.{oneDollar, twoFifty, fiveDollars}
+use Rattle.word.specs.Limits.{halfDollar, cents}
+use Rattle.rule.specs.Terms.{isLong}
+use Rattle.rule.specs.Grids.{oneDollar, twoFifty, fiveDollars, standardGround, dollarGround}
 
 -- a strike that stands, in half dollars, and its ground
 pub record Standing : Type 0 where
@@ -32,8 +33,8 @@ crowds dollar standard =
 -- more than $1 from every standing one, on any ground."
 abbrev pub clears : Setting → ℕ → ℕ → Standing → Bool
 clears s g h t =
-    not (eqb g 1 && eqb (t .ground) 0 && crowds h (t .strike))
-    && not (eqb g 0 && eqb (t .ground) 1 && crowds (t .strike) h)
+    not (eqb g dollarGround && eqb (t .ground) standardGround && crowds h (t .strike))
+    && not (eqb g standardGround && eqb (t .ground) dollarGround && crowds (t .strike) h)
     && not (isLong s && leb (apart (cents h) (cents (t .strike))) oneDollar)
 
 abbrev pub spacingOf : Setting → List Standing → ℕ → ℕ → Bool

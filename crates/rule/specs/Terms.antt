@@ -3,17 +3,10 @@
 use Prim.Native.Nat.{ℕ, _+_, _*_, _/_}
 use mathlib.Core.Bool.{Bool, not, _||_}
 use lib.Dec.{leb, ltb, eqb}
-use Rattle.word.specs.Limits.{monthsAhead}
+use Rattle.word.specs.Limits.{halfDollar, monthsAhead}
 use Rattle.word.specs.Class.{designation}
 use Rattle.word.specs.declared.class.ClassRecord.{ClassRecord}
 use Rattle.rule.specs.declared.terms.Setting.{Setting}
-
--- "K = 50 × h is the same strike in cents"
-abbrev pub halfDollar : ℕ
-halfDollar = 50
-
-abbrev pub cents : ℕ → ℕ
-cents h = halfDollar * h
 
 -- an amount of cents in half dollars, rounded down
 abbrev pub inHalves : ℕ → ℕ

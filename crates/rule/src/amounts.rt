@@ -1,8 +1,6 @@
 // The rules' amounts of money, in cents.
+use word::strike::HALF_DOLLAR;
 use word::strike::Strike;
-
-// What a strike is counted in.
-pub const HALF_DOLLAR: u32 = 50;
 
 pub const ONE_DOLLAR: u32 = 100;
 

@@ -6,7 +6,6 @@ ghost use Rattle.word.specs.Limits.{lastMonth, highestPrice};
 ghost use Rattle.rule.specs.Ends.{fifthAbove, isProgramClass, halfEnd, lowEnd, highEnd, dollarEnd, ladderEnd};
 ghost use Rattle.rule.specs.Ends.{rungs, mostOpen};
 use crate::amounts::FIVE_DOLLARS;
-use crate::amounts::HALF_DOLLAR;
 use crate::amounts::ONE_DOLLAR;
 use crate::amounts::TEN_DOLLARS;
 use crate::amounts::TWENTY_FIVE_DOLLARS;
@@ -20,10 +19,20 @@ use word::class::ClassRecord;
 use word::programs::DOLLAR_PRICE;
 use word::programs::HALF_PRICE;
 use word::programs::HALF_VOLUME;
+use word::strike::HALF_DOLLAR;
 use word::strike::Strike;
 
 // A price of at most $20 sets no lowest strike.
 const LOW_PRICE: u32 = 2000;
+
+// The five lowest strikes above a price below it are multiples of $2.50.
+const FIFTEEN_DOLLARS: u32 = 1500;
+
+// How many strikes above a price of at most $20 are in range whatever their distance.
+const RANGE_COUNT: u32 = 5;
+
+// A strike is at most twice the price when it is at most the price in quarters of a dollar.
+const QUARTER_DOLLAR: u32 = 25;
 
 // Where multiples of $2.50 end on the ladder, and those of $5.
 const LAST_TWO_FIFTY: Strike = Strike(TWENTY_FIVE_DOLLARS / HALF_DOLLAR);
@@ -58,15 +67,15 @@ fn fifth_above(whole: bool, dollar: bool, q: u32) -> u32
     ensures { λ r. ⌜ r ≡ fifthAbove whole dollar q ⌝ }
 {
     if whole {
-        return q / 2 * 2 + 10;
+        return (q / BY_ONE_DOLLAR + RANGE_COUNT) * BY_ONE_DOLLAR;
     }
     if dollar {
-        return q / 10 * 10 + 50;
+        return (q / BY_FIVE_DOLLARS + RANGE_COUNT) * BY_FIVE_DOLLARS;
     }
-    if q < 30 {
-        return q / 5 * 5 + 25;
+    if q < FIFTEEN_DOLLARS / HALF_DOLLAR {
+        return (q / BY_TWO_FIFTY + RANGE_COUNT) * BY_TWO_FIFTY;
     }
-    q / 5 * 10
+    q / BY_TWO_FIFTY * BY_FIVE_DOLLARS
 }
 
 // A $1 class whose close allows strikes of $1.
@@ -86,7 +95,10 @@ pub fn half_end(s: Setting) -> u32
     if is_long(s) | !is_half_class(class) | (HALF_PRICE < p) | (class.volume < HALF_VOLUME) {
         return 0;
     }
-    lower_of(higher_of(p / 25, p / HALF_DOLLAR + 5), Strike::FIVE_FIFTY.0)
+    lower_of(
+        higher_of(p / QUARTER_DOLLAR, p / HALF_DOLLAR + RANGE_COUNT),
+        Strike::FIVE_FIFTY.0,
+    )
 }
 
 // The lowest strike in range on the other grounds; a price of at most $20 sets none.
@@ -94,7 +106,11 @@ pub fn low_end(p: u32) -> u32
     requires { ⌜ p ≤ highestPrice ⌝ }
     ensures { λ r. ⌜ r ≡ lowEnd p ⌝ }
 {
-    if LOW_PRICE < p { (p + 99) / 100 } else { 0 }
+    if LOW_PRICE < p {
+        (p + (ONE_DOLLAR - 1)) / ONE_DOLLAR
+    } else {
+        0
+    }
 }
 
 // The highest.
@@ -104,11 +120,11 @@ pub fn high_end(s: Setting) -> u32
 {
     let p = s.class.close;
     if LOW_PRICE < p {
-        return lower_of(3 * p / 100, Strike::HIGHEST.0);
+        return lower_of(3 * p / ONE_DOLLAR, Strike::HIGHEST.0);
     }
     let dollar = is_dollar_class(s.class);
     higher_of(
-        p / 25,
+        p / QUARTER_DOLLAR,
         fifth_above(!is_long(s) & dollar, dollar, p / HALF_DOLLAR),
     )
 }

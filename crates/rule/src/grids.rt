@@ -1,13 +1,11 @@
 // The grids of the four grounds, over strikes in cents.
 ghost use mathlib.Core.Path.{_≡_};
 ghost use Prim.Native.Nat.{_≤_};
-ghost use Rattle.word.specs.Limits.{highestStrike, lastMonth};
-ghost use Rattle.rule.specs.Terms.{cents};
+ghost use Rattle.word.specs.Limits.{highestStrike, lastMonth, cents};
 ghost use Rattle.rule.specs.Grids.{ladder, standardGrid, dollarGrid, halfDollars, halfGrid, wingAt, wingGrid};
 use crate::amounts::FIFTY_DOLLARS;
 use crate::amounts::FIVE_DOLLARS;
 use crate::amounts::FORTY_FIVE_DOLLARS;
-use crate::amounts::HALF_DOLLAR;
 use crate::amounts::ONE_DOLLAR;
 use crate::amounts::TEN_DOLLARS;
 use crate::amounts::THREE_DOLLARS;
@@ -23,7 +21,15 @@ use word::class::ClassRecord;
 use word::programs::DOLLAR_PRICE;
 use word::programs::HALF_PRICE;
 use word::programs::HALF_VOLUME;
+use word::strike::HALF_DOLLAR;
 use word::strike::Strike;
+
+// The numbers of the grounds that rules name.
+pub const STANDARD_GROUND: u32 = 0;
+
+pub const DOLLAR_GROUND: u32 = 1;
+
+pub const WING_GROUND: u32 = 3;
 
 fn on_ladder(k: u32) -> bool
     ensures { λ r. ⌜ r ≡ ladder k ⌝ }

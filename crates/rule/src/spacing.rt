@@ -5,15 +5,17 @@ ghost use Rattle.word.specs.Kinds.{strikeKind};
 ghost use Rattle.rule.specs.Spacing.{apart, crowds, clears, standingOf};
 ghost use Rattle.rule.specs.Judgement.{Judged};
 use crate::amounts::FIVE_DOLLARS;
-use crate::amounts::HALF_DOLLAR;
 use crate::amounts::ONE_DOLLAR;
 use crate::amounts::TWO_FIFTY;
+use crate::grids::DOLLAR_GROUND;
+use crate::grids::STANDARD_GROUND;
 use crate::terms::Setting;
 use crate::terms::is_long;
 use word::field::field_of;
 use word::kind::STRIKE;
 use word::kind::key_of;
 use word::strike::GROUND;
+use word::strike::HALF_DOLLAR;
 use word::strike::Strike;
 
 pub fn distance(a: u32, b: u32) -> u32
@@ -42,7 +44,7 @@ pub fn is_clear(s: Setting, g: u32, strike: Strike, w: u32) -> bool
 {
     let other = Strike(key_of(w, STRIKE));
     let ground = field_of(w, GROUND);
-    !((g == 1) & (ground == 0) & is_crowded(strike, other))
-        & !((g == 0) & (ground == 1) & is_crowded(other, strike))
+    !((g == DOLLAR_GROUND) & (ground == STANDARD_GROUND) & is_crowded(strike, other))
+        & !((g == STANDARD_GROUND) & (ground == DOLLAR_GROUND) & is_crowded(other, strike))
         & !(is_long(s) & (distance(strike.cents(), other.cents()) <= ONE_DOLLAR))
 }

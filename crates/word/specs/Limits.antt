@@ -1,6 +1,6 @@
 -- Document 01, "A price P is in cents, 1 to 999,999." to "a lent run of 1 to 65,535 words", and the limits of fields,
--- "(0 none, 1 ours, 2 another exchange's)": the limits of every number. Assumes nothing.
-use Prim.Native.Nat.{ℕ, _+_, min}
+-- "(0 none, 1 ours, 2 another exchange's)": the limits of every number, and a strike in cents. Assumes nothing.
+use Prim.Native.Nat.{ℕ, _+_, _*_, min}
 use mathlib.Core.Bool.{Bool, _&&_}
 use lib.Dec.{leb}
 
@@ -20,6 +20,13 @@ highestStrike = 19999
 
 abbrev pub isStrike : ℕ → Bool
 isStrike h = between 1 highestStrike h
+
+-- "K = 50 × h is the same strike in cents"
+abbrev pub halfDollar : ℕ
+halfDollar = 50
+
+abbrev pub cents : ℕ → ℕ
+cents h = halfDollar * h
 
 -- "A month is 0 to 1,023"
 abbrev pub lastMonth : ℕ

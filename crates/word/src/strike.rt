@@ -1,6 +1,7 @@
 // The strike type, and the words of strikes.
 ghost use mathlib.Core.Path.{_≡_};
-ghost use Prim.Native.Nat.{_*_, _<_};
+ghost use Prim.Native.Nat.{_<_};
+ghost use Rattle.word.specs.Limits.{cents};
 ghost use Rattle.word.specs.Strikes.{isMarkedIn, orderOf, isNextStrike};
 use crate::field::Field;
 use crate::field::field_of;
@@ -10,6 +11,9 @@ use crate::kind::STRIKE;
 use crate::kind::is_bare;
 use crate::kind::key_of;
 use crate::limits::is_ground;
+
+// What a strike is counted in, in cents.
+pub const HALF_DOLLAR: u32 = 50;
 
 // A strike, counted in half dollars.
 pub struct Strike(pub u32);
@@ -30,9 +34,9 @@ impl Strike {
     // The strike in cents.
     pub fn cents(self) -> u32
         requires { ⌜ self .0 < 65536 ⌝ }
-        ensures { λ r. ⌜ r ≡ 50 * self .0 ⌝ }
+        ensures { λ r. ⌜ r ≡ cents (self .0) ⌝ }
     {
-        50 * self.0
+        HALF_DOLLAR * self.0
     }
 }
 

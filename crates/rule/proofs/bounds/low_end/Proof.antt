@@ -5,6 +5,9 @@ use Rattle.rule.specs.Ranges.{lowPrice}
 use Rattle.rule.proofs.bounds.low_end.Statement.{statement}
 use Rattle.rule.proofs.bounds.low_end.Tie as tie
 
+sub-result : tie.Need-sub-result
+sub-result c = search needs
+
 add-result : tie.Need-add-result
 add-result c = search needs
 
@@ -15,4 +18,4 @@ returns-2 : tie.Need-returns-2
 returns-2 c = rw (le-ltb lowPrice _ (c .if1 .left))
 
 pub low-end-spec : {M : Type 1} → statement M
-low-end-spec = tie.close (tie.spec add-result returns returns-2)
+low-end-spec = tie.close (tie.spec sub-result add-result returns returns-2)

@@ -8,9 +8,9 @@ use native.Mathlib.Omega.{arith}
 use lib.Dec.{leb}
 use borrow.Author.Needs.{needs}
 use Rattle.logic.proofs.Tests.{T-true, and-where}
-use Rattle.word.specs.Limits.{highestStrike}
+use Rattle.word.specs.Limits.{highestStrike, cents}
 use Rattle.rule.specs.declared.terms.Setting.{Setting}
-use Rattle.rule.specs.Terms.{cents, inHalves, isLong, price}
+use Rattle.rule.specs.Terms.{inHalves, isLong, price}
 use Rattle.rule.specs.Grids.{gridOf, wingBase}
 use Rattle.rule.specs.Ranges.{rangeOf}
 use Rattle.rule.specs.Ends.{halfEnd, lowEnd, highEnd}
