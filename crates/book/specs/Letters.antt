@@ -6,25 +6,59 @@ use mathlib.Core.List.{List, [], _∷_}
 use lib.Dec.{eqb}
 use Rattle.book.specs.Calls.{ClassCall, Call, callM, on, callO, callC, callV, callD, callL, callJ, callX, callI, callR, callA, malformed}
 
+-- the letters of the calls, in ASCII
+abbrev pub letterM : ℕ
+letterM = 77
+
+abbrev pub letterO : ℕ
+letterO = 79
+
+abbrev pub letterC : ℕ
+letterC = 67
+
+abbrev pub letterV : ℕ
+letterV = 86
+
+abbrev pub letterD : ℕ
+letterD = 68
+
+abbrev pub letterL : ℕ
+letterL = 76
+
+abbrev pub letterJ : ℕ
+letterJ = 74
+
+abbrev pub letterX : ℕ
+letterX = 88
+
+abbrev pub letterI : ℕ
+letterI = 73
+
+abbrev pub letterR : ℕ
+letterR = 82
+
+abbrev pub letterA : ℕ
+letterA = 65
+
 -- `M m`, `O c`, `R c`
 abbrev pub callOfOne : ℕ → ℕ → Call
-callOfOne c a = cond (eqb c 77) (callM a) (cond (eqb c 79) (on a callO) (cond (eqb c 82) (on a callR) malformed))
+callOfOne c a = cond (eqb c letterM) (callM a) (cond (eqb c letterO) (on a callO) (cond (eqb c letterR) (on a callR) malformed))
 
 -- `C c P`, `V c n`, `A c m`
 abbrev pub callOfTwo : ℕ → ℕ → ℕ → Call
 callOfTwo c a b =
-    cond (eqb c 67) (on a (callC b)) (cond (eqb c 86) (on a (callV b)) (cond (eqb c 65) (on a (callA b)) malformed))
+    cond (eqb c letterC) (on a (callC b)) (cond (eqb c letterV) (on a (callV b)) (cond (eqb c letterA) (on a (callA b)) malformed))
 
 -- `D c p d`, `L c m h`, `J c m h`, `X c m h`
 abbrev pub callOfThree : ℕ → ℕ → ℕ → ℕ → Call
 callOfThree c a b d =
-    cond (eqb c 68) (on a (callD b d))
-    (cond (eqb c 76) (on a (callL b d))
-    (cond (eqb c 74) (on a (callJ b d)) (cond (eqb c 88) (on a (callX b d)) malformed)))
+    cond (eqb c letterD) (on a (callD b d))
+    (cond (eqb c letterL) (on a (callL b d))
+    (cond (eqb c letterJ) (on a (callJ b d)) (cond (eqb c letterX) (on a (callX b d)) malformed)))
 
 -- `I c m h a b`
 abbrev pub callOfFive : ℕ → ℕ → ℕ → ℕ → ℕ → ℕ → Call
-callOfFive c a b d e f = cond (eqb c 73) (on a (callI b d e f)) malformed
+callOfFive c a b d e f = cond (eqb c letterI) (on a (callI b d e f)) malformed
 
 -- the call of a letter and its numbers; "any other form, is malformed"
 unfoldable pub callOf : ℕ → List ℕ → Call
@@ -45,19 +79,19 @@ pub record Spelling : Type 0 where
 
 -- a call on the class c
 abbrev pub spelledOn : ℕ → ClassCall → Spelling
-spelledOn c callO = record { letter = 79; numbers = c ∷ [] }
-spelledOn c (callC p) = record { letter = 67; numbers = c ∷ p ∷ [] }
-spelledOn c (callV n) = record { letter = 86; numbers = c ∷ n ∷ [] }
-spelledOn c (callD p d) = record { letter = 68; numbers = c ∷ p ∷ d ∷ [] }
-spelledOn c (callL m h) = record { letter = 76; numbers = c ∷ m ∷ h ∷ [] }
-spelledOn c (callJ m h) = record { letter = 74; numbers = c ∷ m ∷ h ∷ [] }
-spelledOn c (callX m h) = record { letter = 88; numbers = c ∷ m ∷ h ∷ [] }
-spelledOn c (callI m h a b) = record { letter = 73; numbers = c ∷ m ∷ h ∷ a ∷ b ∷ [] }
-spelledOn c callR = record { letter = 82; numbers = c ∷ [] }
-spelledOn c (callA m) = record { letter = 65; numbers = c ∷ m ∷ [] }
+spelledOn c callO = record { letter = letterO; numbers = c ∷ [] }
+spelledOn c (callC p) = record { letter = letterC; numbers = c ∷ p ∷ [] }
+spelledOn c (callV n) = record { letter = letterV; numbers = c ∷ n ∷ [] }
+spelledOn c (callD p d) = record { letter = letterD; numbers = c ∷ p ∷ d ∷ [] }
+spelledOn c (callL m h) = record { letter = letterL; numbers = c ∷ m ∷ h ∷ [] }
+spelledOn c (callJ m h) = record { letter = letterJ; numbers = c ∷ m ∷ h ∷ [] }
+spelledOn c (callX m h) = record { letter = letterX; numbers = c ∷ m ∷ h ∷ [] }
+spelledOn c (callI m h a b) = record { letter = letterI; numbers = c ∷ m ∷ h ∷ a ∷ b ∷ [] }
+spelledOn c callR = record { letter = letterR; numbers = c ∷ [] }
+spelledOn c (callA m) = record { letter = letterA; numbers = c ∷ m ∷ [] }
 
 -- any call; a malformed line has no letter
 abbrev pub spelled : Call → Spelling
-spelled (callM m) = record { letter = 77; numbers = m ∷ [] }
+spelled (callM m) = record { letter = letterM; numbers = m ∷ [] }
 spelled (on c x) = spelledOn c x
 spelled malformed = record { letter = 0; numbers = [] }

@@ -28,7 +28,7 @@ isHolding kind key w = isOfKind kind w && eqb (keyOf kind w) key
 
 -- a kind of words and a key for which a grade has room
 pub record Gradable (kind : Kind) (key : ℕ) : Type 0 where
-  pub is-kind : kind .number < 16
+  pub is-kind : kind .number < 2 ^ kindField .width
   pub narrow : kind .width ≤ kindField .low
   pub small : key < 2 ^ kindField .low
 
@@ -73,7 +73,7 @@ guessWidth = 14
 
 -- words among which the first of the kind from the key on can be sought by guesses
 pub record Guessable (kind : Kind) (key : ℕ) (ws : List ℕ) : Type 0 where
-  pub is-kind : kind .number < 16
+  pub is-kind : kind .number < 2 ^ kindField .width
   pub narrow : kind .width ≤ guessWidth
   pub small : key < 2 ^ kind .width
   pub no-lower : T (every (isNoLower kind) ws)

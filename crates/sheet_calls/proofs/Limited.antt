@@ -4,7 +4,7 @@ use mathlib.Core.Path.{_≡_, refl, sym, ap, _∙_}
 use mathlib.Core.Logic.{⊎-elim}
 use mathlib.Core.Bool.{Bool, true, false, cond}
 use mathlib.Core.List.{List, [], _∷_, map}
-use Prim.Native.Nat.{ℕ}
+use Prim.Native.Nat.{ℕ, _-_}
 use native.Mathlib.Omega.{arith}
 use lib.Dec.{T, eqb, leb, leb→le, le→leb}
 use borrow.Author.Tests.{leb-true}
@@ -13,29 +13,33 @@ use Rattle.word.specs.declared.answer.Refusal.the-variants.{BeyondLimits}
 use Rattle.logic.specs.Lists.{every}
 use Rattle.book.specs.Facts.{Facts}
 use Rattle.book.specs.Calls.{Call, callM, on, callO, callC, callV, callD, callL, callJ, callX, callI, callR, callA, effectOn, effect, answerTo, written, step}
-use Rattle.book.specs.Letters.{callOf}
-use Rattle.text.specs.Reading.{capped}
+use Rattle.book.specs.Letters.{letterM, letterO, letterC, letterV, letterD, letterL, letterJ, letterX, letterI, letterR, letterA, callOf}
+use Rattle.text.specs.Reading.{numberCap, capped}
 use Rattle.logic.proofs.Tests.{and-intro, ands, parts, same-bool, same-leb, bool-cases}
 
 -- ---- numbers below the cap
 
+-- the last of them
+abbrev lastKept : ℕ
+lastKept = numberCap - 1
+
 abbrev areSmall : List ℕ → Bool
-areSmall ns = every (λ k. leb k 99999998) ns
+areSmall ns = every (λ k. leb k lastKept) ns
 
 capped-small : (ns : List ℕ) → areSmall (map capped ns) ≡ areSmall ns
 capped-small [] = refl
 capped-small (k ∷ ns) =
-    rw (capped-small ns, same-leb (capped k) 99999998 k 99999998 (λ l. omega arith) (λ l. omega arith))
+    rw (capped-small ns, same-leb (capped k) lastKept k lastKept (λ l. omega arith) (λ l. omega arith))
 
 small-kept : (ns : List ℕ) → areSmall ns ≡ true → map capped ns ≡ ns
 small-kept [] e = refl
 small-kept (k ∷ ns) e =
-    let kept : capped k ≡ k = omega (arith, leb-true k 99999998 (search parts)) in
+    let kept : capped k ≡ k = omega (arith, leb-true k lastKept (search parts)) in
     rw (kept, small-kept ns (search parts))
 
 -- a number within a limit
-under : (limit v : ℕ) → T (leb v limit) → T (leb limit 99999998) → T (leb v 99999998)
-under limit v t low = le→leb v 99999998 (omega (arith, leb→le v limit t, leb→le limit 99999998 low))
+under : (limit v : ℕ) → T (leb v limit) → T (leb limit lastKept) → T (leb v lastKept)
+under limit v t low = le→leb v lastKept (omega (arith, leb→le v limit t, leb→le limit lastKept low))
 
 -- ---- the numbers of a call within its limits, by its letter
 
@@ -50,21 +54,21 @@ module _ (f : Facts) where
   unfolding callOf effectOn
   numbers-small c [] t = tt
   numbers-small c (a ∷ []) t =
-      either (eqb c 77) (callM a) _ (λ t. search (ands, and-intro, under))
-      (either (eqb c 79) (on a callO) _ (λ t. search (ands, and-intro, under))
-      (either (eqb c 82) (on a callR) _ (λ t. search (ands, and-intro, under)) (λ t. absurd t))) t
+      either (eqb c letterM) (callM a) _ (λ t. search (ands, and-intro, under))
+      (either (eqb c letterO) (on a callO) _ (λ t. search (ands, and-intro, under))
+      (either (eqb c letterR) (on a callR) _ (λ t. search (ands, and-intro, under)) (λ t. absurd t))) t
   numbers-small c (a ∷ b ∷ []) t =
-      either (eqb c 67) (on a (callC b)) _ (λ t. search (ands, and-intro, under))
-      (either (eqb c 86) (on a (callV b)) _ (λ t. search (ands, and-intro, under))
-      (either (eqb c 65) (on a (callA b)) _ (λ t. search (ands, and-intro, under)) (λ t. absurd t))) t
+      either (eqb c letterC) (on a (callC b)) _ (λ t. search (ands, and-intro, under))
+      (either (eqb c letterV) (on a (callV b)) _ (λ t. search (ands, and-intro, under))
+      (either (eqb c letterA) (on a (callA b)) _ (λ t. search (ands, and-intro, under)) (λ t. absurd t))) t
   numbers-small c (a ∷ b ∷ d ∷ []) t =
-      either (eqb c 68) (on a (callD b d)) _ (λ t. search (ands, and-intro, under))
-      (either (eqb c 76) (on a (callL b d)) _ (λ t. search (ands, and-intro, under))
-      (either (eqb c 74) (on a (callJ b d)) _ (λ t. search (ands, and-intro, under))
-      (either (eqb c 88) (on a (callX b d)) _ (λ t. search (ands, and-intro, under)) (λ t. absurd t)))) t
+      either (eqb c letterD) (on a (callD b d)) _ (λ t. search (ands, and-intro, under))
+      (either (eqb c letterL) (on a (callL b d)) _ (λ t. search (ands, and-intro, under))
+      (either (eqb c letterJ) (on a (callJ b d)) _ (λ t. search (ands, and-intro, under))
+      (either (eqb c letterX) (on a (callX b d)) _ (λ t. search (ands, and-intro, under)) (λ t. absurd t)))) t
   numbers-small c (a ∷ b ∷ d ∷ e ∷ []) t = absurd t
   numbers-small c (a ∷ b ∷ d ∷ e ∷ g ∷ []) t =
-      either (eqb c 73) (on a (callI b d e g)) _ (λ t. search (ands, and-intro, under) depth 9) (λ t. absurd t) t
+      either (eqb c letterI) (on a (callI b d e g)) _ (λ t. search (ands, and-intro, under) depth 9) (λ t. absurd t) t
   numbers-small c (a ∷ b ∷ d ∷ e ∷ g ∷ h ∷ more) t = absurd t
 
   -- ---- so the plain book judges the call of the capped numbers as it judges the call on the sheet

@@ -65,16 +65,22 @@ abbrev pub isLength : ℕ → Bool
 isLength n = between 1 longestRun n
 
 -- "(0 none, 1 ours, 2 another exchange's)"
+abbrev pub highestDesignation : ℕ
+highestDesignation = 2
+
 abbrev pub isDesignation : ℕ → Bool
-isDesignation d = leb d 2
+isDesignation d = leb d highestDesignation
 
 -- "close in bits 0–19, 0 when none has come": no close yet, or a price
 abbrev pub isClose : ℕ → Bool
 isClose p = leb p highestPrice
 
 -- "ground in 15–17 (0 to 3)"
+abbrev pub highestGround : ℕ
+highestGround = 3
+
 abbrev pub isGround : ℕ → Bool
-isGround g = leb g 3
+isGround g = leb g highestGround
 
 -- "put open interest in 18, call open interest in 19 (1 yes)"
 abbrev pub isMark : ℕ → Bool

@@ -92,7 +92,7 @@ pub fn below_kind(w: u32) -> u32
 
 // `below`, the fields of a word, with its kind above them.
 pub fn with_kind(below: u32, k: Kind) -> u32
-    requires { ⌜ (below < 2 ^ kindField .low) × (k .number < 16) ⌝ }
+    requires { ⌜ (below < 2 ^ kindField .low) × (k .number < 2 ^ kindField .width) ⌝ }
     ensures { λ r. ⌜ r ≡ below + k .number * 2 ^ kindField .low ⌝ }
 {
     put_at(below, k.number, NUMBER)
@@ -100,7 +100,7 @@ pub fn with_kind(below: u32, k: Kind) -> u32
 
 // Whether a word is of the kind and has no other bit from bit `end` on.
 pub fn is_bare(w: u32, k: Kind, end: u32) -> bool
-    requires { ⌜ (end ≤ kindField .low) × (k .number < 16) ⌝ }
+    requires { ⌜ (end ≤ kindField .low) × (k .number < 2 ^ kindField .width) ⌝ }
     ensures { λ r. ⌜ r ≡ isBare k end w ⌝ }
 {
     w >> end == k.number << (NUMBER.low - end)
@@ -118,7 +118,7 @@ pub fn grade(w: u32, k: Kind) -> u32
 
 // The grade of a word of the kind with this key.
 pub fn grade_at(k: Kind, key: u32) -> u32
-    requires { ⌜ (k .number < 16) × (key < 2 ^ kindField .low) ⌝ }
+    requires { ⌜ (k .number < 2 ^ kindField .width) × (key < 2 ^ kindField .low) ⌝ }
     ensures { λ r. ⌜ r ≡ gradeAt k key ⌝ }
 {
     k.number * KINDRED + (HIGHEST_BELOW - key)
