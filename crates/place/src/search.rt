@@ -53,13 +53,13 @@ fn graded_of_16(block: &[u32], kind: Kind, most: u32) -> u32
     bits
 }
 
-// The index of the first word of a grade up to `most`, or the length: word by word.
-fn first_plainly(words: &[u32], kind: Kind, most: u32) -> usize
-    requires { ⌜ kind .width ≤ kindField .low ⌝ }
+// The index of the first word of a grade up to `most`, or the length: word by word from `from` on, before which none is.
+fn first_plainly(words: &[u32], from: usize, kind: Kind, most: u32) -> usize
+    requires { ⌜ (from ≤ firstAt (λ w. leb (gradeOf kind w) most) (now words)) × (kind .width ≤ kindField .low) ⌝ }
     ensures { λ r. ⌜ (r ≡ firstAt (λ w. leb (gradeOf kind w) most) (now (words .entry)))
         × (r ≤ length (now (words .entry))) ⌝ }
 {
-    let mut i = 0;
+    let mut i = from;
     while i < words.len() {
         if grade(words[i], kind) <= most {
             return i;
@@ -84,7 +84,7 @@ pub fn first(words: &[u32], kind: Kind, key: u32) -> usize
         }
         i += BLOCK;
     }
-    i + first_plainly(&words[i..words.len()], kind, most)
+    first_plainly(&words[..], i, kind, most)
 }
 
 // Whether a word is of the kind and holds the key.

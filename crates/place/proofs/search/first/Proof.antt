@@ -1,6 +1,5 @@
 -- `first` finds the first word by blocks: what is left of the words has it, until the block at the index has it or
--- fewer
--- words than a block has are left. Assumes nothing.
+-- fewer words than a block has are left. Assumes nothing.
 use Prim.Native.Nat.{ℕ, _+_, _-_, _≤_}
 use mathlib.Core.Path.{_≡_, ap, _∙_}
 use native.Mathlib.Omega.{arith}
@@ -13,7 +12,7 @@ use Rattle.place.specs.Search.{isUpTo}
 use Rattle.place.proofs.Blocks.{seek-digit, seek-no-digit}
 use Rattle.place.proofs.search.first.Statement.{statement}
 use Rattle.place.proofs.search.first.Tie as tie
-use Rattle.logic.proofs.Firsts.{Seeking, seek-start, seek-rest}
+use Rattle.logic.proofs.Firsts.{Seeking, seek-start}
 use Rattle.logic.specs.Lists.{firstAt}
 
 abbrev Inv-loop : tie.InvT-loop
@@ -103,29 +102,15 @@ loop-again c =
     let l = c .before .before .before .before .loop in
     seek-no-digit _ _ (l .i) (l .inv) 16 _ (omega arith) (c .before .graded-of-16 .ensures) (c .if1 .left)
 
-mul-first-plainly : tie.Need-mul-first-plainly Inv-loop μ-loop
-mul-first-plainly c = search needs
-
-sub-first-plainly : tie.Need-sub-first-plainly Inv-loop μ-loop
-sub-first-plainly c = search needs
-
-part-first-plainly-start : tie.Need-part-first-plainly-start Inv-loop μ-loop
-part-first-plainly-start c = search needs
-
-part-first-plainly-end : tie.Need-part-first-plainly-end Inv-loop μ-loop
-part-first-plainly-end c = search needs
-
 first-plainly-requires : tie.Need-first-plainly-requires Inv-loop μ-loop
-first-plainly-requires c κs = search needs
-
-add-result-2 : tie.Need-add-result-2 Inv-loop μ-loop
-add-result-2 c = search needs
+first-plainly-requires c κs =
+    let at = c .before in
+    (omega (arith, at .loop .inv .onward), search needs)
 
 returns-2 : tie.Need-returns-2 Inv-loop μ-loop
 returns-2 c =
-    let at = c .before .before .before in
-    let found = seek-rest _ _ _ (at .loop .inv) _ (c .first-plainly .ensures .0) in
-    (found .0 ∙ graded at, found .1)
+    let at = c .before .before in
+    (c .first-plainly .ensures .0 ∙ graded at, c .first-plainly .ensures .1)
 
 pub first-spec : {M : Type 1} → statement M
 first-spec =
@@ -149,10 +134,5 @@ first-spec =
     add-i
     loop-less
     loop-again
-    mul-first-plainly
-    sub-first-plainly
-    part-first-plainly-start
-    part-first-plainly-end
     first-plainly-requires
-    add-result-2
     returns-2)

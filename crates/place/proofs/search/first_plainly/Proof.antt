@@ -10,16 +10,16 @@ use borrow.Author.Tests.{le-leb, lt-leb}
 use Rattle.word.specs.Kinds.{gradeOf}
 use Rattle.place.proofs.search.first_plainly.Statement.{statement}
 use Rattle.place.proofs.search.first_plainly.Tie as tie
-use Rattle.logic.proofs.Firsts.{Seeking, seek-start, seek-hit, seek-miss, seek-end}
+use Rattle.logic.proofs.Firsts.{Seeking, seek-before, seek-hit, seek-miss, seek-end}
 
 abbrev Inv-loop : tie.InvT-loop
-Inv-loop words kind most i₀ i = Seeking (λ w. leb (gradeOf kind w) most) words i
+Inv-loop words from kind most i₀ i = Seeking (λ w. leb (gradeOf kind w) most) words i
 
 abbrev μ-loop : tie.MeasureT-loop
-μ-loop words kind most i₀ i = length words - i
+μ-loop words from kind most i₀ i = length words - i
 
 loop-holds : tie.Need-loop-holds Inv-loop μ-loop
-loop-holds c = seek-start _ _
+loop-holds c = seek-before _ _ _ (c .before .pre .0)
 
 mul-grade : tie.Need-mul-grade Inv-loop μ-loop
 mul-grade c = search needs
