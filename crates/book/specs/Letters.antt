@@ -42,12 +42,15 @@ letterA = 65
 
 -- `M m`, `O c`, `R c`
 abbrev pub callOfOne : ℕ → ℕ → Call
-callOfOne c a = cond (eqb c letterM) (callM a) (cond (eqb c letterO) (on a callO) (cond (eqb c letterR) (on a callR) malformed))
+callOfOne c a =
+    cond (eqb c letterM) (callM a)
+    (cond (eqb c letterO) (on a callO) (cond (eqb c letterR) (on a callR) malformed))
 
 -- `C c P`, `V c n`, `A c m`
 abbrev pub callOfTwo : ℕ → ℕ → ℕ → Call
 callOfTwo c a b =
-    cond (eqb c letterC) (on a (callC b)) (cond (eqb c letterV) (on a (callV b)) (cond (eqb c letterA) (on a (callA b)) malformed))
+    cond (eqb c letterC) (on a (callC b))
+    (cond (eqb c letterV) (on a (callV b)) (cond (eqb c letterA) (on a (callA b)) malformed))
 
 -- `D c p d`, `L c m h`, `J c m h`, `X c m h`
 abbrev pub callOfThree : ℕ → ℕ → ℕ → ℕ → Call

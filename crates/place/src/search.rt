@@ -53,7 +53,7 @@ fn graded_of_16(block: &[u32], kind: Kind, most: u32) -> u32
     bits
 }
 
-// The index of the first word of a grade up to `most`, or the length: word by word from `from` on, before which none is.
+// The index of the first word of a grade up to `most`, or the length: word by word from `from` on. None stands before.
 fn first_plainly(words: &[u32], from: usize, kind: Kind, most: u32) -> usize
     requires { ⌜ (from ≤ firstAt (λ w. leb (gradeOf kind w) most) (now words)) × (kind .width ≤ kindField .low) ⌝ }
     ensures { λ r. ⌜ (r ≡ firstAt (λ w. leb (gradeOf kind w) most) (now (words .entry)))

@@ -242,7 +242,9 @@ module _ (s : Setting) where
           subst T (five-half-dollars p h) b in
           omega (arith, leb→le h (inHalves p + rangeCount) (search ands))
 
-  half-near : (h : ℕ) → halfAsked ≡ true → h ≤ min (max (p / quarterDollar) (inHalves p + rangeCount)) (inHalves fiveFifty) →
+  half-near :
+      (h : ℕ) → halfAsked ≡ true →
+      h ≤ min (max (p / quarterDollar) (inHalves p + rangeCount)) (inHalves fiveFifty) →
       (halfGrid s (cents h) ≡ true) × (rangeBy halfDollars p h ≡ true)
   half-near h a m =
       let cheap : p ≤ halfPrice = half-price a in

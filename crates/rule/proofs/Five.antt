@@ -172,7 +172,8 @@ half-end q h low high =
         ltb h (endAbove halfDollars q) ≡ leb h (q + rangeCount)
     go true e end = same-leb (suc h) (endAbove halfDollars q) h (q + rangeCount) (λ l. omega arith) (λ l. omega arith)
     go false e end =
-        lt-ltb h (endAbove halfDollars q) (omega arith) ∙ sym (le-leb h (q + rangeCount) (omega (arith, ltb-false q 7 e)))
+        lt-ltb h (endAbove halfDollars q) (omega arith)
+        ∙ sym (le-leb h (q + rangeCount) (omega (arith, ltb-false q 7 e)))
 
 pub five-half-dollars : (p h : ℕ) →
     amongFive halfDollars p h ≡ (ltb (inHalves p) h && leb h (inHalves p + rangeCount) && halfDollars (cents h))
