@@ -8,6 +8,7 @@ ghost use lib.Dec.{eqb};
 ghost use lib.ListN.{length, set};
 ghost use lib.Seq.{sets};
 ghost use Rattle.logic.specs.Lists.{some};
+ghost use Rattle.rule.specs.Ends.{highEnd};
 ghost use Rattle.rule.specs.Spacing.{standingOf};
 ghost use Rattle.rule.specs.Judgement.{isPermittedBeside};
 ghost use Rattle.permitted.specs.Listing.{Listable, Triable, OpenTriable, Continuable, Climbable, Continued};
@@ -199,14 +200,13 @@ fn write_range(
     reached
 }
 
-// Writes the permitted strikes, rising, as far as `out` has places, and answers how many there are.
-pub fn write_permitted(s: Setting, standing: &[u32], out: &mut [u32]) -> u32
-    requires { ⌜ Listable s (now standing) ⌝ }
+// Writes the permitted strikes up to `high`, rising, as far as `out` has places, and answers how many there are.
+fn write_permitted(s: Setting, standing: &[u32], high: u32, out: &mut [u32]) -> u32
+    requires { ⌜ Listable s (now standing) × (high ≡ highEnd s) ⌝ }
     ensures { λ r. ⌜ r ≡ length (permittedBeside s (now (standing .entry))) ⌝ }
     ensures { λ _. ⌜ now (out .exit) ≡ sets (now (out .entry)) 0 (permittedBeside s (now (standing .entry))) ⌝ }
 {
     let low = higher_of(low_end(s.class.close), 1);
-    let high = high_end(s);
     let none = Progress { from: 0, count: 0 };
     let done = write_range(s, standing, rungs_of(s), Range { low, high }, none, out);
     done.count
@@ -218,13 +218,14 @@ pub fn list_permitted(s: Setting, standing: &[u32], second: &mut [u32]) -> Answe
     requires { ⌜ Listable s (now standing) ⌝ }
     ensures { λ r. ⌜ Filled (permittedBeside s (now (standing .entry))) (now (second .entry)) r (now (second .exit)) ⌝ }
 {
-    let mut room = if second.len() < most_open(s) as usize {
+    let high = high_end(s);
+    let mut room = if second.len() < most_open(high) as usize {
         0
     } else {
         second.len()
     };
     loop {
-        let count = write_permitted(s, standing, &mut second[0..room]);
+        let count = write_permitted(s, standing, high, &mut second[0..room]);
         if second.len() < count as usize {
             return Answer::Refused(Refusal::OutOfWords(count));
         }

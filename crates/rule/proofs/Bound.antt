@@ -203,6 +203,15 @@ module _ (s : Setting) where
           (omega (arith, fifth-least (isNear s && dollar) dollar (inHalves p) (omega arith)))
       go false a = omega arith
 
+  pub half-most : halfEnd s ≤ inHalves fiveFifty
+  half-most = go halfAsked
+    where
+      go : (t : Bool) →
+          cond {A = ℕ} t (min (max (p / quarterDollar) (inHalves p + rangeCount)) (inHalves fiveFifty)) 0
+          ≤ inHalves fiveFifty
+      go true = omega arith
+      go false = omega arith
+
   -- on the grid of Half the price sets no lowest strike
   pub half-low : (h : ℕ) → halfGrid s (cents h) ≡ true → lowEnd p ≡ 0
   half-low h grid =

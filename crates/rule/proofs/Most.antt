@@ -1,4 +1,4 @@
--- The permitted strikes end where the range does, and are at most as many as Half gives and half of those above,
+-- The permitted strikes end where the range does, and are at most as many as Half can give and half of those above,
 -- rounded up on each rung: past Half no two neighbours stand on one rung. Assumes nothing.
 use mathlib.Core.Path.{_≡_, refl, sym, ap, _∙_}
 use mathlib.Core.Bool.{Bool, true, false, cond, and-false}
@@ -20,7 +20,7 @@ use Rattle.rule.specs.Spacing.{Standing}
 use Rattle.word.specs.Answers.{isAccepted}
 use Rattle.rule.specs.Judgement.{judgement, isPermittedBeside, permitted}
 use Rattle.rule.proofs.Rungs.{On}
-use Rattle.rule.proofs.Bound.{high-strike, half-within}
+use Rattle.rule.proofs.Bound.{high-strike, half-within, half-most}
 use Rattle.rule.proofs.Open.{accepted-open, permitted-open, open-given, closed-above}
 
 -- each rung's step is at least $1
@@ -95,7 +95,7 @@ module _ (s : Setting) (standing : List Standing) where
   abbrev test : ℕ → Bool
   test = isPermittedBeside s standing
 
-  pub permitted-most : length (permitted s standing) ≤ mostOpen s
+  pub permitted-most : length (permitted s standing) ≤ mostOpen (highEnd s)
   permitted-most =
       let half : ℕ = halfEnd s in
       let rest : ℕ = highEnd s - half in
@@ -104,7 +104,7 @@ module _ (s : Setting) (standing : List Standing) where
       let above : 2 * passing test rest (1 + half) ≤ rest + length (drop 1 (rungs s)) =
       passing-most test (drop 1 (rungs s)) (omega arith) tt rest (1 + half)
       (λ x l k e. past x l (open-given s x (permitted-open s x standing (true-T _ e)) .on)) in
-      omega (arith, passing-all test half 1, half-within s)
+      omega (arith, passing-all test half 1, half-within s, half-most s)
     where
       past : (x : ℕ) → 1 + halfEnd s ≤ x → On (rungs s) x → On (drop 1 (rungs s)) x
       past x l on = rw (lt-leb x (halfEnd s) (omega arith)) at on

@@ -5,7 +5,6 @@ use mathlib.Core.Path.{_≡_}
 use mathlib.Core.Bool.{Bool, true, false, cond, _&&_}
 use mathlib.Core.List.{List, [], _∷_}
 use lib.Dec.{leb, ltb}
-use lib.ListN.{length}
 use Rattle.word.specs.Limits.{highestStrike, halfDollar}
 use Rattle.word.specs.declared.class.ClassRecord.{ClassRecord}
 use Rattle.rule.specs.declared.terms.Setting.{Setting}
@@ -94,9 +93,14 @@ rungs s =
     rung lastFive (inHalves fiveDollars) true ∷
     rung highestStrike (inHalves tenDollars) true ∷ []
 
--- how many strikes are open at most: all that Half gives, and half of those above, rounded up on each rung
-abbrev pub mostOpen : Setting → ℕ
-mostOpen s = (halfEnd s + highEnd s + length (rungs s)) / 2
+-- how many rungs the table has
+abbrev pub rungCount : ℕ
+rungCount = 5
+
+-- how many strikes are open at most where `high` is the highest in range: all that Half can give, and half of those
+-- above, rounded up on each rung
+abbrev pub mostOpen : ℕ → ℕ
+mostOpen high = (inHalves fiveFifty + high + rungCount) / 2
 
 -- the rung at the height h: the first that reaches it, else the last
 abbrev pub rungAt : List Rung → ℕ → Rung

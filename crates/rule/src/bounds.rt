@@ -2,7 +2,7 @@
 // goes by the height.
 ghost use mathlib.Core.Path.{_≡_};
 ghost use Prim.Native.Nat.{_^_, _<_, _≤_, min, max};
-ghost use Rattle.word.specs.Limits.{lastMonth, highestPrice};
+ghost use Rattle.word.specs.Limits.{lastMonth, highestPrice, highestStrike};
 ghost use Rattle.rule.specs.Ends.{fifthAbove, isProgramClass, halfEnd, lowEnd, highEnd, dollarEnd, ladderEnd};
 ghost use Rattle.rule.specs.Ends.{rungs, mostOpen};
 use crate::amounts::FIVE_DOLLARS;
@@ -199,10 +199,11 @@ pub fn rungs_of(s: Setting) -> Rungs
     ]
 }
 
-// At most so many strikes are open: all that Half gives, and half of those above, rounded up on each rung.
-pub fn most_open(s: Setting) -> u32
-    requires { ⌜ (s .class .close ≤ highestPrice) × (s .current ≤ lastMonth) ⌝ }
-    ensures { λ r. ⌜ r ≡ mostOpen s ⌝ }
+// At most so many strikes are open where `high` is the highest in range: all that Half can give, and half of those
+// above, rounded up on each rung.
+pub fn most_open(high: u32) -> u32
+    requires { ⌜ high ≤ highestStrike ⌝ }
+    ensures { λ r. ⌜ r ≡ mostOpen high ⌝ }
 {
-    (half_end(s) + high_end(s) + RUNGS as u32) / 2
+    (Strike::FIVE_FIFTY.0 + high + RUNGS as u32) / 2
 }

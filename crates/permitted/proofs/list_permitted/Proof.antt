@@ -9,20 +9,29 @@ use lib.ListN.{length}
 use borrow.Author.Needs.{needs}
 use Rattle.rule.specs.Spacing.{standingOf}
 use Rattle.rule.specs.Judgement.{permitted}
+use Rattle.rule.proofs.Bound.{high-strike}
 use Rattle.rule.proofs.Most.{permitted-most}
 use Rattle.permitted.proofs.Filled.{Turn, turn-within, same-long, filled-not, filled-all, turn-less, turn-again}
 use Rattle.permitted.proofs.list_permitted.Statement.{statement}
 use Rattle.permitted.proofs.list_permitted.Tie as tie
 
 abbrev Inv-loop : tie.InvT-loop
-Inv-loop s standing second₀ room₀ second room =
+Inv-loop s standing second₀ high room₀ second room =
     Turn (permitted s (map standingOf standing)) second₀ second room
 
 abbrev μ-loop : tie.MeasureT-loop
-μ-loop s standing second₀ room₀ second room = length second - room
+μ-loop s standing second₀ high room₀ second room = length second - room
+
+-- ---- places
+
+abbrev start : tie.After-high-end Inv-loop μ-loop → tie.Start Inv-loop μ-loop
+start p = p .before .before .before
+
+high-end-requires : tie.Need-high-end-requires Inv-loop μ-loop
+high-end-requires c κs = search needs
 
 most-open-requires : tie.Need-most-open-requires Inv-loop μ-loop
-most-open-requires c κs = search needs
+most-open-requires c κs = rw (c .high-end .ensures) (high-strike (start c .args .s))
 
 cast-if1 : tie.Need-cast-if1 Inv-loop μ-loop
 cast-if1 c = search needs
@@ -30,13 +39,14 @@ cast-if1 c = search needs
 loop-holds : tie.Need-loop-holds Inv-loop μ-loop
 loop-holds c =
     let most = c .before in
-    let args = most .before .before .before .args in
+    let end = most .before in
+    let args = start end .args in
     let few = permitted-most (args .s) (map standingOf (args .standing .now)) in
     record {
       same = refl;
       lent =
           ⊎-elim (λ w. inl (w .1))
-          (λ w. inr (w .1, omega (arith, w .0 .left, most .most-open .ensures)))
+          (λ w. inr (w .1, omega (arith, w .0 .left, most .most-open .ensures, end .high-end .ensures)))
           (c .if1 .came);
     }
 
@@ -91,6 +101,7 @@ list-permitted-spec =
     (tie.spec
     Inv-loop
     μ-loop
+    high-end-requires
     most-open-requires
     cast-if1
     loop-holds

@@ -14,7 +14,7 @@ use Rattle.permitted.proofs.write_permitted.Tie as tie
 abbrev start : tie.After-higher-of → tie.Start
 start p = p .before .before .before .before
 
-abbrev ranged : tie.After-write-range → tie.After-high-end
+abbrev ranged : tie.After-write-range → tie.After-higher-of
 ranged p = p .before .before .before
 
 low-end-requires : tie.Need-low-end-requires
@@ -22,9 +22,6 @@ low-end-requires c κs = search needs
 
 higher-of-requires : tie.Need-higher-of-requires
 higher-of-requires c κs = search needs
-
-high-end-requires : tie.Need-high-end-requires
-high-end-requires c κs = search needs
 
 rungs-of-requires : tie.Need-rungs-of-requires
 rungs-of-requires c κs = search needs
@@ -36,18 +33,17 @@ begins c = c .higher-of .ensures ∙ ap (λ (n : ℕ). max n 1) (c .before .low-
 write-range-requires : tie.Need-write-range-requires
 write-range-requires c κs =
     let table = c .before in
-    let high = table .before in
-    let at = start (high .before) in
-    rw (table .rungs-of .ensures, high .high-end .ensures)
-    (range-climbs (at .args .s) (at .args .standing .now) (begins (high .before)) (at .pre))
+    let low = table .before in
+    let at = start low in
+    rw (table .rungs-of .ensures, at .pre .1)
+    (range-climbs (at .args .s) (at .args .standing .now) (begins low) (at .pre .0))
 
 returns : tie.Need-returns
 returns c =
     let w = c .before .before in
-    let high = ranged w in
-    let args = start (high .before) .args in
-    range-done (args .s) (args .standing .now) (begins (high .before))
-    (rw (high .high-end .ensures) at (w .write-range .ensures))
+    let low = ranged w in
+    let at = start low in
+    range-done (at .args .s) (at .args .standing .now) (begins low) (rw (at .pre .1) at (w .write-range .ensures))
 
 same-length : tie.Need-same-length
 same-length c = ap length (returns c .1) ∙ simp length-sets
@@ -58,7 +54,6 @@ write-permitted-spec =
     (tie.spec
     low-end-requires
     higher-of-requires
-    high-end-requires
     rungs-of-requires
     write-range-requires
     same-length
