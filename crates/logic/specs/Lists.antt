@@ -1,4 +1,4 @@
--- Words that document 01's sentences are said in: tests and sums over lists, orders of lists, and the numbers from one
+-- Inner: the words that definitions are said in: tests and sums over lists, orders of lists, and the numbers from one
 -- on. Assumes nothing.
 use Prim.Native.Nat.{ℕ, zero, suc, _+_, _<_}
 use mathlib.Core.Bool.{Bool, true, false, cond, _&&_, _||_}
