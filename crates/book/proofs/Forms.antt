@@ -1,20 +1,16 @@
--- Well-formed facts as a record of facts, numbers where sums are compared, the same for either program: by the parts of
+-- Well-formed facts as a record of facts, numbers where sums are compared, the same for every program: by the parts of
 -- the test. Assumes nothing.
-use Prim.Native.Nat.{ℕ, _+_, _-_, _≤_}
-use native.Mathlib.Omega.{arith}
-use mathlib.Core.Path.{_≡_, sym, subst}
+use Prim.Native.Nat.{ℕ, _≤_}
 use mathlib.Core.Bool.{Bool, _&&_}
 use mathlib.Core.List.{List}
-use lib.ListN.{getD}
-use lib.Dec.{T, leb, leb→le, le→leb}
+use lib.Dec.{T, leb→le, le→leb}
 use Rattle.logic.specs.Lists.{rises, every}
 use Rattle.word.specs.Limits.{isLength, isMonth}
-use Rattle.word.specs.Programs.{programs, programCount, isProgram, program, dollarProgram}
+use Rattle.word.specs.Programs.{isProgram, program}
 use Rattle.book.specs.Facts.{Series, Facts, isBelow, precedes, owned, wordsTaken}
-use Rattle.book.specs.Books.{isSeries, isClass, isCapKept, isWellFormed}
+use Rattle.book.specs.Books.{isSeries, isClass, isWellFormed}
 use Rattle.logic.proofs.Tests.{and-intro, ands}
-use Rattle.logic.proofs.Lists.{every-at, every-places}
-use Rattle.book.proofs.ProgramTable.{program-number}
+use Rattle.book.proofs.ProgramTable.{caps-at, caps-kept}
 
 -- the series of a class
 abbrev pub areSeries : ℕ → List Series → Bool
@@ -37,18 +33,8 @@ well n f t =
       month = search ands;
       limits = search ands;
       order = search ands;
-      caps = λ p k.
-          cap p (leb→le 1 p (search ands)) (leb→le p programCount (search ands));
+      caps = caps-at (λ p. owned p (f .classes)) (search ands depth 12);
     }
-  where
-    kept : T (every (isCapKept (f .classes)) programs)
-    kept = search ands depth 12
-
-    cap : (p : ℕ) → 1 ≤ p → p ≤ programCount → owned p (f .classes) ≤ program p .cap
-    cap p low high =
-        leb→le (owned p (f .classes)) (program p .cap)
-        (subst (λ (q : ℕ). T (leb (owned q (f .classes)) (program p .cap))) (program-number p low high)
-        (every-at (isCapKept (f .classes)) dollarProgram programs (p - 1) (omega (arith, low, high)) kept))
 
 pub well-formed : (n : ℕ) (f : Facts) → Well n f → T (isWellFormed n f)
 unfolding isWellFormed
@@ -58,16 +44,5 @@ well-formed n f w =
     let limits = w .limits in
     let order = w .order in
     let room = le→leb (wordsTaken f) n (w .room) in
-    let caps : T (every (isCapKept (f .classes)) programs) =
-    every-places (isCapKept (f .classes)) dollarProgram programs
-    (λ i l.
-    let high : i + 1 ≤ programCount = omega (arith, l) in
-    let place : i + 1 - 1 ≡ i = omega arith in
-    subst (λ (j : ℕ). T (isCapKept (f .classes) (getD programs j dollarProgram))) place
-    (subst (λ (p : ℕ). T (leb (owned p (f .classes)) (program (i + 1) .cap)))
-    (sym (program-number (i + 1) (omega arith) high))
-    (le→leb (owned (i + 1) (f .classes)) (program (i + 1) .cap)
-    (w .caps (i + 1)
-    (and-intro (leb 1 (i + 1)) (leb (i + 1) programCount) (le→leb 1 (i + 1) (omega arith))
-    (le→leb (i + 1) programCount high)))))) in
+    let caps = caps-kept (λ p. owned p (f .classes)) (w .caps) in
     search and-intro depth 12

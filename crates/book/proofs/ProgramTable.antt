@@ -1,27 +1,54 @@
--- The table of programs and the designations of a class: a program's place in both is its number. By cases and by
--- induction. Assumes nothing.
-use Prim.Native.Nat.{ℕ, zero, suc, _≤_, _<_}
-use mathlib.Core.Path.{_≡_, refl, ap}
+-- The table of programs and the designations of a class: a program's place in both is its number. By a row for each
+-- program and by induction. Assumes nothing.
+use Prim.Native.Nat.{ℕ, zero, suc, _+_, _-_, _≤_, _<_}
+use mathlib.Core.Path.{_≡_, refl, sym, ap, subst}
 use mathlib.Core.List.{List, [], _∷_}
 use native.Mathlib.Omega.{arith}
-use lib.ListN.{length, set}
-use lib.Dec.{T}
+use lib.ListN.{length, getD, set}
+use lib.Dec.{T, leb, leb→le, le→leb}
+use Rattle.logic.specs.Lists.{every}
 use Rattle.word.specs.Limits.{isDesignation, longestRun}
-use Rattle.word.specs.Programs.{Program, programCount, program, areDesignations}
-use Rattle.logic.proofs.Tests.{and-left, and-right, and-intro}
+use Rattle.word.specs.Caps.{isCapKept}
+use Rattle.word.specs.Field.{Readable}
+use Rattle.word.specs.Programs.{Program, programs, programCount, isProgram, program, dollarProgram, areDesignations}
+use Rattle.word.proofs.EachProgram.{each-program}
+use Rattle.logic.proofs.Tests.{and-left, and-right, and-intro, ands}
+use Rattle.logic.proofs.Lists.{every-at, every-places}
 
--- the program of a number has that number
-pub program-number : (p : ℕ) → 1 ≤ p → p ≤ programCount → program p .number ≡ p
-program-number zero low high = absurd (omega (arith, low))
-program-number (suc zero) low high = refl
-program-number (suc (suc zero)) low high = refl
-program-number (suc (suc (suc p))) low high = absurd (omega (arith, high))
+-- the program of a number has that number, a cap below the longest run's words, and bits that a word has
+pub record Tabled (p : ℕ) : Type 0 where
+  pub number : program p .number ≡ p
+  pub cap : program p .cap < longestRun
+  pub bits : Readable (program p .bits)
 
-pub cap-small : (p : ℕ) → 1 ≤ p → p ≤ programCount → program p .cap < longestRun
-cap-small zero low high = absurd (omega (arith, low))
-cap-small (suc zero) low high = omega arith
-cap-small (suc (suc zero)) low high = omega arith
-cap-small (suc (suc (suc p))) low high = absurd (omega (arith, high))
+pub tabled : (p : ℕ) → T (isProgram p) → Tabled p
+tabled =
+    each-program Tabled (
+      record { number = refl; cap = omega arith; bits = (omega arith, omega arith) },
+      (record { number = refl; cap = omega arith; bits = (omega arith, omega arith) }, tt),
+    )
+
+-- each cap is kept exactly when it is of each program's number
+module _ (counts : ℕ → ℕ) where
+  pub caps-at : T (every (isCapKept counts) programs) → (p : ℕ) → T (isProgram p) → counts p ≤ program p .cap
+  caps-at kept p k =
+      let low : 1 ≤ p = leb→le 1 p (search ands) in
+      let high : p ≤ programCount = leb→le p programCount (search ands) in
+      leb→le (counts p) (program p .cap)
+      (subst (λ (q : ℕ). T (leb (counts q) (program p .cap))) (tabled p k .number)
+      (every-at (isCapKept counts) dollarProgram programs (p - 1) (omega arith) kept))
+
+  pub caps-kept : ((p : ℕ) → T (isProgram p) → counts p ≤ program p .cap) → T (every (isCapKept counts) programs)
+  caps-kept caps =
+      every-places (isCapKept counts) dollarProgram programs
+      (λ i l.
+      let k : T (isProgram (i + 1)) =
+      and-intro (leb 1 (i + 1)) (leb (i + 1) programCount) (le→leb 1 (i + 1) (omega arith))
+      (le→leb (i + 1) programCount (omega (arith, l))) in
+      let place : i + 1 - 1 ≡ i = omega arith in
+      subst (λ (j : ℕ). T (isCapKept counts (getD programs j dollarProgram))) place
+      (subst (λ (p : ℕ). T (leb (counts p) (program (i + 1) .cap))) (sym (tabled (i + 1) k .number))
+      (le→leb (counts (i + 1)) (program (i + 1) .cap) (caps (i + 1) k))))
 
 pub designations-length : (gs : List Program) (ds : List ℕ) → T (areDesignations gs ds) → length ds ≡ length gs
 designations-length [] [] t = refl

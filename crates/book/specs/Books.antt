@@ -7,7 +7,8 @@ use lib.ListN.{length}
 use lib.Dec.{eqb, leb}
 use Rattle.word.specs.Limits.{isStrike, isMonth, monthsAhead, isLength, isGround, isMark}
 use Rattle.logic.specs.Lists.{every, rises}
-use Rattle.word.specs.Programs.{Program, programs}
+use Rattle.word.specs.Caps.{isCapKept}
+use Rattle.word.specs.Programs.{programs}
 use Rattle.word.specs.Figures.{areFigures}
 use Rattle.book.specs.Facts.{Series, OpenClass, Facts, isBelow, precedes, owned, wordsTaken}
 use Rattle.book.specs.Layout.{layout, factsOf}
@@ -24,10 +25,6 @@ isSeries now s =
 abbrev pub isClass : ℕ → OpenClass → Bool
 isClass now x = areFigures (x .figures) && (every (isSeries now) (x .series) && rises precedes (x .series))
 
--- "at most 150 classes with $1 designation 1 and at most 20 with $0.50 designation 1": the own classes of each program
-abbrev pub isCapKept : List OpenClass → Program → Bool
-isCapKept xs g = leb (owned (g .number) xs) (g .cap)
-
 -- "Classes rise by number .., none twice."; "with every field in its limits, each expiration from `now` to `now` + 39,
 -- at most 150 classes .. and at most 20 ..", within n words
 unfoldable pub isWellFormed : ℕ → Facts → Bool
@@ -36,7 +33,7 @@ isWellFormed n f =
     && (leb (wordsTaken f) n
     && (isMonth (f .now)
     && (every (isClass (f .now)) (f .classes)
-    && (rises isBelow (f .classes) && every (isCapKept (f .classes)) programs))))
+    && (rises isBelow (f .classes) && every (isCapKept (λ p. owned p (f .classes))) programs))))
 
 abbrev pub sameWords : List ℕ → List ℕ → Bool
 sameWords [] [] = true

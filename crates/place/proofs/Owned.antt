@@ -8,12 +8,12 @@ use native.Mathlib.Numerals.{add-one}
 use native.Mathlib.Omega.{arith}
 use lib.ListN.{length, take, drop, getD}
 use lib.Seq.{drop-cons}
-use lib.Dec.{T, eqb, leb→le}
+use lib.Dec.{T, eqb}
 use Rattle.logic.specs.Lists.{sum, every}
 use Rattle.word.specs.Limits.{longestRun}
 use Rattle.word.specs.Head.{firstPlace}
 use Rattle.word.specs.Codec.{Word, Head, Class, Close, Volume, Expiration, Strike, Invalid, isLegal, packed, Fits}
-use Rattle.word.specs.Programs.{programCount, isProgram, program, designationIn}
+use Rattle.word.specs.Programs.{isProgram, program, designationIn}
 use Rattle.word.specs.Caps.{own}
 use Rattle.word.proofs.Words.{kindIn, kind-packed, class-designation}
 use Rattle.book.specs.Facts.{Series, OpenClass, Facts, owned}
@@ -21,7 +21,7 @@ use Rattle.book.specs.Layout.{strikeWord, expirationUnless, seriesWords, classe
 use Rattle.book.specs.Books.{isBook}
 use Rattle.word.proofs.RawWords.{fits}
 use Rattle.logic.proofs.Tests.{ands}
-use Rattle.book.proofs.ProgramTable.{cap-small}
+use Rattle.book.proofs.ProgramTable.{tabled}
 use Rattle.book.proofs.Forms.{well}
 use Rattle.word.specs.Kinds.{isOfKind, classKind}
 use Rattle.place.proofs.Heads.{book-good, book-room}
@@ -50,8 +50,7 @@ added-packed p k x small = rw (kind-packed x (packed x) small refl) (go x small)
     go (Head now used) f = refl
     go (Class n ds) f =
         ap own
-        (class-designation (packed (Class n ds)) n ds f refl p (leb→le 1 p (search ands))
-        (leb→le p programCount (search ands)))
+        (class-designation (packed (Class n ds)) n ds f refl p k)
     go (Close price) f = refl
     go (Volume v) f = refl
     go (Expiration m) f = refl
@@ -105,12 +104,7 @@ module _ (ws : List ℕ) (b : T (isBook ws)) (p : ℕ) (k : T (isProgram p)) whe
   module _ (at count : ℕ) (s : Counting ws p at count) where
     pub count-small : count < longestRun
     count-small =
-        omega (
-          arith,
-          s .total,
-          well (length ws) facts (book-good ws b) .caps p k,
-          cap-small p (leb→le 1 p (search ands)) (leb→le p programCount (search ands)),
-        )
+        omega (arith, s .total, well (length ws) facts (book-good ws b) .caps p k, tabled p k .cap)
 
     pub count-more :
         (designation more : ℕ) → at < used facts

@@ -1,6 +1,6 @@
 -- Document 01, "Grids", its first sentences, and the months of "Who draws which number": the terms in which the rules
 -- speak of a class and an expiration. Assumes nothing.
-use Prim.Native.Nat.{ℕ, _+_, _*_, _/_}
+use Prim.Native.Nat.{ℕ, _+_, _/_}
 use mathlib.Core.Bool.{Bool, not, _||_}
 use lib.Dec.{leb, ltb, eqb}
 use Rattle.word.specs.Limits.{halfDollar, monthsAhead}

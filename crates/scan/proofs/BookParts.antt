@@ -10,22 +10,21 @@ use lib.ListN.{length, take, drop, getD, replicate, length-map, length-drop, len
 use lib.Seq.{drop-cons, drop-drop, take-nil, take-all, take-at, drop-at, length-take-le}
 use lib.Dec.{T, leb, ltb, leb→le, le→leb}
 use borrow.Author.Tests.{not-true, not-false}
-use Rattle.logic.specs.Lists.{rises, every}
+use Rattle.logic.specs.Lists.{every}
 use Rattle.word.specs.Kinds.{headKind, usedField}
 use Rattle.word.specs.Head.{isHead, firstPlace, monthIn, usedIn}
 use Rattle.word.specs.Codec.{Head, isLegal, packed}
 use Rattle.word.specs.Limits.{isLength, isMonth, longestRun, lastMonth}
-use Rattle.word.specs.Programs.{program}
 use Rattle.word.specs.Field.{end}
-use Rattle.book.specs.Facts.{OpenClass, Facts, number, owned, wordsTaken}
+use Rattle.book.specs.Facts.{OpenClass, Facts, number, wordsTaken}
 use Rattle.book.specs.Layout.{classesWords, used, layout, factsOf}
 use Rattle.book.specs.Books.{isClass, isWellFormed, isBook}
 use Rattle.word.proofs.Words.{head-fields}
 use Rattle.word.proofs.RawWords.{fits, bare, head-packed, head-bare}
 use Rattle.logic.proofs.Tests.{and-intro, ands, true-T, same-bool, refuted}
-use Rattle.book.proofs.Forms.{well}
+use Rattle.book.proofs.Forms.{well, well-formed}
 use Rattle.book.proofs.Layouts.{used-taken, book-facts, book-exactly}
-use Rattle.scan.specs.Stretches.{leads, Classes, isZero}
+use Rattle.scan.specs.Stretches.{leads, AllClasses, isZero}
 use Rattle.scan.proofs.Zeros.{zeros-replicate, replicate-zeros}
 
 -- the words used after the head, and those past them
@@ -47,7 +46,7 @@ used-front (suc u) (w ∷ ws) =
 record Parts (ws : List ℕ) : Type 0 where
   long : T (isLength (length ws))
   head : T (isHead ws)
-  classes : Classes (monthIn ws) 0 0 0 (front ws)
+  classes : AllClasses (monthIn ws) (front ws)
   zeros : T (every isZero (wordsPast ws))
 
 -- the first class's number is above 0
@@ -106,8 +105,7 @@ module _ (ws : List ℕ) (f : Facts) (good : T (isWellFormed (length ws) f)) (la
               legal = search ands;
               rising = search ands;
               leading = numbered (f .now) xs (search ands);
-              dollarCapped = omega (arith, well n f good .caps 1 tt);
-              halfCapped = omega (arith, well n f good .caps 2 tt);
+              capped = λ p k. omega (arith, well n f good .caps p k);
             });
         zeros = rw (fields .1, rest, all) (zeros-replicate (n - u));
       }
@@ -136,20 +134,17 @@ module _ (ws : List ℕ) (p : Parts ws) where
       )
 
   told-good : T (isWellFormed (length ws) told)
-  unfolding told isWellFormed
+  unfolding told
   told-good =
-      let n = length ws in
-      let c = p .classes in
-      let xs = c .classes in
-      let long : T (isLength n) = p .long in
-      let fits : T (leb (wordsTaken told) n) =
-      le→leb (wordsTaken told) n (omega (arith, used-taken told, told-used, within)) in
-      let month : T (isMonth (monthIn ws)) = le→leb (monthIn ws) lastMonth (omega arith) in
-      let legal : T (every (isClass (monthIn ws)) xs) = c .legal in
-      let rising : T (rises (λ x y. ltb (number x) (number y)) xs) = c .rising in
-      let dollars = le→leb (owned 1 xs) (program 1 .cap) (omega (arith, c .dollarCapped)) in
-      let halves = le→leb (owned 2 xs) (program 2 .cap) (omega (arith, c .halfCapped)) in
-      search and-intro depth 8
+      well-formed (length ws) told
+      (record {
+        run = p .long;
+        room = omega (arith, used-taken told, told-used, within);
+        month = le→leb (monthIn ws) lastMonth (omega arith);
+        limits = p .classes .legal;
+        order = p .classes .rising;
+        caps = λ q k. omega (arith, p .classes .capped q k);
+      })
 
   told-laid : layout (length ws) told ≡ ws
   unfolding told layout
@@ -200,13 +195,13 @@ module _ (ws : List ℕ) where
       let wrong = not-true (isHead ws) t in
       refuted (isBook ws) (λ b. rw wrong at (book-parts ws .0 b .head))
 
-  pub wrong-classes : (Classes (monthIn ws) 0 0 0 (front ws) → ⊥) → false ≡ isBook ws
+  pub wrong-classes : (AllClasses (monthIn ws) (front ws) → ⊥) → false ≡ isBook ws
   wrong-classes wrong = refuted (isBook ws) (λ b. wrong (book-parts ws .0 b .classes))
 
   -- all tests but the last one passed
   pub zeros-left :
       isLength (length ws) ≡ true → not (isHead ws) ≡ false
-      → Classes (monthIn ws) 0 0 0 (front ws) → every isZero (wordsPast ws) ≡ isBook ws
+      → AllClasses (monthIn ws) (front ws) → every isZero (wordsPast ws) ≡ isBook ws
   zeros-left l h classes =
       let long = true-T (isLength (length ws)) l in
       same-bool (every isZero (wordsPast ws)) (isBook ws)

@@ -2,64 +2,105 @@
 -- and the end of the series. Assumes nothing.
 use Prim.Native.Nat.{ℕ, _+_, _-_, _≤_, _<_}
 use mathlib.Core.Path.{_≡_, refl, sym}
-use mathlib.Core.Logic.{_↔_, Iff·rfl, Iff·trans}
-use mathlib.Core.Bool.{Bool, true, false, not, _||_}
-use mathlib.Core.List.{List, []}
+use mathlib.Core.Logic.{_↔_, Iff·trans}
+use mathlib.Core.Bool.{Bool, true, false, not, _&&_, _||_}
+use mathlib.Core.List.{List, [], _∷_}
 use native.Mathlib.Omega.{arith}
 use lib.ListN.{length, drop, getD, length-drop, drop-of-length-le}
 use lib.Dec.{T, ltb}
-use borrow.Author.Tests.{ltb-true, ltb-false, not-true, not-false}
+use borrow.Author.Tests.{not-true, not-false}
 use Rattle.word.specs.Kinds.{keyOf, classKind}
 use Rattle.word.specs.Head.{firstPlace}
+use Rattle.word.specs.Limits.{longestRun}
 use Rattle.word.specs.Figures.{figuresLength, areFiguresAt}
-use Rattle.word.specs.Caps.{own}
-use Rattle.word.specs.Programs.{program, dollarProgram, halfProgram, designationIn}
+use Rattle.word.specs.Caps.{own, isCapKept}
+use Rattle.word.specs.Programs.{programs, program, isProgram, designationIn, dollarProgram, halfProgram}
 use Rattle.logic.specs.Lists.{every}
 use Rattle.book.specs.Facts.{OpenClass}
 use Rattle.book.specs.Books.{isClass}
-use Rattle.logic.proofs.Tests.{true-T, nors}
-use Rattle.scan.specs.Stretches.{mayFollow, SeriesThen, ClassesWhere, Classes, SeriesEnd}
+use Rattle.logic.proofs.Tests.{true-T, at-most}
+use Rattle.book.proofs.ProgramTable.{tabled, caps-at, caps-kept}
+use Rattle.scan.specs.Stretches.{mayFollow, SeriesThen, ClassesWhere, Classes, AllClasses, SeriesEnd}
 use Rattle.scan.proofs.FiguresFirst.{FiguresThen, figures, classes-length}
 
+-- the counts of own classes, by program number
+abbrev pub countOf : ℕ → ℕ → ℕ → ℕ
+countOf dollars halves p = getD (dollars ∷ halves ∷ []) (p - 1) 0
+
+-- one is exceeded where not each cap is kept
+pub caps-tested :
+    (dollars halves : ℕ)
+    → (ltb (dollarProgram .cap) dollars || ltb (halfProgram .cap) halves)
+    ≡ not (every (isCapKept (countOf dollars halves)) programs)
+caps-tested dollars halves =
+    rw (at-most dollars (dollarProgram .cap), at-most halves (halfProgram .cap))
+    (go (ltb (dollarProgram .cap) dollars) (ltb (halfProgram .cap) halves))
+  where
+    go : (one two : Bool) → (one || two) ≡ not (not one && (not two && true))
+    go true two = refl
+    go false true = refl
+    go false false = refl
+
 -- the classes after the head are what they are after those before i, of which `last` is the last number
-pub record Walked (now : ℕ) (ws : List ℕ) (i last dollars halves : ℕ) : Type 0 where
+pub record Walked (now : ℕ) (ws : List ℕ) (i last : ℕ) (counts : ℕ → ℕ) : Type 0 where
   pub within : i ≤ length ws
-  pub dollarCapped : dollars ≤ program 1 .cap
-  pub halfCapped : halves ≤ program 2 .cap
-  pub same : Classes now 0 0 0 (drop firstPlace ws) ↔ Classes now last dollars halves (drop i ws)
+  pub capped : (p : ℕ) → T (isProgram p) → counts p ≤ program p .cap
+  pub same : AllClasses now (drop firstPlace ws) ↔ Classes now last counts (drop i ws)
 
 -- the same after the figures at i
-pub record Counted (now : ℕ) (ws : List ℕ) (i last dollars halves : ℕ) : Type 0 where
+pub record Counted (now : ℕ) (ws : List ℕ) (i last : ℕ) (counts : ℕ → ℕ) : Type 0 where
   pub same :
-      Classes now 0 0 0 (drop firstPlace ws)
-      ↔ ClassesWhere now last dollars halves (λ xs. SeriesThen now 0 (mayFollow 0) xs (drop (i + figuresLength) ws))
+      AllClasses now (drop firstPlace ws)
+      ↔ ClassesWhere now last counts (λ xs. SeriesThen now 0 (mayFollow 0) xs (drop (i + figuresLength) ws))
 
-pub counted-same :
-    {now : ℕ} {ws : List ℕ} {i last dollars halves last′ dollars′ halves′ : ℕ} → Counted now ws i last dollars halves
-    → last′ ≡ last → dollars′ ≡ dollars → halves′ ≡ halves → Counted now ws i last′ dollars′ halves′
-counted-same v l d h = rw (l, d, h) v
-
-pub walked-start : (now : ℕ) (ws : List ℕ) → firstPlace ≤ length ws → Walked now ws firstPlace 0 0 0
-walked-start now ws head =
+-- counts that are the same of every program serve alike
+alike :
+    {now last : ℕ} {counts counts′ : ℕ → ℕ} {Holds : List OpenClass → Type 0}
+    → ((p : ℕ) → T (isProgram p) → counts′ p ≡ counts p) → ClassesWhere now last counts Holds
+    → ClassesWhere now last counts′ Holds
+alike e c =
     record {
-      within = head;
-      dollarCapped = omega arith;
-      halfCapped = omega arith;
-      same = Iff·rfl;
+      classes = c .classes;
+      holds = c .holds;
+      legal = c .legal;
+      rising = c .rising;
+      leading = c .leading;
+      capped = λ p k. rw (e p k) (c .capped p k);
     }
 
-module _ {now : ℕ} {ws : List ℕ} {i last dollars halves : ℕ} (v : Walked now ws i last dollars halves) where
+pub counted-same :
+    {now : ℕ} {ws : List ℕ} {i last last′ : ℕ} {counts counts′ : ℕ → ℕ} → Counted now ws i last counts
+    → last′ ≡ last → ((p : ℕ) → T (isProgram p) → counts′ p ≡ counts p) → Counted now ws i last′ counts′
+counted-same v l e =
+    rw l
+    (record { same = (λ r. alike e (v .same .0 r), λ r. v .same .1 (alike (λ p k. sym (e p k)) r)) })
+
+pub walked-start :
+    (now : ℕ) (ws : List ℕ) {counts : ℕ → ℕ} → firstPlace ≤ length ws → ((p : ℕ) → T (isProgram p) → counts p ≡ 0)
+    → Walked now ws firstPlace 0 counts
+walked-start now ws head none =
+    record {
+      within = head;
+      capped = λ p k. rw (none p k) (omega arith);
+      same = (alike none, alike (λ p k. sym (none p k)));
+    }
+
+module _ {now : ℕ} {ws : List ℕ} {i last : ℕ} {counts : ℕ → ℕ} (v : Walked now ws i last counts) where
+  -- so few are counted that one more can be
+  pub walked-small : (p : ℕ) → T (isProgram p) → counts p < longestRun
+  walked-small p k = omega (arith, v .capped p k, tabled p k .cap)
+
   -- no class stands in fewer words than its figures have
-  pub walked-short : i < length ws → length ws - i < figuresLength → Classes now 0 0 0 (drop firstPlace ws) → ⊥
+  pub walked-short : i < length ws → length ws - i < figuresLength → AllClasses now (drop firstPlace ws) → ⊥
   walked-short l short r =
       omega (
         arith,
         length-drop i ws,
-        classes-length now last dollars halves (drop i ws) (v .same .0 r) (omega (arith, length-drop i ws)),
+        classes-length now last counts (drop i ws) (v .same .0 r) (omega (arith, length-drop i ws)),
       )
 
   -- no class is left
-  pub walked-end : length ws ≤ i → Classes now 0 0 0 (drop firstPlace ws)
+  pub walked-end : length ws ≤ i → AllClasses now (drop firstPlace ws)
   walked-end l =
       v .same .1
       (record {
@@ -68,22 +109,20 @@ module _ {now : ℕ} {ws : List ℕ} {i last dollars halves : ℕ} (v : Walked n
         legal = tt;
         rising = tt;
         leading = tt;
-        dollarCapped = omega (arith, v .dollarCapped);
-        halfCapped = omega (arith, v .halfCapped);
+        capped = λ p k. omega (arith, v .capped p k);
       })
 
   module _ (room : figuresLength ≤ length ws - i) where
-    step : Classes now 0 0 0 (drop firstPlace ws) ↔ FiguresThen now last dollars halves i ws
-    step = Iff·trans (v .same) (figures now last dollars halves i ws (omega arith))
+    step : AllClasses now (drop firstPlace ws) ↔ FiguresThen now last counts i ws
+    step = Iff·trans (v .same) (figures now last counts i ws (omega arith))
 
-    pub walked-wrong : not (areFiguresAt last i ws) ≡ true → Classes now 0 0 0 (drop firstPlace ws) → ⊥
+    pub walked-wrong : not (areFiguresAt last i ws) ≡ true → AllClasses now (drop firstPlace ws) → ⊥
     walked-wrong t r = rw (not-true (areFiguresAt last i ws) t) at (step .0 r .figures)
 
     pub walked-counted :
         not (areFiguresAt last i ws) ≡ false
         → let w = getD ws i 0 in
-        Counted now ws i (keyOf classKind w) (dollars + own (designationIn dollarProgram w))
-        (halves + own (designationIn halfProgram w))
+        Counted now ws i (keyOf classKind w) (λ p. counts p + own (designationIn (program p) w))
     walked-counted t =
         let test = areFiguresAt last i ws in
         record {
@@ -95,9 +134,9 @@ module _ {now : ℕ} {ws : List ℕ} {i last dollars halves : ℕ} (v : Walked n
 
 -- what holds of the classes gives way to what follows from it
 replaced :
-    {now last dollars halves : ℕ} {A B : List OpenClass → Type 0}
+    {now last : ℕ} {counts : ℕ → ℕ} {A B : List OpenClass → Type 0}
     → ((xs : List OpenClass) → T (every (isClass now) xs) → A xs → B xs)
-    → ClassesWhere now last dollars halves A → ClassesWhere now last dollars halves B
+    → ClassesWhere now last counts A → ClassesWhere now last counts B
 replaced f c =
     record {
       classes = c .classes;
@@ -105,34 +144,30 @@ replaced f c =
       legal = c .legal;
       rising = c .rising;
       leading = c .leading;
-      dollarCapped = c .dollarCapped;
-      halfCapped = c .halfCapped;
+      capped = c .capped;
     }
 
-module _ {now : ℕ} {ws : List ℕ} {i last dollars halves : ℕ} (v : Counted now ws i last dollars halves) where
-  pub counted-exceeded :
-      (ltb (program 1 .cap) dollars || ltb (program 2 .cap) halves) ≡ true → Classes now 0 0 0 (drop firstPlace ws) → ⊥
-  counted-exceeded t r = go (ltb (program 1 .cap) dollars) refl t
-    where
-      go : (over : Bool) → ltb (program 1 .cap) dollars ≡ over → (over || ltb (program 2 .cap) halves) ≡ true → ⊥
-      go true d t = omega (arith, ltb-true, v .same .0 r .dollarCapped)
-      go false d t = omega (arith, ltb-true, v .same .0 r .halfCapped)
+module _ {now : ℕ} {ws : List ℕ} {i last : ℕ} {counts : ℕ → ℕ} (v : Counted now ws i last counts) where
+  pub counted-exceeded : not (every (isCapKept counts) programs) ≡ true → AllClasses now (drop firstPlace ws) → ⊥
+  counted-exceeded t r =
+      rw (not-true (every (isCapKept counts) programs) t) at
+      (caps-kept counts (λ p k. omega (arith, v .same .0 r .capped p k)))
 
   pub counted-breaks :
       ((xs : List OpenClass) → T (every (isClass now) xs)
       → SeriesThen now 0 (mayFollow 0) xs (drop (i + figuresLength) ws) → ⊥)
-      → Classes now 0 0 0 (drop firstPlace ws) → ⊥
+      → AllClasses now (drop firstPlace ws) → ⊥
   counted-breaks breaks r = let c = v .same .0 r in breaks (c .classes) (c .legal) (c .holds)
 
   pub counted-more :
-      (j : ℕ) → (ltb (program 1 .cap) dollars || ltb (program 2 .cap) halves) ≡ false
-      → SeriesEnd now ws (i + figuresLength) j
-      → Walked now ws j last dollars halves
+      (j : ℕ) → not (every (isCapKept counts) programs) ≡ false → SeriesEnd now ws (i + figuresLength) j
+      → Walked now ws j last counts
   counted-more j t e =
       record {
         within = e .within;
-        dollarCapped = ltb-false (program 1 .cap) dollars (search nors);
-        halfCapped = ltb-false (program 2 .cap) halves (search nors);
+        capped =
+            let kept = every (isCapKept counts) programs in
+            caps-at counts (true-T kept (not-false kept t));
         same = (
           λ r. replaced (λ xs legal. e .rest xs legal .0) (v .same .0 r),
           λ r. v .same .1 (replaced (λ xs legal. e .rest xs legal .1) r),

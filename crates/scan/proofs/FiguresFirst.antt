@@ -1,7 +1,7 @@
 -- The words of a class's figures at the front of the words of classes: by cases on the classes, and by the words' test.
 -- Assumes nothing.
-use Prim.Native.Nat.{ℕ, zero-le, _+_, _≤_, _<_}
-use mathlib.Core.Path.{_≡_, ap}
+use Prim.Native.Nat.{ℕ, zero-le, _+_, _-_, _≤_, _<_}
+use mathlib.Core.Path.{_≡_, ap, _∙_}
 use mathlib.Core.Logic.{_↔_}
 use mathlib.Core.Bool.{_&&_}
 use mathlib.Core.List.{List, [], _∷_, map}
@@ -14,8 +14,9 @@ use Rattle.word.specs.Class.{designation}
 use Rattle.word.specs.Codec.{packed}
 use Rattle.word.specs.Figures.{figuresLength, figuresAt, areFigures, areFiguresAt}
 use Rattle.word.specs.Kinds.{keyOf, classKind}
-use Rattle.word.specs.Programs.{program, designationIn, dollarProgram, halfProgram}
+use Rattle.word.specs.Programs.{program, isProgram, designationIn}
 use Rattle.word.proofs.FigureWords.{figures-said, figures-tested}
+use Rattle.word.proofs.Words.{designation-said}
 use Rattle.book.specs.Facts.{Series, OpenClass, number, isBelow, precedes, owned}
 use Rattle.book.specs.Layout.{seriesWords, classesWords}
 use Rattle.book.specs.Books.{isSeries, isClass}
@@ -25,12 +26,11 @@ use Rattle.scan.proofs.Series.{rises-first}
 
 -- the words of figures at i pass their test, and the words after them are those of the class's series and of classes
 -- that may follow it
-pub record FiguresThen (now last dollars halves i : ℕ) (ws : List ℕ) : Type 0 where
+pub record FiguresThen (now last : ℕ) (counts : ℕ → ℕ) (i : ℕ) (ws : List ℕ) : Type 0 where
   pub figures : T (areFiguresAt last i ws)
   pub rest :
       let w = getD ws i 0 in
-      ClassesWhere now (keyOf classKind w) (dollars + own (designationIn dollarProgram w))
-      (halves + own (designationIn halfProgram w))
+      ClassesWhere now (keyOf classKind w) (λ p. counts p + own (designationIn (program p) w))
       (λ xs. SeriesThen now 0 (mayFollow 0) xs (drop (i + figuresLength) ws))
 
 -- any series may come first
@@ -38,25 +38,23 @@ any-first : (ss : List Series) → T (leads (mayFollow 0) ss)
 any-first [] = tt
 any-first (s ∷ ss) = le→leb 0 (s .month) zero-le
 
-module _ (now last dollars halves i : ℕ) (ws : List ℕ) (room : i + figuresLength ≤ length ws) where
-  figures-from : Classes now last dollars halves (drop i ws) → FiguresThen now last dollars halves i ws
-  figures-from r = go (r .classes) (r .holds) (r .legal) (r .rising) (r .leading) (r .dollarCapped) (r .halfCapped)
+module _ (now last : ℕ) (counts : ℕ → ℕ) (i : ℕ) (ws : List ℕ) (room : i + figuresLength ≤ length ws) where
+  figures-from : Classes now last counts (drop i ws) → FiguresThen now last counts i ws
+  figures-from r = go (r .classes) (r .holds) (r .legal) (r .rising) (r .leading) (r .capped)
     where
       go :
           (xs : List OpenClass) → map packed (classesWords xs []) ≡ drop i ws → T (every (isClass now) xs)
           → T (rises isBelow xs) → T (leads (λ x. ltb last (number x)) xs)
-          → dollars + owned 1 xs ≤ program 1 .cap → halves + owned 2 xs ≤ program 2 .cap
-          → FiguresThen now last dollars halves i ws
-      go [] e legal rising leading d h = absurd (omega (arith, ap length e, length-drop i ws))
-      go (x ∷ xs) e legal rising leading d h =
+          → ((p : ℕ) → T (isProgram p) → counts p + owned p xs ≤ program p .cap)
+          → FiguresThen now last counts i ws
+      go [] e legal rising leading capped = absurd (omega (arith, ap length e, length-drop i ws))
+      go (x ∷ xs) e legal rising leading capped =
           let f = x .figures in
           let limits : T (areFigures f) = search ands in
           let told =
           figures-tested i ws room last f (seriesWords 0 (x .series) (classesWords xs [])) limits leading e in
-          let dollar : designationIn dollarProgram (getD ws i 0) ≡ designation 1 f =
-          ap (λ ds. getD ds 0 0) (told .designations) in
-          let half : designationIn halfProgram (getD ws i 0) ≡ designation 2 f =
-          ap (λ ds. getD ds 1 0) (told .designations) in
+          let said : (p : ℕ) → T (isProgram p) → designationIn (program p) (getD ws i 0) ≡ designation p f =
+          λ p k. designation-said (getD ws i 0) p k ∙ ap (λ ds. getD ds (p - 1) 0) (told .designations) in
           let order : T (leads (isBelow x) xs && rises isBelow xs) = rw (rises-first isBelow x xs) at rising in
           record {
             figures = told .test;
@@ -74,12 +72,11 @@ module _ (now last dollars halves i : ℕ) (ws : List ℕ) (room : i + figuresLe
                   legal = search ands;
                   rising = search ands;
                   leading = rw (told .number) (search ands);
-                  dollarCapped = rw dollar (omega arith);
-                  halfCapped = rw half (omega arith);
+                  capped = λ p k. rw (said p k) (omega (arith, capped p k));
                 };
           }
 
-  figures-to : FiguresThen now last dollars halves i ws → Classes now last dollars halves (drop i ws)
+  figures-to : FiguresThen now last counts i ws → Classes now last counts (drop i ws)
   figures-to r =
       let xs = r .rest .classes in
       let s = r .rest .holds in
@@ -98,18 +95,17 @@ module _ (now last dollars halves i : ℕ) (ws : List ℕ) (room : i + figuresLe
             rw (rises-first isBelow x xs)
             (and-intro (leads (isBelow x) xs) (rises isBelow xs) (r .rest .leading) (r .rest .rising));
         leading = search ands;
-        dollarCapped = omega (arith, r .rest .dollarCapped);
-        halfCapped = omega (arith, r .rest .halfCapped);
+        capped = λ p k. rw (← designation-said (getD ws i 0) p k) (omega (arith, r .rest .capped p k));
       }
 
-  pub figures : Classes now last dollars halves (drop i ws) ↔ FiguresThen now last dollars halves i ws
+  pub figures : Classes now last counts (drop i ws) ↔ FiguresThen now last counts i ws
   figures = (figures-from, figures-to)
 
 -- words of classes are none, or those of figures at least
 pub classes-length :
-    (now last dollars halves : ℕ) (ws : List ℕ) → Classes now last dollars halves ws → 0 < length ws
+    (now last : ℕ) (counts : ℕ → ℕ) (ws : List ℕ) → Classes now last counts ws → 0 < length ws
     → figuresLength ≤ length ws
-classes-length now last dollars halves ws r = go (r .classes) (r .holds)
+classes-length now last counts ws r = go (r .classes) (r .holds)
   where
     go : (xs : List OpenClass) → map packed (classesWords xs []) ≡ ws → 0 < length ws → figuresLength ≤ length ws
     go [] e l = absurd (omega (arith, ap length e))

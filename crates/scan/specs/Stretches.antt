@@ -10,7 +10,7 @@ use lib.Dec.{T, eqb, leb, ltb}
 use Rattle.logic.specs.Lists.{rises, every}
 use Rattle.word.specs.Limits.{highestStrike}
 use Rattle.word.specs.Kinds.{keyOf, strikeKind}
-use Rattle.word.specs.Programs.{program}
+use Rattle.word.specs.Programs.{program, isProgram}
 use Rattle.word.specs.Codec.{packed}
 use Rattle.book.specs.Facts.{Series, OpenClass, number, isBelow, precedes, owned}
 use Rattle.book.specs.Layout.{seriesWords, classesWords}
@@ -47,18 +47,21 @@ pub record SeriesThen (now p : ℕ) (test : Series → Bool) (xs : List OpenClas
   pub leading : T (leads test series)
 
 -- classes that may follow the class number `last` and so many own classes of each program, of which something holds
-pub record ClassesWhere (now last dollars halves : ℕ) (Holds : List OpenClass → Type 0) : Type 0 where
+pub record ClassesWhere (now last : ℕ) (counts : ℕ → ℕ) (Holds : List OpenClass → Type 0) : Type 0 where
   pub classes : List OpenClass
   pub holds : Holds classes
   pub legal : T (every (isClass now) classes)
   pub rising : T (rises isBelow classes)
   pub leading : T (leads (λ x. ltb last (number x)) classes)
-  pub dollarCapped : dollars + owned 1 classes ≤ program 1 .cap
-  pub halfCapped : halves + owned 2 classes ≤ program 2 .cap
+  pub capped : (p : ℕ) → T (isProgram p) → counts p + owned p classes ≤ program p .cap
 
 -- ws are the words of such classes
-abbrev pub Classes : ℕ → ℕ → ℕ → ℕ → List ℕ → Type 0
-Classes now last dollars halves ws = ClassesWhere now last dollars halves (λ xs. map packed (classesWords xs []) ≡ ws)
+abbrev pub Classes : ℕ → ℕ → (ℕ → ℕ) → List ℕ → Type 0
+Classes now last counts ws = ClassesWhere now last counts (λ xs. map packed (classesWords xs []) ≡ ws)
+
+-- ws are the words of all classes of a book
+abbrev pub AllClasses : ℕ → List ℕ → Type 0
+AllClasses now ws = Classes now 0 (λ p. 0) ws
 
 -- the series that start at `from` end at `to`, whatever classes follow
 pub record SeriesEnd (now : ℕ) (ws : List ℕ) (from to : ℕ) : Type 0 where

@@ -10,7 +10,7 @@ ghost use Rattle.logic.specs.Lists.{every};
 ghost use Rattle.book.specs.Books.{isBook};
 ghost use Rattle.book.specs.Made.{Begun};
 ghost use Rattle.scan.specs.Ahead.{Tells};
-ghost use Rattle.scan.specs.Stretches.{Classes, Stretched, areStrikes, isZero};
+ghost use Rattle.scan.specs.Stretches.{AllClasses, Stretched, areStrikes, isZero};
 use crate::ahead::Ahead;
 use crate::ahead::look_ahead;
 use crate::ahead::next_other;
@@ -86,7 +86,7 @@ fn expirations_end(current: u32, s: &[u32], from: Ahead) -> Stretch
 // Whether the words after the first are those of classes, within the caps.
 fn are_classes(current: u32, s: &[u32]) -> bool
     requires { ⌜ (current ≤ lastMonth) × (firstPlace ≤ length (now s)) ⌝ }
-    ensures { λ r. ⌜ T r ↔ Classes current 0 0 0 (drop firstPlace (now (s .entry))) ⌝ }
+    ensures { λ r. ⌜ T r ↔ AllClasses current (drop firstPlace (now (s .entry))) ⌝ }
 {
     let n = s.len();
     let mut ahead = look_ahead(s, head::FIRST);

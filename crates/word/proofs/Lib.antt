@@ -7,3 +7,4 @@ pub mod RawWords
 pub mod FigureWords
 pub mod Counts
 pub mod Refusals
+pub mod EachProgram

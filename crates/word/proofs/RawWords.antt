@@ -9,9 +9,9 @@ use lib.Pow.{shr-shr}
 use borrow.Author.Tests.{ne-eqb}
 use Rattle.word.specs.declared.class.ClassRecord.{ClassRecord}
 use Rattle.word.specs.declared.kind.Kind.{Kind}
-use Rattle.word.specs.Programs.{designationIn, designationsIn, designationWidth, dollarProgram, halfProgram}
+use Rattle.word.specs.Programs.{programs, areDesignations, designationsIn, designationsEnd, designationWidth, dollarProgram, halfProgram}
 use Rattle.word.specs.Codec.{Word, Head, Class, Close, Volume, Expiration, Strike, isLegal, packed, kindPlaced, strikeSaid, Fits}
-use Rattle.word.specs.Limits.{isMonth, isVolume, isDesignation, isClose, isGround, isMark, highestPrice, highestStrike, highestClass, highestVolume, lastMonth}
+use Rattle.word.specs.Limits.{isMonth, isVolume, isClose, isGround, isMark, highestPrice, highestStrike, highestClass, highestVolume, lastMonth}
 use Rattle.word.specs.Field.{field, end}
 use Rattle.word.specs.Kinds.{kindField, kindOf, keyOf, isOfKind, isBare, belowKind, headKind, usedField, classKind, closeKind, volumeKind, expirationKind, strikeKind, groundField, putField, callField}
 use Rattle.word.specs.Figures.{areFigures, classWord, isClassAbove, isCloseWord, isVolumeWord}
@@ -127,7 +127,7 @@ classIn w = Class (keyOf classKind w) (designationsIn w)
 pub class-said : (above w : ℕ) → T (isClassAbove above w) → (packed (classIn w) ≡ w) × T (isLegal (classIn w))
 class-said above w t =
     let n = keyOf classKind w in
-    let top = bare classKind (end (halfProgram .bits)) w (search ands) in
+    let top = bare classKind designationsEnd w (search ands) in
     let l : above < n = ltb→lt above n (search ands) in
     let a : w / 2 ^ dollarProgram .bits .low / 2 ^ designationWidth ≡ w / 2 ^ end (dollarProgram .bits) =
     shr-shr w (dollarProgram .bits .low) designationWidth in
@@ -135,8 +135,7 @@ class-said above w t =
     shr-shr w (halfProgram .bits .low) designationWidth in
     let low : T (leb 1 n) = le→leb 1 n (omega arith) in
     let high : T (leb n highestClass) = le→leb n highestClass (omega arith) in
-    let dollar : T (isDesignation (designationIn dollarProgram w)) = search ands in
-    let half : T (isDesignation (designationIn halfProgram w)) = search ands in
+    let designations : T (areDesignations programs (designationsIn w)) = search ands in
     (omega arith, search and-intro)
 
 pub class-test :
@@ -147,8 +146,7 @@ class-test above w r legal q l =
     let said : classIn w ≡ classWord r = λ i. Class (f .0 i) (f .1 i) in
     let whole : packed (classIn w) ≡ w = ap packed said ∙ q in
     let limits : T (isLegal (classIn w)) = subst (λ (x : Word). T (isLegal x)) (sym said) legal in
-    let a : T (isBare classKind (end (halfProgram .bits)) w) =
-    bare-test classKind (end (halfProgram .bits)) w (omega arith) in
+    let a : T (isBare classKind designationsEnd w) = bare-test classKind designationsEnd w (omega arith) in
     let b : T (ltb above (keyOf classKind w)) = rw (f .0) l in
     search (ands, and-intro)
 

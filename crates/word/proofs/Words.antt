@@ -3,19 +3,20 @@
 use mathlib.Core.Path.{_≡_, refl, sym, ap, _∙_}
 use mathlib.Core.Bool.{Bool, true, false, cond, _&&_, true≢false}
 use mathlib.Core.List.{List, [], _∷_}
-use Prim.Native.Nat.{ℕ, zero, suc, _+_, _-_, _*_, _^_, _<_, _≤_}
+use Prim.Native.Nat.{ℕ, _+_, _-_, _*_, _^_, _<_}
 use native.Mathlib.Omega.{arith}
 use lib.ListN.{getD}
-use lib.Dec.{eqb}
+use lib.Dec.{T, eqb, leb→le}
 use borrow.Author.Tests.{leb-true, eqb-true, eq-eqb}
 use Rattle.word.specs.Limits.{isStrike, isMonth, isClassNumber, isLength, isDesignation, isGround, isMark}
 use Rattle.word.specs.declared.field.Field.{Field}
 use Rattle.word.specs.declared.kind.Kind.{Kind}
-use Rattle.word.specs.Programs.{Program, programs, programCount, program, areDesignations, designationWidth, designationIn, designationsIn, dollarProgram, halfProgram}
+use Rattle.word.specs.Programs.{Program, programs, programCount, program, isProgram, areDesignations, designationWidth, designationIn, designationsIn, dollarProgram, halfProgram}
 use Rattle.word.specs.Field.{field, end}
 use Rattle.word.specs.Kinds.{kindField, kindOf, keyOf, headKind, usedField, classKind, closeKind, volumeKind, expirationKind, strikeKind, groundField, putField, callField}
 use Rattle.word.specs.Codec.{isLegal, packed, shifted, kindPlaced, FitEach, Fits, fieldsAs, reading, Word, Head, Class, Close, Volume, Expiration, Strike, Invalid}
-use Rattle.logic.proofs.Tests.{parts}
+use Rattle.logic.proofs.Tests.{parts, ands}
+use Rattle.logic.proofs.Slices.{mapped-at}
 use Rattle.word.proofs.RangeTests.{between-high}
 use Rattle.word.proofs.Fields.{field-packed}
 
@@ -98,17 +99,18 @@ class-fields w number (d ∷ h ∷ []) fits e =
     (omega arith, λ i. first i ∷ second i ∷ [])
 class-fields w number (d ∷ h ∷ x ∷ ds) fits e = absurd (fits .1 .1 .1)
 
+-- its designations stand in the order of the programs
+pub designation-said : (w p : ℕ) → T (isProgram p) → designationIn (program p) w ≡ getD (designationsIn w) (p - 1) 0
+designation-said w p k =
+    sym
+    (mapped-at (λ g. designationIn g w) dollarProgram 0 programs (p - 1)
+    (omega (arith, leb→le 1 p (search ands), leb→le p programCount (search ands))))
+
 pub class-designation :
     (w number : ℕ) (ds : List ℕ) → Fits (Class number ds) → packed (Class number ds) ≡ w
-    → (p : ℕ) → 1 ≤ p → p ≤ programCount → designationIn (program p) w ≡ getD ds (p - 1) 0
-class-designation w number ds fits e p low high =
-    go p low high ∙ ap (λ (l : List ℕ). getD l (p - 1) 0) (class-fields w number ds fits e .1)
-  where
-    go : (p : ℕ) → 1 ≤ p → p ≤ programCount → designationIn (program p) w ≡ getD (designationsIn w) (p - 1) 0
-    go zero low high = absurd (omega (arith, low))
-    go (suc zero) low high = refl
-    go (suc (suc zero)) low high = refl
-    go (suc (suc (suc p))) low high = absurd (omega (arith, high))
+    → (p : ℕ) → T (isProgram p) → designationIn (program p) w ≡ getD ds (p - 1) 0
+class-designation w number ds fits e p k =
+    designation-said w p k ∙ ap (λ (l : List ℕ). getD l (p - 1) 0) (class-fields w number ds fits e .1)
 
 -- the number of a class word, by its designations one by one
 pub class-packed :

@@ -6,9 +6,8 @@ use mathlib.Core.List.{List, _∷_}
 use lib.Dec.{ltb}
 use lib.ListN.{getD}
 use Rattle.word.specs.declared.class.ClassRecord.{ClassRecord}
-use Rattle.word.specs.Limits.{isClassNumber, isClose, isDesignation, isVolume}
-use Rattle.word.specs.Programs.{programs, areDesignations, designationIn, designationsIn, dollarProgram, halfProgram}
-use Rattle.word.specs.Field.{end}
+use Rattle.word.specs.Limits.{isClassNumber, isClose, isVolume}
+use Rattle.word.specs.Programs.{programs, areDesignations, designationsIn, designationsEnd}
 use Rattle.word.specs.Kinds.{classKind, closeKind, volumeKind, keyOf, isOfKind, isBare, belowKind}
 use Rattle.word.specs.Codec.{Word, Class, Close, Volume}
 
@@ -45,9 +44,8 @@ figuresAt at ws =
 -- a class word whose number is above the one before it; no bit is set from where its last designation ends
 abbrev pub isClassAbove : ℕ → ℕ → Bool
 isClassAbove above w =
-    isBare classKind (end (halfProgram .bits)) w
-    && (ltb above (keyOf classKind w)
-    && (isDesignation (designationIn dollarProgram w) && isDesignation (designationIn halfProgram w)))
+    isBare classKind designationsEnd w
+    && (ltb above (keyOf classKind w) && areDesignations programs (designationsIn w))
 
 abbrev pub isCloseWord : ℕ → Bool
 isCloseWord w = isOfKind closeKind w && isClose (belowKind w)

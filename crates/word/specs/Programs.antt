@@ -7,7 +7,7 @@ use lib.ListN.{length, getD}
 use lib.Dec.{leb, ltb}
 use Rattle.word.specs.declared.class.ClassRecord.{ClassRecord}
 use Rattle.word.specs.declared.field.Field.{Field}
-use Rattle.word.specs.Field.{field}
+use Rattle.word.specs.Field.{field, end}
 use Rattle.word.specs.Limits.{between, isDesignation}
 
 pub record Program : Type 0 where
@@ -88,3 +88,7 @@ designationIn g w = field w (g .bits)
 
 abbrev pub designationsIn : ℕ → List ℕ
 designationsIn w = map (λ g. designationIn g w) programs
+
+-- no designation has a bit from here on
+abbrev pub designationsEnd : ℕ
+designationsEnd = end (program programCount .bits)

@@ -1,4 +1,4 @@
-// The two counters of own classes, one for each program's cap: neither can be passed for the other.
+// The counters of own classes, one for each program's cap: none can be passed for another.
 ghost use mathlib.Core.Path.{_≡_};
 ghost use Prim.Native.Nat.{_+_, _<_};
 ghost use lib.Dec.{leb, ltb};
@@ -13,7 +13,7 @@ pub struct DollarCount(pub u32);
 pub struct HalfCount(pub u32);
 
 // 1 for a class that is ours, else 0.
-fn own_class(designation: u32) -> u32
+pub fn own_class(designation: u32) -> u32
     ensures { λ r. ⌜ r ≡ own designation ⌝ }
 {
     if designation == 1 { 1 } else { 0 }

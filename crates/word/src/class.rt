@@ -2,6 +2,7 @@
 ghost use mathlib.Core.Path.{_≡_};
 ghost use Rattle.word.specs.Class.{opened, withClose, withVolume, designation, withDesignation};
 ghost use Rattle.word.specs.Programs.{IsProgram};
+use crate::programs::COUNT;
 use crate::programs::DOLLAR;
 
 pub struct ClassRecord {
@@ -11,7 +12,7 @@ pub struct ClassRecord {
     // The national average of contracts a day.
     pub volume: u32,
     // The designation in each program, the $1 program's first: 0 none, 1 ours, 2 another exchange's.
-    pub designations: [u32; 2],
+    pub designations: [u32; COUNT as usize],
 }
 
 impl ClassRecord {
@@ -22,7 +23,7 @@ impl ClassRecord {
             number,
             close: 0,
             volume: 0,
-            designations: [0; 2],
+            designations: [0; COUNT as usize],
         }
     }
 

@@ -22,6 +22,7 @@ use crate::kind::key_of;
 use crate::limits::is_close;
 use crate::limits::is_designation;
 use crate::limits::is_volume;
+use crate::programs::DESIGNATIONS_END;
 use crate::programs::DOLLAR_BITS;
 use crate::programs::HALF_BITS;
 
@@ -55,7 +56,7 @@ pub fn write(run: &mut [u32], at: usize, figures: ClassRecord)
 fn is_class_above(w: u32, above: u32) -> bool
     ensures { λ r. ⌜ r ≡ isClassAbove above w ⌝ }
 {
-    is_bare(w, CLASS, HALF_BITS.low + HALF_BITS.width)
+    is_bare(w, CLASS, DESIGNATIONS_END)
         & ((above < key_of(w, CLASS))
             & (is_designation(field_of(w, DOLLAR_BITS)) & is_designation(field_of(w, HALF_BITS))))
 }

@@ -24,6 +24,9 @@ pub const HALF_BITS: Field = Field {
 
 const DESIGNATION_WIDTH: u32 = 2;
 
+// No designation has a bit from here on.
+pub const DESIGNATIONS_END: u32 = HALF_BITS.low + HALF_BITS.width;
+
 // What a new designation 1 needs: a close below this for $1, a close of at most this and a volume of at least this for
 // $0.50.
 pub const DOLLAR_PRICE: u32 = 5000;
@@ -31,6 +34,17 @@ pub const DOLLAR_PRICE: u32 = 5000;
 pub const HALF_PRICE: u32 = 500;
 
 pub const HALF_VOLUME: u32 = 1000;
+
+// Where a class word holds the designation in a program.
+pub fn bits_of(p: u32) -> Field
+    requires { ⌜ IsProgram p ⌝ }
+    ensures { λ r. ⌜ r ≡ program p .bits ⌝ }
+{
+    if p == DOLLAR {
+        return DOLLAR_BITS;
+    }
+    HALF_BITS
+}
 
 pub fn is_program(p: u32) -> bool
     ensures { λ r. ⌜ r ≡ isProgram p ⌝ }

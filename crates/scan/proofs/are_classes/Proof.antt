@@ -1,23 +1,24 @@
 -- `are_classes` tests the classes: each way through the loop is one law of the loop.
 use Prim.Native.Nat.{ℕ, _+_, _-_}
-use mathlib.Core.Path.{_≡_, refl, ap, _∙_}
-use mathlib.Core.Bool.{Bool, true, false, _||_}
+use mathlib.Core.Path.{_≡_, refl, sym, ap, _∙_}
+use mathlib.Core.Bool.{Bool, true, false, not, _||_}
 use native.Mathlib.Omega.{arith}
 use lib.ListN.{length}
-use lib.Dec.{ltb}
 use borrow.Author.Needs.{needs}
-use Rattle.word.specs.Caps.{own}
+use Rattle.logic.specs.Lists.{every}
+use Rattle.word.specs.Caps.{own, isCapKept}
 use Rattle.word.specs.Figures.{figuresLength}
-use Rattle.word.specs.Programs.{program}
+use Rattle.word.specs.Programs.{programs}
+use Rattle.word.proofs.EachProgram.{each-program}
 use Rattle.scan.specs.Ahead.{Tells}
 use Rattle.scan.specs.Stretches.{SeriesEnd}
-use Rattle.scan.proofs.Classes.{Walked, Counted, counted-same, walked-start, walked-short, walked-wrong, walked-counted, walked-end, counted-exceeded, counted-breaks, counted-more}
+use Rattle.scan.proofs.Classes.{countOf, caps-tested, Walked, Counted, counted-same, walked-start, walked-small, walked-short, walked-wrong, walked-counted, walked-end, counted-exceeded, counted-breaks, counted-more}
 use Rattle.scan.proofs.are_classes.Statement.{statement}
 use Rattle.scan.proofs.are_classes.Tie as tie
 
 abbrev Inv-loop : tie.InvT-loop
 Inv-loop current s n ahead₀ i₀ last₀ dollars₀ halves₀ ahead i last dollars halves =
-    Walked current s i last (dollars .0) (halves .0) × (Tells s ahead × (ahead .at ≡ i))
+    Walked current s i last (countOf (dollars .0) (halves .0)) × (Tells s ahead × (ahead .at ≡ i))
 
 abbrev μ-loop : tie.MeasureT-loop
 μ-loop current s n ahead₀ i₀ last₀ dollars₀ halves₀ ahead i last dollars halves = length s - i
@@ -49,13 +50,16 @@ tallied c = c .before .before
 abbrev capped : tie.After-expirations-end Inv-loop μ-loop → tie.Else3 Inv-loop μ-loop
 capped c = c .before .before
 
+-- the counts with the class at i
+abbrev counts : tie.After-counted2 Inv-loop μ-loop → ℕ → ℕ
+counts c = countOf (c .before .before .counted .result .0) (c .counted2 .result .0)
+
 -- the class at i is counted
 counted :
     (c : tie.After-counted2 Inv-loop μ-loop)
     → let at = turn (figured (numbered c)) in
     let args = start at .args in
-    Counted (args .current) (args .s .now) (at .loop .i) (numbered c .key-of .result)
-    (c .before .before .counted .result .0) (c .counted2 .result .0)
+    Counted (args .current) (args .s .now) (at .loop .i) (numbered c .key-of .result) (counts c)
 counted c =
     let passed = figured (numbered c) in
     let loop = turn passed .loop in
@@ -64,17 +68,19 @@ counted c =
     walked-counted (loop .inv .0) (roomy passed .if1 .left)
     (rw (passed .before .are-figures .ensures) at (passed .if2 .left)) in
     counted-same walk (numbered c .key-of .ensures)
-    (dollar .counted .ensures ∙ ap (λ (d : ℕ). loop .dollars .0 + own d) (dollar .before .field-of .ensures))
-    (c .counted2 .ensures ∙ ap (λ (d : ℕ). loop .halves .0 + own d) (c .before .field-of2 .ensures))
+    (each-program _ (
+      dollar .counted .ensures ∙ ap (λ (d : ℕ). loop .dollars .0 + own d) (dollar .before .field-of .ensures),
+      (c .counted2 .ensures ∙ ap (λ (d : ℕ). loop .halves .0 + own d) (c .before .field-of2 .ensures), tt),
+    ))
 
--- the caps are exceeded or kept by the counts
+-- the caps are exceeded or kept by them
 caps :
     (c : tie.After-is-exceeded2 Inv-loop μ-loop) (over : Bool)
     → (c .before .is-exceeded .result || c .is-exceeded2 .result) ≡ over
-    → (ltb (program 1 .cap) (tallied c .before .before .counted .result .0)
-    || ltb (program 2 .cap) (tallied c .counted2 .result .0))
-    ≡ over
-caps c over e = rw (c .before .is-exceeded .ensures, c .is-exceeded2 .ensures) at e
+    → not (every (isCapKept (counts (tallied c))) programs) ≡ over
+caps c over e =
+    sym (caps-tested (tallied c .before .before .counted .result .0) (tallied c .counted2 .result .0))
+    ∙ rw (c .before .is-exceeded .ensures, c .is-exceeded2 .ensures) at e
 
 -- its series end where the next class starts
 ended :
@@ -93,7 +99,8 @@ look-ahead-requires c κs = search needs
 loop-holds : tie.Need-loop-holds Inv-loop μ-loop
 loop-holds c =
     let start = c .before .before in
-    (walked-start (start .args .current) (start .args .s .now) (start .pre .1), c .look-ahead .ensures)
+    let none = each-program _ (refl, (refl, tt)) in
+    (walked-start (start .args .current) (start .args .s .now) (start .pre .1) none, c .look-ahead .ensures)
 
 mul-w : tie.Need-mul-w Inv-loop μ-loop
 mul-w c = search needs
@@ -131,10 +138,10 @@ field-of-requires-2 : tie.Need-field-of-requires-2 Inv-loop μ-loop
 field-of-requires-2 c κs = search needs
 
 counted-requires : tie.Need-counted-requires Inv-loop μ-loop
-counted-requires c κs = search needs
+counted-requires c κs = walked-small (turn (figured (c .before)) .loop .inv .0) 1 tt
 
 counted-requires-2 : tie.Need-counted-requires-2 Inv-loop μ-loop
-counted-requires-2 c κs = search needs
+counted-requires-2 c κs = walked-small (turn (figured (c .before .before .before)) .loop .inv .0) 2 tt
 
 is-exceeded-requires : tie.Need-is-exceeded-requires Inv-loop μ-loop
 is-exceeded-requires c κs = search needs

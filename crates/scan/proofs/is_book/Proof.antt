@@ -12,7 +12,7 @@ use borrow.Author.Tests.{not-true, not-false}
 use Rattle.word.specs.Head.{firstPlace, monthIn, isHead}
 use Rattle.word.specs.Limits.{isLength}
 use Rattle.logic.proofs.Tests.{true-T}
-use Rattle.scan.specs.Stretches.{Classes}
+use Rattle.scan.specs.Stretches.{AllClasses}
 use Rattle.scan.proofs.BookParts.{front, used-front, some-words, head-within, wrong-length, wrong-head, wrong-classes, zeros-left}
 use Rattle.scan.proofs.is_book.Statement.{statement}
 use Rattle.scan.proofs.is_book.Tie as tie
@@ -55,7 +55,7 @@ counted c = c .before .before .before
 -- the words used are tested as the head says
 classes :
     (c : tie.After-are-classes) → let ws = run (counted c .before) in
-    T (c .are-classes .result) ↔ Classes (monthIn ws) 0 0 0 (front ws)
+    T (c .are-classes .result) ↔ AllClasses (monthIn ws) (front ws)
 classes c =
     let used = counted c .used in
     let ws = run (counted c .before) in

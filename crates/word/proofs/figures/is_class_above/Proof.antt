@@ -1,10 +1,8 @@
 -- `is_class_above` tests what it says: its reads are the fields. Assumes nothing.
+use mathlib.Core.Bool.{and-true}
 use borrow.Author.Needs.{needs}
 use Rattle.word.proofs.figures.is_class_above.Statement.{statement}
 use Rattle.word.proofs.figures.is_class_above.Tie as tie
-
-add-is-bare : tie.Need-add-is-bare
-add-is-bare c = search needs
 
 is-bare-requires : tie.Need-is-bare-requires
 is-bare-requires c κs = search needs
@@ -35,13 +33,13 @@ returns c =
       dollar .is-designation .ensures,
       c .before .field-of2 .ensures,
       c .is-designation2 .ensures,
+      and-true,
     )
 
 pub is-class-above-spec : {M : Type 1} → statement M
 is-class-above-spec =
     tie.close
     (tie.spec
-    add-is-bare
     is-bare-requires
     key-of-requires
     field-of-requires
