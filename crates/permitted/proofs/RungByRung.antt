@@ -2,6 +2,7 @@
 -- the range are all of them. Assumes nothing.
 use mathlib.Core.Path.{_≡_, refl, sym, ap, ap₂, _∙_}
 use mathlib.Core.Bool.{Bool}
+use mathlib.Core.Logic.{⊎-elim}
 use mathlib.Core.List.{List, _++_, map}
 use Prim.Native.Nat.{ℕ, _+_, _-_, _≤_, _<_, min, max}
 use native.Mathlib.Nat.{add-sub-cancel, zero-add}
@@ -11,6 +12,7 @@ use lib.Seq.{sets}
 use Rattle.rule.specs.declared.terms.Setting.{Setting}
 use Rattle.rule.specs.declared.bounds.Rung.{Rung}
 use Rattle.logic.specs.Lists.{only, upFrom}
+use Rattle.logic.proofs.Tests.{lt-or-le}
 use Rattle.logic.proofs.Numbers.{left, left-none, left-skip, left-parts}
 use Rattle.logic.proofs.Stores.{Filling, filling-start, filling-as, filling-more, filling-done}
 use Rattle.rule.specs.Ends.{lowEnd, highEnd, rungs, Climbs}
@@ -119,9 +121,12 @@ module _ {s : Setting} {ws : List ℕ} {rs : List Rung} {range : Range} {start :
                   (g .filling));
             }
 
-    pub going-done : length rs ≤ i → Continued s ws range start o done b
-    going-done k =
-        let l : high < h = climbed-done (g .climbed) k in
+    -- a rung is left while a strike of the range is
+    pub going-left : h ≤ high → i < length rs
+    going-left l = ⊎-elim (λ k. k) (λ k. absurd (omega (arith, climbed-done (g .climbed) k))) (lt-or-le i (length rs))
+
+    pub going-done : high < h → Continued s ws range start o done b
+    going-done l =
         let written = filling-done (filling-as (left-none test (high + 1) h (omega arith)) (g .filling)) in
         record {
           count = written .0;

@@ -14,7 +14,6 @@ ghost use Rattle.rule.specs.Judgement.{isPermittedBeside};
 ghost use Rattle.permitted.specs.Listing.{Listable, Triable, OpenTriable, Continuable, Climbable, Continued};
 ghost use Rattle.permitted.specs.Listing.{standingStrike, strikeFrom, permittedBeside, Filled};
 use rule::amounts::ONE_DOLLAR;
-use rule::bounds::RUNGS;
 use rule::bounds::Rung;
 use rule::bounds::Rungs;
 use rule::bounds::high_end;
@@ -173,7 +172,7 @@ fn write_multiples(
     Progress { from, count }
 }
 
-// Goes on with the permitted strikes of the range, rung by rung.
+// Goes on with the permitted strikes of the range, rung by rung, as far as it reaches.
 fn write_range(
     s: Setting,
     standing: &[u32],
@@ -188,7 +187,7 @@ fn write_range(
     let mut reached = done;
     let mut low = range.low;
     let mut i: usize = 0;
-    while i < RUNGS {
+    while low <= range.high {
         let rung = rungs[i];
         let high = lower_of(rung.to, range.high);
         if low <= high {

@@ -160,7 +160,7 @@ fn ladder_end(class: ClassRecord) -> u32
 }
 
 // How many rungs there are.
-pub const RUNGS: usize = 5;
+const RUNGS: usize = 5;
 
 // The rungs of a setting.
 pub type Rungs = [Rung; RUNGS];
