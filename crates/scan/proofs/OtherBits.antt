@@ -135,15 +135,15 @@ module _ (ws : List ℕ) where
       let before : suc from - 1 ≡ from = omega arith in
       rw (more, drop-cons ws from 0 (omega arith), place, before)
 
-  -- where the 64 words from `start` on are the last
+  -- where the k words from `start` on are the last
   pub bits-last :
-      (start i : ℕ) → start ≤ i → i ≤ start + 64 → length ws ≤ start + 64
-      → bitsAt ws start 64 / 2 ^ (i - start) ≡ bitsAt ws i 64
-  bits-last start i l m h =
-      let all : i - start + (start + 64 - i) ≡ 64 = omega arith in
+      (k start i : ℕ) → start ≤ i → i ≤ start + k → length ws ≤ start + k
+      → bitsAt ws start k / 2 ^ (i - start) ≡ bitsAt ws i k
+  bits-last k start i l m h =
+      let all : i - start + (start + k - i) ≡ k = omega arith in
       let here : start + (i - start) ≡ i = omega arith in
-      rw (all, here) at (bits-later (i - start) start (start + 64 - i))
-      ∙ bits-whole i (start + 64 - i) (omega arith) ∙ sym (bits-whole i 64 (omega arith))
+      rw (all, here) at (bits-later (i - start) start (start + k - i))
+      ∙ bits-whole i (start + k - i) (omega arith) ∙ sym (bits-whole i k (omega arith))
 
   -- `low | (high << 32)` in 64 bits
   pub bits-joined :

@@ -71,7 +71,7 @@ fn others_of_64(s: &[u32], base: usize) -> u64
     others_of_32(&s[before..middle]) as u64 | (others_of_32(&s[last..end]) as u64) << HALF_BLOCK
 }
 
-// The others from `base` on among few words.
+// The others from `base` on among few words: of the last 32 those before the second half are shifted out.
 fn others_of_rest(s: &[u32], base: usize) -> u64
     requires { ⌜ Fewer (now s) base ⌝ }
     ensures { λ r. ⌜ r ≡ otherBits (getD (now (s .entry)) (base - 1) 0) (drop base (now (s .entry))) ⌝ }
@@ -81,9 +81,11 @@ fn others_of_rest(s: &[u32], base: usize) -> u64
     if n - base < HALF_BLOCK {
         return others_few(&s[before..n]) as u64;
     }
-    let last = before + HALF_BLOCK;
     let middle = base + HALF_BLOCK;
-    others_of_32(&s[before..middle]) as u64 | (others_few(&s[last..n]) as u64) << HALF_BLOCK
+    let last = n - HALF_BLOCK;
+    let before_last = last - 1;
+    let rest = others_of_32(&s[before_last..n]) as u64 >> (middle - last);
+    others_of_32(&s[before..middle]) as u64 | rest << HALF_BLOCK
 }
 
 // The others among the words of the block from `base` on. Where fewer are left, they are the last of a block.

@@ -47,7 +47,7 @@ returns-2 c =
     let a = joined .before .before .before .args in
     rw (c .before .others-of-64 .ensures)
     (⊎-elim
-    (λ w. bits-last (a .s .now) (joined .if2 .start) (a .base) (omega (arith, start-fits joined))
+    (λ w. bits-last (a .s .now) 64 (joined .if2 .start) (a .base) (omega (arith, start-fits joined))
     (omega (arith, start-fits joined)) (omega (arith, w .1)))
     (λ w. rw (w .1, sub-self (a .base)) (div-one (bitsAt (a .s .now) (a .base) 64)))
     (joined .if2 .came))

@@ -1,11 +1,11 @@
 -- `others_of_rest` tells the others: where there are more than 32 words, those of the first 32 are the low bits, those
--- of the rest the high ones.
-use Prim.Native.Nat.{_+_, _-_}
+-- of the last 32 that are not among these the high ones.
+use Prim.Native.Nat.{_+_, _-_, _/_, _^_}
 use mathlib.Core.Path.{_≡_, _∙_}
 use native.Mathlib.Omega.{arith}
 use lib.ListN.{length}
 use Rattle.scan.specs.Ahead.{halfBlock}
-use Rattle.scan.proofs.OtherBits.{bitsAt, bits-part, bits-joined, bits-whole}
+use Rattle.scan.proofs.OtherBits.{bitsAt, bits-part, bits-last, bits-joined, bits-whole}
 use borrow.Author.Needs.{needs}
 use Rattle.scan.proofs.ahead.others_of_rest.Statement.{statement}
 use Rattle.scan.proofs.ahead.others_of_rest.Tie as tie
@@ -42,11 +42,14 @@ returns c =
     ∙ bits-part s (a .base - 1) (length s) (a .base) (length s - a .base) (omega arith) (omega arith) (omega arith)
     ∙ bits-whole s (a .base) (length s - a .base) (omega arith)
 
-add-last : tie.Need-add-last
-add-last c = search needs
-
 add-middle : tie.Need-add-middle
 add-middle c = search needs
+
+sub-last : tie.Need-sub-last
+sub-last c = search needs
+
+sub-before-last : tie.Need-sub-before-last
+sub-before-last c = search needs
 
 mul-others-of-32 : tie.Need-mul-others-of-32
 mul-others-of-32 c = search needs
@@ -63,26 +66,32 @@ part-others-of-32-end c = search needs
 others-of-32-requires : tie.Need-others-of-32-requires
 others-of-32-requires c κs = search needs
 
+cast-rest : tie.Need-cast-rest
+cast-rest c = search needs
+
+sub-rest : tie.Need-sub-rest
+sub-rest c = search needs
+
+shr-rest : tie.Need-shr-rest
+shr-rest c = search needs
+
+mul-others-of-32-2 : tie.Need-mul-others-of-32-2
+mul-others-of-32-2 c = search needs
+
+sub-others-of-32-2 : tie.Need-sub-others-of-32-2
+sub-others-of-32-2 c = search needs
+
+part-others-of-32-start-2 : tie.Need-part-others-of-32-start-2
+part-others-of-32-start-2 c = search needs
+
+part-others-of-32-end-2 : tie.Need-part-others-of-32-end-2
+part-others-of-32-end-2 c = search needs
+
+others-of-32-requires-2 : tie.Need-others-of-32-requires-2
+others-of-32-requires-2 c κs = search needs
+
 cast-result-2 : tie.Need-cast-result-2
 cast-result-2 c = search needs
-
-mul-others-few-2 : tie.Need-mul-others-few-2
-mul-others-few-2 c = search needs
-
-sub-others-few-2 : tie.Need-sub-others-few-2
-sub-others-few-2 c = search needs
-
-part-others-few-start-2 : tie.Need-part-others-few-start-2
-part-others-few-start-2 c = search needs
-
-part-others-few-end-2 : tie.Need-part-others-few-end-2
-part-others-few-end-2 c = search needs
-
-others-few-requires-2 : tie.Need-others-few-requires-2
-others-few-requires-2 c κs = search needs
-
-cast-result-3 : tie.Need-cast-result-3
-cast-result-3 c = search needs
 
 shl-result : tie.Need-shl-result
 shl-result c = search needs
@@ -96,16 +105,17 @@ returns-2 c =
     let half = c .before .before in
     let a = start (half .before .before) .args in
     let s = a .s .now in
-    let rest = length s - (a .base + halfBlock) in
-    let low : half .others-of-32 .result ≡ bitsAt s (a .base) halfBlock =
-    half .others-of-32 .ensures
-    ∙ bits-part s (a .base - 1) (a .base + halfBlock) (a .base) halfBlock (omega arith) (omega arith) (omega arith) in
-    let high : c .others-few2 .result ≡ bitsAt s (a .base + halfBlock) rest =
-    c .others-few2 .ensures
-    ∙ bits-part s (a .base - 1 + halfBlock) (length s) (a .base + halfBlock) rest (omega arith) (omega arith)
-    (omega arith) in
-    rw (low, high) (bits-joined s (a .base) rest (omega arith))
-    ∙ bits-whole s (a .base) (halfBlock + rest) (omega arith)
+    let middle = a .base + halfBlock in
+    let last = length s - halfBlock in
+    let high : half .others-of-32 .result / 2 ^ (middle - last) ≡ bitsAt s middle halfBlock =
+    rw (half .others-of-32 .ensures
+    ∙ bits-part s (last - 1) (length s) last halfBlock (omega arith) (omega arith) (omega arith))
+    (bits-last s halfBlock last middle (omega arith) (omega arith) (omega arith)) in
+    let low : c .others-of-322 .result ≡ bitsAt s (a .base) halfBlock =
+    c .others-of-322 .ensures
+    ∙ bits-part s (a .base - 1) middle (a .base) halfBlock (omega arith) (omega arith) (omega arith) in
+    rw (low, high) (bits-joined s (a .base) halfBlock (omega arith))
+    ∙ bits-whole s (a .base) (halfBlock + halfBlock) (omega arith)
 
 pub others-of-rest-spec : {M : Type 1} → statement M
 others-of-rest-spec =
@@ -120,19 +130,22 @@ others-of-rest-spec =
     others-few-requires
     cast-result
     returns
-    add-last
     add-middle
+    sub-last
+    sub-before-last
     mul-others-of-32
     sub-others-of-32
     part-others-of-32-start
     part-others-of-32-end
     others-of-32-requires
+    cast-rest
+    sub-rest
+    shr-rest
+    mul-others-of-32-2
+    sub-others-of-32-2
+    part-others-of-32-start-2
+    part-others-of-32-end-2
+    others-of-32-requires-2
     cast-result-2
-    mul-others-few-2
-    sub-others-few-2
-    part-others-few-start-2
-    part-others-few-end-2
-    others-few-requires-2
-    cast-result-3
     shl-result
     returns-2)
