@@ -43,8 +43,9 @@
  * THE WORDS OF A BOOK, for readers
  * Bits 28 to 31 are a word's kind, bit 0 is the lowest, and bits that are not named are 0.
  *   1 head         current month in bits 0 to 9, words used (this one too) in 10 to 25
- *   2 class        number in bits 0 to 13, designation in the $1 program in 14 to 15 and in the
- *                  $0.50 program in 16 to 17; followed by its close and its volume
+ *   2 class        number in bits 0 to 13, designation in the $1 program in 14 to 15, in the $0.50
+ *                  program in 16 to 17 and in the $2.50 program in 18 to 19; followed by its close
+ *                  and its volume
  *   3 close        bits 0 to 19, 0 where none has come
  *   4 volume       bits 0 to 23
  *   5 expiration   month in bits 0 to 9; followed by its strikes, at least one
@@ -88,7 +89,8 @@ enum strike_book_number {
     STRIKE_BOOK_NO_CLOSE = 8,
     /* Close or volume of the class does not qualify for the program. */
     STRIKE_BOOK_NOT_QUALIFIED = 9,
-    /* The program has as many classes of our own as it may have: 150 ($1), 20 ($0.50). */
+    /* The program has as many classes of our own as it may have: 150 ($1), 20 ($0.50), 60
+     * ($2.50). */
     STRIKE_BOOK_CAP_REACHED = 10,
     /* The strike is on no ground's grid. */
     STRIKE_BOOK_OFF_GRID = 11,
@@ -96,11 +98,12 @@ enum strike_book_number {
      * range is, at a close above $20, from half the close to one and a half times it; at $20 or
      * less, up to twice the close, and the five lowest strikes above it: of whole dollars for
      * STANDARD and DOLLAR in a near expiration of the $1 program, else of the ground's own grid.
-     * A WING is in range when the multiples of $5 below and above it are, as STANDARD. */
+     * A WING is in range when the multiples of $5 below and above it are, as STANDARD. TWO_FIFTY
+     * has the range of STANDARD, and its own strikes are not among the five. */
     STRIKE_BOOK_OUT_OF_RANGE = 12,
     /* The strike is on a grid and in range, and too near to one that stands: within $1 in a long
      * expiration; within $0.50 where one is on the ground DOLLAR and the other is on the ground
-     * STANDARD and an odd multiple of $2.50. */
+     * STANDARD or TWO_FIFTY and an odd multiple of $2.50. */
     STRIKE_BOOK_TOO_CLOSE = 13,
     /* The strike has open interest and cannot be delisted. */
     STRIKE_BOOK_OPEN_INTEREST = 14,
@@ -122,13 +125,18 @@ enum strike_book_ground {
     STRIKE_BOOK_HALF = 2,
     /* Strikes $2 or $3 above a multiple of $5, below $50: long expirations, $1 program, close
      * below $50. */
-    STRIKE_BOOK_WING = 3
+    STRIKE_BOOK_WING = 3,
+    /* Multiples of $2.50 above $25 and below $50, and from $50 to $100 those at most $10 from the
+     * close: near expirations, $2.50 program. A class that is in the $1 program too has only
+     * multiples of $5 below $50. */
+    STRIKE_BOOK_TWO_FIFTY = 4
 };
 
-/* The programs. A class is in a program with designation 1 or 2. */
+/* The $1, the $0.50 and the $2.50 program. A class is in a program with designation 1 or 2. */
 enum strike_book_program {
     STRIKE_BOOK_DOLLAR_PROGRAM = 1,
-    STRIKE_BOOK_HALF_PROGRAM = 2
+    STRIKE_BOOK_HALF_PROGRAM = 2,
+    STRIKE_BOOK_TWO_FIFTY_PROGRAM = 3
 };
 
 /* How a class stands in a program. Only our own classes count against its cap. */
@@ -145,7 +153,8 @@ typedef struct strike_book_reply {
 } strike_book_reply;
 
 /* Whether the run is a book: it has the form above with every field in its limits, at most 150
- * classes of our own in the $1 program and at most 20 in the $0.50 program. */
+ * classes of our own in the $1 program, at most 20 in the $0.50 program and at most 60 in the
+ * $2.50 program. */
 bool strike_book_is_book(const uint32_t *run, size_t run_length);
 
 /* Makes a fresh book of the run, whatever it holds: current month 0 and no class. Refuses
@@ -170,9 +179,10 @@ strike_book_reply strike_book_set_volume(uint32_t *run, size_t run_length, uint3
 
 /* Gives a class a designation in a program. The present one again is accepted without any test. A
  * new OURS needs a close below $50 for the $1 program, or a close of at most $5 and a volume of at
- * least 1,000 for the $0.50 program, and a place under the program's cap. NONE and ANOTHER need
- * nothing. The strikes of the class stay. Refuses NOT_A_BOOK, BEYOND_LIMITS, NOT_OPEN, and on a new
- * OURS NO_CLOSE, NOT_QUALIFIED, CAP_REACHED. */
+ * least 1,000 for the $0.50 program, and a place under the program's cap; for the $2.50 program it
+ * needs that place only, and no close. NONE and ANOTHER need nothing. The strikes of the class
+ * stay. Refuses NOT_A_BOOK, BEYOND_LIMITS, NOT_OPEN, and on a new OURS NO_CLOSE, NOT_QUALIFIED,
+ * CAP_REACHED. */
 strike_book_reply strike_book_designate(uint32_t *run, size_t run_length, uint32_t class_number,
                                         uint32_t program, uint32_t designation);
 

@@ -14,6 +14,9 @@ pub enum Ground {
     Half = 2,
     /// $2 or $3 above a multiple of $5, below $50: long expirations, $1 program, close below $50.
     Wing = 3,
+    /// Multiples of $2.50 above $25 and below $50 (in the $1 program only of $5), and from $50 to $100 those
+    /// at most $10 from the close: near expirations, $2.50 program.
+    TwoFifty = 4,
 }
 
 /// Why a call was refused. Of several reasons it is the one with the lowest number.
@@ -152,6 +155,7 @@ pub(crate) fn ground(reply: Reply) -> Result<Ground, Refusal> {
         1 => Ground::Dollar,
         2 => Ground::Half,
         3 => Ground::Wing,
+        4 => Ground::TwoFifty,
         _ => unreachable!("no ground has the number {value}"),
     })
 }

@@ -33,13 +33,15 @@ pub use answer::{Ground, Refusal};
 
 use answer::{accepted, done, equal, ground};
 
-/// A program of low-priced classes.
+/// A program that gives its classes more strikes.
 #[derive(Clone, Copy, Debug, PartialEq, Eq)]
 pub enum Program {
     /// The $1 program, at most 150 classes of our own.
     Dollar = 1,
     /// The $0.50 program, at most 20 classes of our own.
     Half = 2,
+    /// The $2.50 program, at most 60 classes of our own.
+    TwoFifty = 3,
 }
 
 /// How a class stands in a program.
@@ -146,7 +148,7 @@ impl<'a> Book<'a> {
 
     /// Gives a class a designation in a program. The present one again is accepted untested; a new
     /// [`Designation::Ours`] needs a close (and for [`Program::Half`] a volume) that qualifies, and
-    /// a place under the cap.
+    /// a place under the cap; for [`Program::TwoFifty`] it needs that place only.
     pub fn designate(
         &mut self,
         class: u32,

@@ -104,6 +104,25 @@ fn programs_and_their_caps() {
 }
 
 #[test]
+fn the_two_fifty_program_needs_no_close() {
+    let mut run = [0; 4_096];
+    let mut book = Book::fresh(&mut run).unwrap();
+    let two_fifty = |book: &mut Book, class, d| book.designate(class, Program::TwoFifty, d);
+    for class in 1..=61 {
+        book.open_class(class).unwrap();
+        let wanted = match class {
+            61 => Err(Refusal::CapReached),
+            _ => Ok(()),
+        };
+        assert_eq!(two_fifty(&mut book, class, Designation::Ours), wanted);
+    }
+    two_fifty(&mut book, 61, Designation::Another).unwrap();
+    two_fifty(&mut book, 1, Designation::None).unwrap();
+    assert_eq!(two_fifty(&mut book, 61, Designation::Ours), Ok(()));
+    assert_eq!(book.judge_strike(61, 5, 55), Err(Refusal::NoClose));
+}
+
+#[test]
 fn grounds_spacing_and_review() {
     let mut run = [0; 64];
     let mut book = at_close(&mut run, 1_300);
@@ -125,6 +144,23 @@ fn grounds_spacing_and_review() {
     book.set_volume(7, 1_000).unwrap();
     book.designate(7, Program::Half, Designation::Ours).unwrap();
     assert_eq!(book.judge_strike(7, 5, 1), Ok(Ground::Half));
+}
+
+#[test]
+fn strikes_of_the_two_fifty_program() {
+    let mut run = [0; 64];
+    let mut book = at_close(&mut run, 4_850);
+    book.designate(7, Program::TwoFifty, Designation::Ours)
+        .unwrap();
+    assert_eq!(book.judge_strike(7, 5, 95), Ok(Ground::TwoFifty));
+    assert_eq!(book.list_strike(7, 5, 105), Ok(Ground::TwoFifty));
+    assert_eq!(book.judge_strike(7, 5, 115), Ok(Ground::TwoFifty));
+    assert_eq!(book.judge_strike(7, 5, 125), Err(Refusal::OffGrid));
+    assert_eq!(book.judge_strike(7, 13, 105), Err(Refusal::OffGrid));
+    book.designate(7, Program::Dollar, Designation::Ours)
+        .unwrap();
+    assert_eq!(book.judge_strike(7, 5, 95), Err(Refusal::OffGrid));
+    assert_eq!(book.judge_strike(7, 5, 115), Ok(Ground::TwoFifty));
 }
 
 #[test]
@@ -221,6 +257,23 @@ fn lists_that_leave_two_books() {
     let answer = compare_lists(&mut left, &mut right, &mut [], &[], &[]);
     assert_eq!(answer, Ok(true));
     assert_eq!(left[..2], [1 << 28 | 1 << 10, 0]);
+}
+
+#[test]
+fn lists_that_leave_two_designations() {
+    let (mut left, mut right) = ([0; 64], [0; 64]);
+    let designated = |d| {
+        [
+            call(b'O', &[7], 0),
+            call(b'D', &[7, 3, 2], 0),
+            call(b'D', &[7, 3, d], 0),
+        ]
+    };
+    let opened = [call(b'O', &[7], 0)];
+    for (d, equal) in [(0, true), (1, false), (2, false)] {
+        let answer = compare_lists(&mut left, &mut right, &mut [], &designated(d), &opened);
+        assert_eq!(answer, Ok(equal), "{d}");
+    }
 }
 
 #[test]

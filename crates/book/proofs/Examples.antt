@@ -45,7 +45,7 @@ openedFacts =
       now = 4;
       classes =
           record {
-            figures = record { number = 7; close = 200; volume = 0; designations = 1 ∷ 0 ∷ [] };
+            figures = record { number = 7; close = 200; volume = 0; designations = 1 ∷ 0 ∷ 0 ∷ [] };
             series = [];
           }
           ∷ [];
@@ -142,21 +142,30 @@ review-between = refl
 
 -- ---- "The 151st class draws 10, and passes after a release."
 
--- n classes from number c on that are ours in the $1 program, then one that is not
-classesOwned : ℕ → ℕ → List OpenClass
-classesOwned zero c =
-    record { figures = record { number = c; close = 4999; volume = 0; designations = 0 ∷ 0 ∷ [] }; series = [] } ∷ []
-classesOwned (suc n) c =
-    record { figures = record { number = c; close = 4999; volume = 0; designations = 1 ∷ 0 ∷ [] }; series = [] }
-    ∷ classesOwned n (suc c)
+-- n classes from number c on with the designations `ours`, then one with none
+classesOwned : List ℕ → ℕ → ℕ → List OpenClass
+classesOwned ours zero c =
+    record { figures = record { number = c; close = 0; volume = 0; designations = 0 ∷ 0 ∷ 0 ∷ [] }; series = [] } ∷ []
+classesOwned ours (suc n) c =
+    record { figures = record { number = c; close = 0; volume = 0; designations = ours }; series = [] }
+    ∷ classesOwned ours n (suc c)
 
 cap-dollar :
-    numbers 4096 (on 150 (callD 1 1) ∷ []) (record { now = 0; classes = classesOwned 149 1 })
-    ++ numbers 4096 (on 151 (callD 1 1) ∷ on 3 (callD 1 2) ∷ on 151 (callD 1 1) ∷ [])
-    (record { now = 0; classes = classesOwned 150 1 })
-    ≡ 0 ∷ 10 ∷ 0 ∷ 0 ∷ []
+    let owned : ℕ → Facts = λ n. record { now = 0; classes = classesOwned (1 ∷ 0 ∷ 0 ∷ []) n 1 } in
+    numbers 4096 (on 150 (callC 4999) ∷ on 150 (callD 1 1) ∷ []) (owned 149)
+    ++ numbers 4096 (on 151 (callC 4999) ∷ on 151 (callD 1 1) ∷ on 3 (callD 1 2) ∷ on 151 (callD 1 1) ∷ []) (owned 150)
+    ≡ 0 ∷ 0 ∷ 0 ∷ 10 ∷ 0 ∷ 0 ∷ []
 unfolding numbers classesOwned
 cap-dollar = refl
+
+-- #101: "up to 60 classes of our own"; "a new 1 needs the cap only, not a close"
+cap-two-fifty :
+    let owned : ℕ → Facts = λ n. record { now = 0; classes = classesOwned (0 ∷ 0 ∷ 1 ∷ []) n 1 } in
+    numbers 4096 (on 60 (callD 3 1) ∷ []) (owned 59)
+    ++ numbers 4096 (on 61 (callD 3 1) ∷ on 3 (callD 3 2) ∷ on 61 (callD 3 1) ∷ on 61 (callD 3 1) ∷ []) (owned 60)
+    ≡ 0 ∷ 10 ∷ 0 ∷ 0 ∷ 0 ∷ []
+unfolding numbers classesOwned
+cap-two-fifty = refl
 
 -- n classes from number c on, openedFacts and made ours in the $0.50 program
 claims : ℕ → ℕ → List Call
@@ -235,7 +244,7 @@ limits :
     ∷ on 1 (callC 1000000)
     ∷ on 1 (callV 10000000)
     ∷ on 1 (callD 0 0)
-    ∷ on 1 (callD 3 0)
+    ∷ on 1 (callD 4 0)
     ∷ on 1 (callD 1 3)
     ∷ on 1 (callJ 5 0)
     ∷ on 1 (callJ 5 20000)

@@ -13,16 +13,16 @@ use Rattle.book.specs.Books.{isWellFormed, isBook}
 series : (month strike ground put call : ℕ) → Series
 series m h g a b = record { month = m; strike = h; ground = g; put = a; call = b }
 
--- month 5; class 7, designations 1 and 2, close $25, volume 1,200; in month 6 the strikes $25 and $26, in month 9 the
--- strike $22.50
+-- month 5; class 7, designations 1, 2 and 1, close $25, volume 1,200; in month 6 the strikes $25 and $26, in month 9
+-- the strikes $22.50 and $27.50
 facts : Facts
 facts =
     record {
       now = 5;
       classes =
           record {
-            figures = record { number = 7; close = 2500; volume = 1200; designations = 1 ∷ 2 ∷ [] };
-            series = series 6 50 1 1 0 ∷ series 6 52 0 0 0 ∷ series 9 45 3 1 1 ∷ [];
+            figures = record { number = 7; close = 2500; volume = 1200; designations = 1 ∷ 2 ∷ 1 ∷ [] };
+            series = series 6 50 1 1 0 ∷ series 6 52 0 0 0 ∷ series 9 45 3 1 1 ∷ series 9 55 4 0 0 ∷ [];
           }
           ∷ [];
     }
@@ -32,7 +32,7 @@ facts =
 run : ℕ → List ℕ → List ℕ
 run count rest =
     (2 ^ 28 + count * 2 ^ 10 + 5)
-    ∷ (2 ^ 29 + 2 ^ 17 + 2 ^ 14 + 7)
+    ∷ (2 ^ 29 + 2 ^ 18 + 2 ^ 17 + 2 ^ 14 + 7)
     ∷ (2 ^ 29 + 2 ^ 28 + 2500)
     ∷ (2 ^ 30 + 1200)
     ∷ (2 ^ 30 + 2 ^ 28 + 6)
@@ -40,11 +40,12 @@ run count rest =
     ∷ (2 ^ 30 + 2 ^ 29 + 52)
     ∷ (2 ^ 30 + 2 ^ 28 + 9)
     ∷ (2 ^ 30 + 2 ^ 29 + 2 ^ 19 + 2 ^ 18 + 2 ^ 16 + 2 ^ 15 + 45)
+    ∷ (2 ^ 30 + 2 ^ 29 + 2 ^ 17 + 55)
     ∷ rest
 
 -- a strike of the last expiration, an expiration, and a class with no close, volume or strike
 strike : List ℕ
-strike = (2 ^ 30 + 2 ^ 29 + 46) ∷ 0 ∷ 0 ∷ []
+strike = (2 ^ 30 + 2 ^ 29 + 60) ∷ 0 ∷ 0 ∷ []
 
 expiration : List ℕ
 expiration = (2 ^ 30 + 2 ^ 28 + 10) ∷ 0 ∷ 0 ∷ []
@@ -54,50 +55,59 @@ bareClass c = (2 ^ 29 + c) ∷ (2 ^ 29 + 2 ^ 28) ∷ 2 ^ 30 ∷ []
 
 -- ---- books
 
-layout-words : layout 12 facts ≡ run 9 (0 ∷ 0 ∷ 0 ∷ [])
+layout-words : layout 13 facts ≡ run 10 (0 ∷ 0 ∷ 0 ∷ [])
 unfolding layout facts series run
 layout-words = refl
 
-is-book : isBook (run 9 (0 ∷ 0 ∷ 0 ∷ [])) ≡ true
+is-book : isBook (run 10 (0 ∷ 0 ∷ 0 ∷ [])) ≡ true
 unfolding isBook isWellFormed factsOf layout reading run
 is-book = refl
 
-strike-more : isBook (run 10 strike) ≡ true
+strike-more : isBook (run 11 strike) ≡ true
 unfolding isBook isWellFormed factsOf layout reading run strike
 strike-more = refl
 
-class-more : isBook (run 12 (bareClass 8)) ≡ true
+class-more : isBook (run 13 (bareClass 8)) ≡ true
 unfolding isBook isWellFormed factsOf layout reading run bareClass
 class-more = refl
 
 -- ---- no books
 
--- bit 18 of a class word has no name
-stray-bit : isBook (set (run 9 (0 ∷ 0 ∷ 0 ∷ [])) 1 (2 ^ 29 + 2 ^ 18 + 2 ^ 17 + 2 ^ 14 + 7)) ≡ false
+-- bit 20 of a class word has no name
+stray-bit : isBook (set (run 10 (0 ∷ 0 ∷ 0 ∷ [])) 1 (2 ^ 29 + 2 ^ 20 + 2 ^ 18 + 2 ^ 17 + 2 ^ 14 + 7)) ≡ false
 unfolding isBook isWellFormed factsOf layout reading run
 stray-bit = refl
 
-no-strikes : isBook (run 10 expiration) ≡ false
+-- no designation is 3, and no ground is 5
+third-designation : isBook (set (run 10 (0 ∷ 0 ∷ 0 ∷ [])) 1 (2 ^ 29 + 2 ^ 19 + 2 ^ 18 + 2 ^ 17 + 2 ^ 14 + 7)) ≡ false
+unfolding isBook isWellFormed factsOf layout reading run
+third-designation = refl
+
+fifth-ground : isBook (set (run 10 (0 ∷ 0 ∷ 0 ∷ [])) 9 (2 ^ 30 + 2 ^ 29 + 2 ^ 17 + 2 ^ 15 + 55)) ≡ false
+unfolding isBook isWellFormed factsOf layout reading run
+fifth-ground = refl
+
+no-strikes : isBook (run 11 expiration) ≡ false
 unfolding isBook isWellFormed factsOf layout reading run expiration
 no-strikes = refl
 
-count-above : isBook (run 10 (0 ∷ 0 ∷ 0 ∷ [])) ≡ false
+count-above : isBook (run 11 (0 ∷ 0 ∷ 0 ∷ [])) ≡ false
 unfolding isBook isWellFormed factsOf layout reading run
 count-above = refl
 
 -- a legal word past those that the head counts
-count-below : isBook (run 9 strike) ≡ false
+count-below : isBook (run 10 strike) ≡ false
 unfolding isBook isWellFormed factsOf layout reading run strike
 count-below = refl
 
-word-past : isBook (run 9 (0 ∷ 0 ∷ 1 ∷ [])) ≡ false
+word-past : isBook (run 10 (0 ∷ 0 ∷ 1 ∷ [])) ≡ false
 unfolding isBook isWellFormed factsOf layout reading run
 word-past = refl
 
-classes-falling : isBook (run 12 (bareClass 6)) ≡ false
+classes-falling : isBook (run 13 (bareClass 6)) ≡ false
 unfolding isBook isWellFormed factsOf layout reading run bareClass
 classes-falling = refl
 
-class-twice : isBook (run 12 (bareClass 7)) ≡ false
+class-twice : isBook (run 13 (bareClass 7)) ≡ false
 unfolding isBook isWellFormed factsOf layout reading run bareClass
 class-twice = refl

@@ -25,7 +25,10 @@ pub tabled : (p : ℕ) → T (isProgram p) → Tabled p
 tabled =
     each-program Tabled (
       record { number = refl; cap = omega arith; bits = (omega arith, omega arith) },
-      (record { number = refl; cap = omega arith; bits = (omega arith, omega arith) }, tt),
+      (
+        record { number = refl; cap = omega arith; bits = (omega arith, omega arith) },
+        (record { number = refl; cap = omega arith; bits = (omega arith, omega arith) }, tt),
+      ),
     )
 
 -- each cap is kept exactly when it is of each program's number

@@ -20,7 +20,8 @@ pub record Series : Type 0 where
   pub put : ℕ
   pub call : ℕ
 
--- "for each open class its close, volume, two designations and a set of" series, which rise by month and then by strike
+-- "for each open class its close, volume, two designations and a set of" series, which rise by month and then by
+-- strike; #101: "equality of books now reads the third designation too"
 pub record OpenClass : Type 0 where
   pub figures : ClassRecord
   pub series : List Series
@@ -98,7 +99,8 @@ insertSeries s ss = inserted precedes s ss
 
 -- ---- sums
 
--- "The count against 150 and the count against 20 are two counters": the classes whose designation in the program is 1
+-- "The count against 150 and the count against 20 are two counters", and #101: "its own counter": the classes whose
+-- designation in the program is 1
 abbrev pub owned : ℕ → List OpenClass → ℕ
 owned p xs = sum (λ x. own (designation p (x .figures))) xs
 

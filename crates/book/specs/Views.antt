@@ -12,7 +12,8 @@ use Rattle.rule.specs.declared.terms.Setting.{Setting}
 use Rattle.logic.specs.Lists.{every, some, only}
 use Rattle.word.specs.Limits.{cents}
 use Rattle.rule.specs.Grids.{dollarGround, wingGround}
-use Rattle.rule.specs.Spacing.{Standing, apart}
+use Rattle.rule.specs.Terms.{apart}
+use Rattle.rule.specs.Spacing.{Standing}
 use Rattle.rule.specs.Judgement.{rowsOf, judgement}
 use Rattle.word.specs.Programs.{program}
 use Rattle.book.specs.Facts.{Series, OpenClass, Facts, isOpen, classOf, isAt, stands, inMonth, isMarked}

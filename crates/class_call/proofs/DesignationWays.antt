@@ -4,27 +4,25 @@ use Prim.Native.Nat.{ℕ, _-_, _≤_}
 use mathlib.Core.Path.{_≡_, refl, sym, ap, _∙_}
 use mathlib.Core.Bool.{true, false, not, _&&_}
 use mathlib.Core.List.{List, [], _∷_, _++_}
-use native.Mathlib.Omega.{arith}
 use lib.ListN.{length}
 use lib.Dec.{T, leb→le}
-use borrow.Author.Tests.{not-true, not-false, eq-eqb, ne-eqb}
+use borrow.Author.Tests.{not-true, not-false}
 use Rattle.word.specs.declared.class.ClassRecord.{ClassRecord}
 use Rattle.word.specs.declared.answer.Answer.{Answer}
 use Rattle.word.specs.declared.answer.Answer.the-variants.{Done, Refused}
 use Rattle.word.specs.declared.answer.Refusal.the-variants.{NoClose, NotQualified, CapReached}
 use Rattle.word.specs.Limits.{isClassNumber, isDesignation}
-use Rattle.word.specs.Programs.{dollarProgram, programs, programCount, isProgram, program}
+use Rattle.word.specs.Programs.{programs, programCount, isProgram, program}
 use Rattle.word.specs.Class.{withDesignation}
 use Rattle.word.specs.Answers.{isAccepted}
 use Rattle.book.specs.Facts.{Facts}
 use Rattle.book.specs.Layout.{factsOf}
 use Rattle.word.specs.Figures.{areFigures}
 use Rattle.book.specs.Books.{isBook}
-use Rattle.book.specs.Views.{isNew}
+use Rattle.book.specs.Views.{isNew, lacksClose}
 use Rattle.book.specs.Calls.{on, callD, Condition, firstOr, claiming, effectOn, isCapReached, capping, answerTo}
 use Rattle.book.specs.Made.{Made}
-use Rattle.logic.proofs.Tests.{ands, and-intro, T-true, passed}
-use Rattle.logic.proofs.Lists.{every-at}
+use Rattle.logic.proofs.Tests.{ands, and-intro, passed}
 use Rattle.book.proofs.ProgramTable.{designations-set}
 use Rattle.book.proofs.Order.{granted-answer}
 use Rattle.book.proofs.Answered.{made-refused}
@@ -42,30 +40,24 @@ module _ (f : Facts) (r : ClassRecord) (p d : ℕ) where
   pub claim-untested : not (isNew p d r) ≡ true → Done ≡ firstOr Done (claimAsks p d r f)
   claim-untested e = rw (not-true (isNew p d r) e)
 
-  module _ (known : (1 ≤ p) × (p ≤ programCount)) (new : not (isNew p d r) ≡ false) where
+  module _ (new : not (isNew p d r) ≡ false) where
     is-new : isNew p d r ≡ true
     is-new = not-false (isNew p d r) new
 
-    -- every program needs a close
-    needed : program p .needsClose ≡ true
-    needed =
-        T-true (program p .needsClose)
-        (every-at (λ g. g .needsClose) dollarProgram programs (p - 1) (omega (arith, known)) tt)
+    pub claim-no-close : lacksClose p r ≡ true → Refused NoClose ≡ firstOr Done (claimAsks p d r f)
+    claim-no-close e = rw (is-new, e)
 
-    pub claim-no-close : r .close ≡ 0 → Refused NoClose ≡ firstOr Done (claimAsks p d r f)
-    claim-no-close e = rw (is-new, needed, eq-eqb (r .close) 0 e)
-
-    module _ (close : r .close ≡ 0 → ⊥) where
+    module _ (close : lacksClose p r ≡ false) where
       pub claim-not-qualified :
           not (program p .qualifies r) ≡ true → Refused NotQualified ≡ firstOr Done (claimAsks p d r f)
-      claim-not-qualified e = rw (is-new, needed, ne-eqb (r .close) 0 close, e)
+      claim-not-qualified e = rw (is-new, close, e)
 
       module _ (qualified : not (program p .qualifies r) ≡ false) where
         pub claim-capped : isCapReached p f ≡ true → Refused CapReached ≡ firstOr Done (claimAsks p d r f)
-        claim-capped e = rw (is-new, needed, ne-eqb (r .close) 0 close, qualified, e)
+        claim-capped e = rw (is-new, close, qualified, e)
 
         pub claim-granted : isCapReached p f ≡ false → Done ≡ firstOr Done (claimAsks p d r f)
-        claim-granted e = rw (is-new, needed, ne-eqb (r .close) 0 close, qualified, e)
+        claim-granted e = rw (is-new, close, qualified, e)
 
 -- ---- the ways out of `D`
 

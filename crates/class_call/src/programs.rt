@@ -9,11 +9,14 @@ ghost use Rattle.book.specs.Calls.{capping, claiming, firstOr, isCapReached};
 ghost use Rattle.book.specs.Layout.{factsOf};
 use place::own::own_dollars;
 use place::own::own_halves;
+use place::own::own_two_fifties;
 use word::answer::Answer;
 use word::answer::Refusal;
 use word::class::ClassRecord;
 use word::programs::DOLLAR;
+use word::programs::HALF;
 use word::programs::is_qualified;
+use word::programs::needs_close;
 
 // Whether the program's cap is reached, by its own counter.
 fn is_cap_reached(run: &[u32], p: u32) -> bool
@@ -23,7 +26,10 @@ fn is_cap_reached(run: &[u32], p: u32) -> bool
     if p == DOLLAR {
         return own_dollars(run).is_full();
     }
-    own_halves(run).is_full()
+    if p == HALF {
+        return own_halves(run).is_full();
+    }
+    own_two_fifties(run).is_full()
 }
 
 // What a designation draws: nothing unless it is newly 1, and then 8, 9 or 10.
@@ -35,7 +41,7 @@ pub fn claim_of(run: &[u32], figures: ClassRecord, p: u32, d: u32) -> Answer
     if !((d == 1) & (figures.designation(p) != 1)) {
         return Answer::Done;
     }
-    if figures.close == 0 {
+    if needs_close(p) & (figures.close == 0) {
         return Answer::Refused(Refusal::NoClose);
     }
     if !is_qualified(figures, p) {

@@ -13,6 +13,7 @@ ghost use Rattle.book.specs.Books.{isBook};
 use crate::head;
 use word::caps::DollarCount;
 use word::caps::HalfCount;
+use word::caps::TwoFiftyCount;
 use word::caps::own_class;
 use word::field::Field;
 use word::field::field_of;
@@ -21,6 +22,7 @@ use word::kind::CLASS;
 use word::kind::is_of_kind;
 use word::programs::DOLLAR;
 use word::programs::HALF;
+use word::programs::TWO_FIFTY;
 use word::programs::bits_of;
 
 // The designation in a field of a class word; 0 of any other word.
@@ -63,4 +65,11 @@ pub fn own_halves(run: &[u32]) -> HalfCount
     ensures { λ r. ⌜ r .0 ≡ owned 2 (factsOf (now (run .entry)) .classes) ⌝ }
 {
     HalfCount(own_classes(run, HALF))
+}
+
+pub fn own_two_fifties(run: &[u32]) -> TwoFiftyCount
+    requires { ⌜ T (isBook (now run)) ⌝ }
+    ensures { λ r. ⌜ r .0 ≡ owned 3 (factsOf (now (run .entry)) .classes) ⌝ }
+{
+    TwoFiftyCount(own_classes(run, TWO_FIFTY))
 }

@@ -12,7 +12,7 @@ use Rattle.logic.specs.Lists.{every, only}
 use Rattle.word.specs.Limits.{highestStrike, cents}
 use Rattle.word.specs.Kinds.{strikeKind}
 use Rattle.rule.specs.Grids.{dollarGround, wingGround}
-use Rattle.rule.specs.Spacing.{apart}
+use Rattle.rule.specs.Terms.{apart}
 use Rattle.book.specs.Facts.{Series, OpenClass, isMarked}
 use Rattle.book.specs.Books.{isSeries}
 use Rattle.book.specs.Views.{reviewDistance, isReviewed}

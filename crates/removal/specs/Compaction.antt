@@ -10,7 +10,7 @@ use Rattle.word.specs.Head.{firstPlace}
 use Rattle.word.specs.Strikes.{marks}
 use Rattle.word.specs.Limits.{cents}
 use Rattle.rule.specs.Grids.{dollarGround, wingGround}
-use Rattle.rule.specs.Spacing.{apart}
+use Rattle.rule.specs.Terms.{apart}
 use Rattle.book.specs.Views.{reviewDistance}
 use Rattle.removal.specs.declared.marks.Bounds.{Bounds}
 use Rattle.removal.specs.declared.compaction.CompactionState.{CompactionState}

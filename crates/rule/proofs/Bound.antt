@@ -6,19 +6,19 @@ use mathlib.Core.Logic.{⊎-elim}
 use Prim.Native.Nat.{ℕ, _+_, _*_, _-_, _/_, _%_, _≤_, _<_, min, max}
 use native.Mathlib.Omega.{arith}
 use lib.Dec.{T, leb, ltb, leb→le, le→leb}
-use borrow.Author.Tests.{ltb-false, leb-true, leb-false, le-leb, lt-ltb, le-ltb, eq-eqb}
+use borrow.Author.Tests.{ltb-true, ltb-false, leb-true, leb-false, le-leb, lt-ltb, le-ltb, eq-eqb}
 use Rattle.logic.proofs.Tests.{ands, parts, true-T, T-true, or-cases, same-bool}
 use Rattle.logic.proofs.Multiples.{times}
 use Rattle.word.specs.Limits.{highestStrike, halfDollar, cents}
 use Rattle.rule.specs.declared.terms.Setting.{Setting}
 use Rattle.word.specs.Programs.{halfPrice, halfVolume}
 use Rattle.rule.specs.Terms.{inHalves, isDollarClass, isHalfClass, isLong, isNear, price}
-use Rattle.rule.specs.Grids.{multiple, standardGrid, dollarGrid, halfDollars, halfGrid, wingBase, wingGrid}
+use Rattle.rule.specs.Grids.{multiple, standardGrid, dollarGrid, halfDollars, halfGrid, wingBase, wingGrid, twoFiftyGrid}
 use Rattle.rule.specs.Grids.{oneDollar, twoFifty, fiveDollars, fiveFifty}
 use Rattle.rule.specs.Ranges.{rangeCount, lowPrice, amongFive, rangeBy, rangeGrid, standardRange, rangeOf}
-use Rattle.rule.specs.Ends.{fifthOn, fifteenDollars, fifthAbove, quarterDollar, halfEnd, lowEnd, highEnd, lastDollar, reachOf}
+use Rattle.rule.specs.Ends.{fifthOn, fifteenDollars, fifthAbove, quarterDollar, halfEnd, lowEnd, highEnd, lastDollar, lastTwoFifty, reachOf}
 use Rattle.rule.proofs.Five.{five, five-half-dollars}
-use Rattle.rule.proofs.Steps.{standard-five, fives-standard, Wing, wing-stepped}
+use Rattle.rule.proofs.Steps.{standard-five, fives-standard, Wing, wing-stepped, two-fifty-stepped}
 
 -- the fifth strike above a price of at most $20
 module _ (whole dollar : Bool) (q : ℕ) where
@@ -45,6 +45,20 @@ module _ (whole dollar : Bool) (q : ℕ) where
       go true d = omega arith
       go false true = omega arith
       go false false = omega arith
+
+-- near, past $25, the fifth strike is no higher than twice the price
+fifth-low : (dollar : Bool) (p : ℕ) → p ≤ lowPrice →
+    fifthAbove dollar dollar (inHalves p) ≤ max lastTwoFifty (p / quarterDollar)
+fifth-low dollar p l = go dollar (ltb (inHalves p) (inHalves fifteenDollars)) refl
+  where
+    go : (d t : Bool) → ltb (inHalves p) (inHalves fifteenDollars) ≡ t →
+        cond d (fifthOn (inHalves oneDollar) (inHalves p))
+        (cond d (fifthOn (inHalves fiveDollars) (inHalves p))
+        (cond t (fifthOn (inHalves twoFifty) (inHalves p)) (inHalves p / inHalves twoFifty * inHalves fiveDollars)))
+        ≤ max lastTwoFifty (p / quarterDollar)
+    go true t e = omega arith
+    go false true e = omega (arith, ltb-true (inHalves p) (inHalves fifteenDollars) e)
+    go false false e = omega arith
 
 module _ (s : Setting) where
   abbrev p : ℕ
@@ -108,10 +122,25 @@ module _ (s : Setting) where
           let over : ltb (inHalves p) h ≡ true = lt-ltb (inHalves p) h (omega arith) in
           rw (a, five s h (ltb-false lowPrice p q), on, over, le-leb h fifth (omega arith))
 
-  -- on the range grid the ends tell the range
-  range-ends : (h : ℕ) → rangeGrid s (cents h) ≡ true → h ≤ highestStrike →
+  -- near, past $25, a strike that isn't on the range grid too
+  pub ranged-near : (h : ℕ) → isNear s ≡ true → lastTwoFifty < h → lowEnd p ≤ h → h ≤ highEnd s →
+      standardRange s h ≡ true
+  ranged-near h near l = go (ltb lowPrice p) refl
+    where
+      go : (t : Bool) → ltb lowPrice p ≡ t → cond {A = ℕ} t ((p + (oneDollar - 1)) / oneDollar) 0 ≤ h →
+          h ≤ cond {A = ℕ} t (min (3 * p / oneDollar) highestStrike) (max (p / quarterDollar) fifth) →
+          cond t (leb p (2 * cents h) && leb (2 * cents h) (3 * p))
+          (leb (cents h) (2 * p) || amongFive (rangeGrid s) p h)
+          ≡ true
+      go true q low high = rw (le-leb p (2 * cents h) (omega arith), le-leb (2 * cents h) (3 * p) (omega arith))
+      go false q low high =
+          let top : h ≤ max (p / quarterDollar) (fifthAbove dollar dollar (inHalves p)) = rw near at high in
+          rw (le-leb (cents h) (2 * p) (omega (arith, fifth-low dollar p (ltb-false lowPrice p q))))
+
+  -- where each strike between the ends is in range the ends tell the range
+  told-by-ends : (h : ℕ) → h ≤ highestStrike → (lowEnd p ≤ h → h ≤ highEnd s → standardRange s h ≡ true) →
       standardRange s h ≡ (leb (lowEnd p) h && leb h (highEnd s))
-  range-ends h on most = same-bool (standardRange s h) (leb (lowEnd p) h && leb h (highEnd s)) to from
+  told-by-ends h most within = same-bool (standardRange s h) (leb (lowEnd p) h && leb h (highEnd s)) to from
     where
       to : T (standardRange s h) → T (leb (lowEnd p) h && leb h (highEnd s))
       to t =
@@ -121,7 +150,17 @@ module _ (s : Setting) where
       from : T (leb (lowEnd p) h && leb h (highEnd s)) → T (standardRange s h)
       from t =
           true-T (standardRange s h)
-          (ranged-standard h on (leb→le (lowEnd p) h (search ands)) (leb→le h (highEnd s) (search ands)))
+          (within (leb→le (lowEnd p) h (search ands)) (leb→le h (highEnd s) (search ands)))
+
+  -- so they do on the range grid
+  range-ends : (h : ℕ) → rangeGrid s (cents h) ≡ true → h ≤ highestStrike →
+      standardRange s h ≡ (leb (lowEnd p) h && leb h (highEnd s))
+  range-ends h on most = told-by-ends h most (ranged-standard h on)
+
+  -- and on the grid of ground 4
+  pub two-fifty-ends : (h : ℕ) → twoFiftyGrid s (cents h) ≡ true → h ≤ highestStrike →
+      standardRange s h ≡ (leb (lowEnd p) h && leb h (highEnd s))
+  two-fifty-ends h e most = told-by-ends h most (ranged-near h (search parts) (two-fifty-stepped s h e .least))
 
   -- the range grid holds the Standard strikes
   pub standard-range-grid : (h : ℕ) → standardGrid (s .class) (cents h) ≡ true → rangeGrid s (cents h) ≡ true

@@ -1,11 +1,11 @@
--- Document 01, "Closes at the edges": T1 to T10 as one list of cases, each computed up to the end of the range and so
--- shown for all strikes. Assumes nothing.
+-- Document 01, "Closes at the edges": T1 to T10, and after them request #101's own, as one list of cases, each computed
+-- up to the end of the range and so shown for all strikes. Assumes nothing.
 use mathlib.Core.Path.{_≡_, refl, _∙_}
 use mathlib.Core.Bool.{Bool, true, false}
 use mathlib.Core.List.{List, [], _∷_, _++_, map}
 use Prim.Native.Nat.{ℕ, _*_}
 use Rattle.word.specs.declared.class.ClassRecord.{ClassRecord}
-use Rattle.word.specs.declared.answer.Refusal.the-variants.{OffGrid, TooClose}
+use Rattle.word.specs.declared.answer.Refusal.the-variants.{OffGrid, OutOfRange, TooClose}
 use Rattle.word.specs.declared.answer.Answer.{Answer}
 use Rattle.word.specs.declared.answer.Answer.the-variants.{Ground, Refused}
 use Rattle.rule.specs.declared.terms.Setting.{Setting}
@@ -79,26 +79,36 @@ all-hold [] e = tt
 all-hold (x ∷ xs) e = (holds x (λ c. let e₁ = e c in cc), all-hold xs (λ c. let e₁ = e c in cc))
 
 -- class 7 seen from month 4, by its close, volume and designations, in the month m
-abbrev setting : ℕ → ℕ → ℕ → ℕ → ℕ → Setting
-setting p v d e m =
+abbrev setting : ℕ → ℕ → List ℕ → ℕ → Setting
+setting p v ds m =
     record {
-      class = record { number = 7; close = p; volume = v; designations = d ∷ e ∷ [] };
+      class = record { number = 7; close = p; volume = v; designations = ds };
       current = 4;
       month = m;
     }
 
 -- a $1 class near and long, a class in no program, a half class
 abbrev dollarNear : ℕ → Setting
-dollarNear p = setting p 0 1 0 12
+dollarNear p = setting p 0 (1 ∷ 0 ∷ 0 ∷ []) 12
 
 abbrev dollarLong : ℕ → Setting
-dollarLong p = setting p 0 1 0 13
+dollarLong p = setting p 0 (1 ∷ 0 ∷ 0 ∷ []) 13
 
 abbrev noProgram : ℕ → Setting
-noProgram p = setting p 0 0 0 12
+noProgram p = setting p 0 (0 ∷ 0 ∷ 0 ∷ []) 12
 
 abbrev halfNear : ℕ → Setting
-halfNear p = setting p 1000 0 1 12
+halfNear p = setting p 1000 (0 ∷ 1 ∷ 0 ∷ []) 12
+
+-- a class in the $2.50 program near and long, and one in the $1 program too
+abbrev twoFiftyNear : ℕ → Setting
+twoFiftyNear p = setting p 0 (0 ∷ 0 ∷ 1 ∷ []) 12
+
+abbrev twoFiftyLong : ℕ → Setting
+twoFiftyLong p = setting p 0 (0 ∷ 0 ∷ 1 ∷ []) 13
+
+abbrev bothNear : ℕ → Setting
+bothNear p = setting p 0 (2 ∷ 0 ∷ 2 ∷ []) 12
 
 abbrev oneStanding : ℕ → ℕ → List Standing
 oneStanding h g = record { strike = h; ground = g } ∷ []
@@ -136,7 +146,31 @@ cases =
     refused 4 44 ∷
     near 4 12 ∷
     long 4 13 ∷
-    long 4 43 ∷ []
+    long 4 43 ∷
+    -- "At a close of 4850 the user expects $52.50 and $57.50"; $42.50 and $47.50 too, and $62.50 is $14 away
+    answers (twoFiftyNear 4850) [] 105 (Ground 4) ∷
+    answers (twoFiftyNear 4850) [] 115 (Ground 4) ∷
+    answers (twoFiftyNear 4850) [] 125 (Refused OffGrid) ∷
+    permits (twoFiftyNear 4850) []
+    (50 ∷ 55 ∷ 60 ∷ 65 ∷ 70 ∷ 75 ∷ 80 ∷ 85 ∷ 90 ∷ 95 ∷ 100 ∷ 105 ∷ 110 ∷ 115 ∷ 120 ∷ 130 ∷ 140 ∷ []) ∷
+    -- "In a $1 class ground 4 grants no strike below $50 that isn't a multiple of $5."
+    answers (bothNear 4850) [] 95 (Refused OffGrid) ∷
+    answers (bothNear 4850) [] 105 (Ground 4) ∷
+    -- a close of $54: $52.50, and $62.50 but not $65 is ground 4's
+    answers (twoFiftyNear 5400) [] 105 (Ground 4) ∷
+    answers (twoFiftyNear 5400) [] 125 (Ground 4) ∷
+    answers (twoFiftyNear 5400) [] 135 (Refused OffGrid) ∷
+    -- just $10 away
+    answers (twoFiftyNear 6250) [] 105 (Ground 4) ∷
+    answers (twoFiftyNear 6251) [] 105 (Refused OffGrid) ∷
+    -- "The range rule holds as for Standard": at $20 no more than $40
+    answers (twoFiftyNear 2000) [] 75 (Ground 4) ∷
+    answers (twoFiftyNear 2000) [] 85 (Refused OutOfRange) ∷
+    -- "Near expirations"
+    answers (twoFiftyLong 4850) [] 105 (Refused OffGrid) ∷
+    -- "For spacing it counts as Standard", whichever came first
+    answers (bothNear 2700) (oneStanding 55 4) (2 * 27) (Refused TooClose) ∷
+    answers (twoFiftyNear 2700) (oneStanding (2 * 27) 1) 55 (Refused TooClose) ∷ []
 
 pub closes : All cases
 unfolding lowest amongFive

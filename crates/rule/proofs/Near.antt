@@ -18,11 +18,11 @@ use Rattle.logic.proofs.Lists.{not-some, every-at, every-places, every-mapped, 
 use Rattle.logic.proofs.Splits.{every-between, every-failed, parted}
 use Rattle.rule.specs.declared.terms.Setting.{Setting}
 use Rattle.word.specs.Limits.{halfDollar, cents}
-use Rattle.rule.specs.Terms.{isLong}
+use Rattle.rule.specs.Terms.{isLong, apart}
 use Rattle.rule.specs.Ends.{reachOf}
-use Rattle.rule.specs.Grids.{oneDollar, standardGround, dollarGround, grounds, gridOf}
+use Rattle.rule.specs.Grids.{oneDollar, dollarGround, grounds, gridOf}
 use Rattle.rule.specs.Ranges.{rangeOf}
-use Rattle.rule.specs.Spacing.{Standing, standingOf, apart, crowds, clears, spacingOf}
+use Rattle.rule.specs.Spacing.{Standing, standingOf, crowds, countsAsStandard, clears, spacingOf}
 use Rattle.word.specs.Answers.{isAccepted}
 use Rattle.rule.specs.Judgement.{decided, judgement, isPermittedBeside}
 
@@ -54,8 +54,8 @@ module _ (s : Setting) (h : ℕ) where
   far-clears g t u = true-T (clears s g h t) (go (isLong s) (far-apart t u))
     where
       go : (long : Bool) → cond {A = ℕ} long 2 1 < apart h (t .strike) →
-          (not (eqb g dollarGround && eqb (t .ground) standardGround && crowds h (t .strike))
-          && not (eqb g standardGround && eqb (t .ground) dollarGround && crowds (t .strike) h)
+          (not (eqb g dollarGround && countsAsStandard (t .ground) && crowds h (t .strike))
+          && not (countsAsStandard g && eqb (t .ground) dollarGround && crowds (t .strike) h)
           && not (long && leb (apart (cents h) (cents (t .strike))) oneDollar))
           ≡ true
       go true far =

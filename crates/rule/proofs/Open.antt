@@ -3,6 +3,7 @@
 -- Assumes nothing.
 use mathlib.Core.Path.{_≡_, sym, ap, _∙_, subst}
 use mathlib.Core.Bool.{Bool, true, false, _&&_, true≢false}
+use mathlib.Core.Logic.{⊎-elim}
 use mathlib.Core.List.{List, []}
 use Prim.Native.Nat.{ℕ, zero, suc, _+_, _*_, _/_, _%_, _≤_, _<_, min}
 use native.Mathlib.Omega.{arith}
@@ -11,17 +12,17 @@ use borrow.Author.Tests.{le-leb, eq-eqb}
 use Rattle.word.specs.Limits.{highestStrike, cents}
 use Rattle.rule.specs.declared.terms.Setting.{Setting}
 use Rattle.logic.specs.Lists.{some}
-use Rattle.logic.proofs.Tests.{ands, parts, and-intro, true-T, T-true, refuted}
+use Rattle.logic.proofs.Tests.{ands, parts, and-intro, true-T, T-true, refuted, lt-or-le, eq-or-not}
 use Rattle.logic.proofs.Lists.{some-cases, some-imply}
 use Rattle.logic.proofs.Multiples.{times}
 use Rattle.word.specs.Programs.{dollarPrice}
 use Rattle.rule.specs.Terms.{inHalves, isDollarClass, isNear, price}
-use Rattle.rule.specs.Grids.{multiple, standardGrid, dollarGrid, halfDollars, halfGrid, wingBase, wingGrid}
+use Rattle.rule.specs.Grids.{multiple, standardGrid, dollarGrid, halfDollars, halfGrid, wingBase, wingGrid, twoFiftyGrid}
 use Rattle.rule.specs.Grids.{oneDollar, fiftyDollars, gridOf, grounds}
 use Rattle.rule.specs.Ranges.{rangeBy, standardRange, rangeOf}
 use Rattle.rule.specs.declared.bounds.Rung.{Rung}
 use Rattle.rule.specs.Ends.{isProgramClass, halfEnd, lowEnd, highEnd, rungs, rungAt, isOpenStrike, Multiples, Fit, Climbs}
-use Rattle.rule.specs.Ends.{lastDollar, lastTwoFifty}
+use Rattle.rule.specs.Ends.{lastDollar, lastTwoFifty, lastFive}
 use Rattle.rule.specs.Spacing.{Standing}
 use Rattle.word.specs.Answers.{isAccepted}
 use Rattle.rule.specs.Judgement.{rowOf, rowsOf, passes, judgement, isPermittedBeside}
@@ -29,8 +30,9 @@ use Rattle.rule.proofs.Rows.{accepted-passes}
 use Rattle.rule.proofs.Rungs.{On, _▹_, at-rung, same-rung}
 use Rattle.rule.proofs.Near.{reach-most}
 use Rattle.rule.proofs.Steps.{standard-of, fives-standard, dollar-reached, ladder-reached, standard-on}
-use Rattle.rule.proofs.Steps.{half-on, whole-on, dollar-whole, Wing, wing-stepped}
-use Rattle.rule.proofs.Bound.{Ranged, standard-ranged, ranged-standard, standard-range-grid, half-ranged}
+use Rattle.rule.proofs.Steps.{half-on, whole-on, dollar-whole, Wing, wing-stepped, Laddered, below-reached, Around, around-reached}
+use Rattle.rule.proofs.Steps.{two-fifty-stepped, two-fifty-on, two-fifty-low, two-fifty-around}
+use Rattle.rule.proofs.Bound.{Ranged, standard-ranged, ranged-standard, ranged-near, standard-range-grid, half-ranged}
 use Rattle.rule.proofs.Bound.{high-strike, half-each, half-within, half-low, half-reach}
 
 module _ (s : Setting) (h : ℕ) where
@@ -104,11 +106,17 @@ module _ (s : Setting) (h : ℕ) where
         on = whole-on s h (w .whole);
       }
 
+  two-fifty-given : twoFiftyGrid s (cents h) ≡ true → standardRange s h ≡ true → Given
+  two-fifty-given a b =
+      let r : Ranged s h = standard-ranged s h b in
+      record { low = r .low; high = r .high; on = two-fifty-on s h (two-fifty-stepped s h a) }
+
   ground-given : (g : ℕ) → gridOf s g h ≡ true → rangeOf s g h ≡ true → Given
   ground-given zero = standard-given
   ground-given (suc zero) = dollar-given
   ground-given (suc (suc zero)) = half-given
-  ground-given (suc (suc (suc g))) = wing-given
+  ground-given (suc (suc (suc zero))) = wing-given
+  ground-given (suc (suc (suc (suc g)))) = two-fifty-given
 
   pub open-given : T (isOpenStrike s h) → Given
   open-given t = some-cases (passesAt []) grounds (λ g u. ground-given g (search parts) (search parts)) (accepted [] t)
@@ -143,6 +151,11 @@ module _ (s : Setting) (h : ℕ) where
       let g = half-each s h l k in
       given-by 2 tt (rw (g .0, g .1))
 
+  two-fifty-open : twoFiftyGrid s (cents h) ≡ true → lowEnd (price s) ≤ h → h ≤ highEnd s → isOpenStrike s h ≡ true
+  two-fifty-open grid low high =
+      let range = ranged-near s h (search parts) (two-fifty-stepped s h grid .least) low high in
+      given-by 4 tt (rw (grid, range))
+
   -- where the rung says so each multiple of its step in range is open
   pub rung-open : 1 ≤ h → lowEnd (price s) ≤ h → h ≤ highEnd s → rungAt (rungs s) h .all ≡ true → On (rungs s) h →
       isOpenStrike s h ≡ true
@@ -150,8 +163,10 @@ module _ (s : Setting) (h : ℕ) where
       at-rung (λ r. r .all ≡ true → h % r .step ≡ 0 → isOpenStrike s h ≡ true) (rungs s) h
       ((λ a l all m. half-open least l) ▹
       (λ a l near m. dollars (dollar-reached (s .class) h least l) near m) ▹
-      (λ a l all m. ladder (ladder-reached (s .class) h least l) m) ▹
-      (λ a l all m. standard-open (fives-standard (s .class) h m (λ j. absurd (omega arith))) low high) ▹
+      (λ a l all m. ladder (ladder-reached s h least l) m) ▹
+      (λ a l all m. fives m (omega (arith, below-reached s h l))) ▹
+      (λ a l all m. around (around-reached s h least (a .1) l) m) ▹
+      (λ a l all m. fives m l) ▹
       (λ a all m. standard-open (fives-standard (s .class) h (tens m) (λ j. m)) low high))
     where
       tens : h % 20 ≡ 0 → h % 10 ≡ 0
@@ -161,12 +176,27 @@ module _ (s : Setting) (h : ℕ) where
           isOpenStrike s h ≡ true
       dollars p near m = dollar-open near (p .0) m least (p .1) low high
 
-      ladder : (isDollarClass (s .class) ≡ false) × (h ≤ lastTwoFifty) → h % 5 ≡ 0 → isOpenStrike s h ≡ true
-      ladder p m =
+      fives : h % 10 ≡ 0 → h ≤ lastFive → isOpenStrike s h ≡ true
+      fives m l = standard-open (fives-standard (s .class) h m (λ j. absurd (omega arith))) low high
+
+      -- past $25 the multiples of $5 are Standard's and the others ground 4's
+      ladder : Laddered s h → h % 5 ≡ 0 → isOpenStrike s h ≡ true
+      ladder r m =
+          ⊎-elim
+          (λ l.
+          ⊎-elim (λ n. fives n (omega (arith, r .most)))
+          (λ n.
+          two-fifty-open (two-fifty-low s h (r .program l) (r .outside) m l (omega (arith, r .most))) low high)
+          (eq-or-not (h % 10) 0))
+          (λ l.
           standard-open
-          (standard-of (s .class) h (λ d. absurd (true≢false (sym d ∙ p .0)))
-          record { fine = λ j. m; fives = λ j. absurd (omega (arith, p .1)); tens = λ j. absurd (omega (arith, p .1)) })
-          low high
+          (standard-of (s .class) h (λ d. absurd (true≢false (sym d ∙ r .outside)))
+          record { fine = λ j. m; fives = λ j. absurd (omega arith); tens = λ j. absurd (omega arith) })
+          low high)
+          (lt-or-le lastTwoFifty h)
+
+      around : Around s h → h % 5 ≡ 0 → isOpenStrike s h ≡ true
+      around r m = two-fifty-open (two-fifty-around s h r m) low high
 
 pub closed-below : (s : Setting) (h : ℕ) → h < lowEnd (price s) → isOpenStrike s h ≡ false
 closed-below s h l = sym (refuted (isOpenStrike s h) (λ t. omega (arith, open-given s h t .low)))
@@ -197,6 +227,8 @@ rung-fit s h least most =
     at-rung (Fit s h) (rungs s) h
     ((λ a l. record { reaches = l; least = omega arith; most = omega arith; reach = half-reach s (omega arith) }) ▹
     (λ a l. record { reaches = l; least = omega arith; most = omega arith; reach = reach-most s }) ▹
+    (λ a l. record { reaches = l; least = omega arith; most = omega arith; reach = omega (arith, reach-most s) }) ▹
+    (λ a l. record { reaches = l; least = omega arith; most = omega arith; reach = omega (arith, reach-most s) }) ▹
     (λ a l. record { reaches = l; least = omega arith; most = omega arith; reach = omega (arith, reach-most s) }) ▹
     (λ a l. record { reaches = l; least = omega arith; most = omega arith; reach = omega (arith, reach-most s) }) ▹
     (λ a. record { reaches = most; least = omega arith; most = omega arith; reach = omega (arith, reach-most s) }))

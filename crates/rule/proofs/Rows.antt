@@ -6,7 +6,7 @@ use mathlib.Core.List.{List, [], _∷_, map}
 use Prim.Native.Nat.{ℕ, zero, suc, _+_, _≤_, _<_}
 use native.Mathlib.Numerals.{add-one}
 use native.Mathlib.Omega.{arith}
-use lib.ListN.{length, getD, set, drop, drop-of-length-le}
+use lib.ListN.{length, getD, drop, drop-of-length-le}
 use lib.Seq.{drop-cons}
 use borrow.Author.Tests.{eq-eqb, ne-eqb}
 use Rattle.word.specs.declared.answer.Refusal.the-variants.{OffGrid, OutOfRange, TooClose}
@@ -16,7 +16,7 @@ use Rattle.rule.specs.declared.terms.Setting.{Setting}
 use Rattle.logic.specs.Lists.{some, upFrom, firstFrom}
 use Rattle.logic.proofs.Tests.{parts}
 use Rattle.logic.proofs.Walks.{some-step, first-found}
-use Rattle.rule.specs.Grids.{gridOf}
+use Rattle.rule.specs.Grids.{grounds, gridOf}
 use Rattle.rule.specs.Ranges.{rangeOf}
 use Rattle.word.specs.Answers.{isAccepted}
 use Rattle.rule.specs.Spacing.{Standing}
@@ -82,24 +82,15 @@ accepted-passes rows =
 
 -- ---- the rows as the search leaves them
 
--- the ground that was found is noted in its row
-abbrev pub note : ℕ → List (List Bool) → List (List Bool)
-note g rows = set rows g (getD (getD rows g []) 0 false ∷ getD (getD rows g []) 1 false ∷ true ∷ [])
-
 module _ (s : Setting) (h : ℕ) where
-  pub found-range : (g : ℕ) → g < 4 → passesRange (getD (foundRows s h 4) g []) ≡ (gridOf s g h && rangeOf s g h)
+  pub found-range : (g : ℕ) → g < length grounds →
+      passesRange (getD (foundRows s h (length grounds)) g []) ≡ (gridOf s g h && rangeOf s g h)
   found-range zero l = and-self-left (gridOf s 0 h) (rangeOf s 0 h)
   found-range (suc zero) l = and-self-left (gridOf s 1 h) (rangeOf s 1 h)
   found-range (suc (suc zero)) l = and-self-left (gridOf s 2 h) (rangeOf s 2 h)
   found-range (suc (suc (suc zero))) l = and-self-left (gridOf s 3 h) (rangeOf s 3 h)
-  found-range (suc (suc (suc (suc g)))) l = absurd (omega arith)
-
-  pub found-noted : (g : ℕ) → g < 4 → note g (foundRows s h 4) ≡ foundRows s h g
-  found-noted zero l = refl
-  found-noted (suc zero) l = refl
-  found-noted (suc (suc zero)) l = refl
-  found-noted (suc (suc (suc zero))) l = refl
-  found-noted (suc (suc (suc (suc g)))) l = absurd (omega arith)
+  found-range (suc (suc (suc (suc zero)))) l = and-self-left (gridOf s 4 h) (rangeOf s 4 h)
+  found-range (suc (suc (suc (suc (suc g))))) l = absurd (omega arith)
 
   module _ (standing : List Standing) where
     abbrev passesAt : ℕ → Bool
@@ -126,17 +117,14 @@ module _ (s : Setting) (h : ℕ) where
             rw (and-self-left (gridOf s g h) (rangeOf s g h), both, eq-eqb g g refl)
         go false e r =
             let later : g + 1 ≤ firstFrom passesAt n (g + 1) = first-found passesAt n (g + 1) .least in
-            rw (ne-eqb g (firstFrom passesAt n (g + 1)) (λ q. omega arith), and-false) r
+            rw (ne-eqb (firstFrom passesAt n (g + 1)) g (λ q. omega arith), and-false) r
 
     -- the rows as the search leaves them decide the judgement
     pub found-judgement : decided (foundRows s h (firstGround s standing h)) ≡ judgement s standing h
     found-judgement =
         ap (λ (v : Answer). groundFrom v 0 (foundRows s h (firstGround s standing h))) same
-        ∙ found-from (Refused (refusalOf (rowsOf s standing h))) 4 0
+        ∙ found-from (Refused (refusalOf (rowsOf s standing h))) (length grounds) 0
       where
         same :
             Refused (refusalOf (foundRows s h (firstGround s standing h))) ≡ Refused (refusalOf (rowsOf s standing h))
         same = simp and-self-left
-
-    pub first-most : firstGround s standing h ≤ 4
-    first-most = first-found passesAt 4 0 .most

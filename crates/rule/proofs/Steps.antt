@@ -6,20 +6,21 @@ use mathlib.Core.Logic.{⊎-elim}
 use Prim.Native.Nat.{ℕ, _+_, _*_, _/_, _%_, _≤_, _<_}
 use native.Mathlib.Omega.{arith}
 use native.Mathlib.Nat.{mod-one}
-use lib.Dec.{T, leb, ltb, eqb, leb→le, eqb→eq}
-use borrow.Author.Tests.{ltb-false, leb-true, leb-false, eqb-true, le-leb, lt-ltb, eq-eqb}
-use Rattle.logic.proofs.Tests.{ands, parts, true-T, or-cases}
+use lib.Dec.{T, leb, ltb, eqb, leb→le, ltb→lt, eqb→eq}
+use borrow.Author.Tests.{leb-true, leb-false, eqb-true, le-leb, lt-ltb, le-ltb, eq-eqb}
+use Rattle.logic.proofs.Tests.{ands, parts, true-T, or-cases, lt-or-le}
 use Rattle.logic.proofs.Multiples.{times}
 use Rattle.word.specs.Programs.{dollarPrice}
 use Rattle.word.specs.declared.class.ClassRecord.{ClassRecord}
 use Rattle.rule.specs.declared.terms.Setting.{Setting}
 use Rattle.word.specs.Limits.{cents}
-use Rattle.rule.specs.Terms.{isDollarClass, isLong, isNear, price}
+use Rattle.rule.specs.Terms.{isDollarClass, isLong, isNear, hasTwoFifties, price, apart}
 use Rattle.rule.specs.Grids.{oneDollar, twoDollars, twoFifty, threeDollars, fiveDollars, tenDollars}
-use Rattle.rule.specs.Grids.{twentyFiveDollars, fortyFiveDollars, fiftyDollars, twoHundredDollars}
-use Rattle.rule.specs.Grids.{multiple, ladder, standardGrid, dollarGrid, wingBase, wingAt, wingGrid}
+use Rattle.rule.specs.Grids.{twentyFiveDollars, fortyFiveDollars, fiftyDollars, hundredDollars, twoHundredDollars}
+use Rattle.rule.specs.Grids.{multiple, ladder, isBarred, standardGrid, dollarGrid, wingBase, wingAt, wingGrid, twoFiftyGrid}
 use Rattle.rule.specs.declared.bounds.Rung.{Rung}
-use Rattle.rule.specs.Ends.{isProgramClass, halfEnd, dollarEnd, ladderEnd, rungs, lastDollar, lastTwoFifty, lastFive}
+use Rattle.rule.specs.Ends.{isProgramClass, halfEnd, dollarEnd, ladderEnd, belowEnd, aroundEnd, rungs}
+use Rattle.rule.specs.Ends.{lastDollar, lastTwoFifty, lastFive, lastHundred, lastBelow, lastAround}
 use Rattle.rule.proofs.Rungs.{On, _▹_, at-rung}
 
 -- what the ladder asks of a strike
@@ -104,21 +105,32 @@ module _ (c : ClassRecord) (h : ℕ) where
   pub standard-ladder : standardGrid c (cents h) ≡ true → Stepped h
   standard-ladder e = ladder-stepped h (search parts)
 
-  -- in a $1 class Standard is the multiples of $5 on the ladder
-  pub standard-five : isDollarClass c ≡ true → standardGrid c (cents h) ≡ true → h % 10 ≡ 0
-  standard-five d e =
-      go (ltb (cents h) fiftyDollars) refl (multiple fiveDollars (cents h)) refl
-      (ap less (sym d) ∙ search parts)
+  -- in a $1 class what isn't barred below $50 is a multiple of $5
+  unbarred-five : isDollarClass c ≡ true → not (isBarred c (cents h)) ≡ true → h < lastDollar → h % 10 ≡ 0
+  unbarred-five d e l =
+      go (multiple fiveDollars (cents h)) refl
+      (ap less (sym d) ∙ e)
     where
       less : Bool → Bool
       less t = not (t && ltb (cents h) fiftyDollars && not (multiple fiveDollars (cents h)))
 
-      go : (t : Bool) → ltb (cents h) fiftyDollars ≡ t → (u : Bool) → multiple fiveDollars (cents h) ≡ u →
-          not (true && t && not u) ≡ true → h % 10 ≡ 0
-      go true a true b n = times 10 h (cents h / fiveDollars) (omega (arith, eqb-true (cents h % fiveDollars) 0 b))
-      go true a false b n = absurd (true≢false (sym n))
-      go false a u b n =
-          ladder-stepped h (search parts) .fives (omega (arith, ltb-false (cents h) fiftyDollars a))
+      go : (u : Bool) → multiple fiveDollars (cents h) ≡ u → not (true && ltb (cents h) fiftyDollars && not u) ≡ true →
+          h % 10 ≡ 0
+      go true b n = times 10 h (cents h / fiveDollars) (omega (arith, eqb-true (cents h % fiveDollars) 0 b))
+      go false b n = absurd (true≢false (sym n ∙ rw (lt-ltb (cents h) fiftyDollars (omega arith))))
+
+  -- in a $1 class Standard is the multiples of $5 on the ladder
+  pub standard-five : isDollarClass c ≡ true → standardGrid c (cents h) ≡ true → h % 10 ≡ 0
+  standard-five d e =
+      ⊎-elim (λ l. unbarred-five d (search parts) l)
+      (λ l. ladder-stepped h (search parts) .fives (omega arith))
+      (lt-or-le h lastDollar)
+
+  -- a Standard strike is a multiple of $2.50
+  standard-fine : standardGrid c (cents h) ≡ true → h % 5 ≡ 0
+  standard-fine e =
+      ⊎-elim (λ l. times 5 h (2 * (h / 10)) (omega (arith, standard-ladder e .fives l))) (standard-ladder e .fine)
+      (lt-or-le lastTwoFifty h)
 
   pub standard-of : (isDollarClass c ≡ true → h % 10 ≡ 0) → Stepped h → standardGrid c (cents h) ≡ true
   standard-of five r = go (isDollarClass c) refl
@@ -140,23 +152,62 @@ module _ (c : ClassRecord) (h : ℕ) where
       go true k = (refl, k)
       go false k = absurd (omega arith)
 
-  pub ladder-reached : 0 < h → h ≤ ladderEnd c → (isDollarClass c ≡ false) × (h ≤ lastTwoFifty)
-  ladder-reached l = go (isDollarClass c)
-    where
-      go : (t : Bool) → h ≤ cond {A = ℕ} t 0 lastTwoFifty → (t ≡ false) × (h ≤ lastTwoFifty)
-      go true k = absurd (omega arith)
-      go false k = (refl, k)
-
   pub program-dollar : isProgramClass c ≡ true → isDollarClass c ≡ true
   program-dollar e = search parts
 
-  -- a Standard strike past $25, or in a $1 class, is a multiple of $5
-  past-ladder : standardGrid c (cents h) ≡ true → ladderEnd c < h → h % 10 ≡ 0
-  past-ladder e = go (isDollarClass c) refl
+-- a strike up to where multiples of $2.50 reach, from the lowest on or around the close, or past these
+module _ (s : Setting) (h : ℕ) where
+  -- past $25 it is one of the $2.50 program
+  pub record Laddered : Type 0 where
+    pub outside : isDollarClass (s .class) ≡ false
+    pub most : h ≤ lastDollar
+    pub program : lastTwoFifty < h → hasTwoFifties s ≡ true
+
+  pub ladder-reached : 0 < h → h ≤ ladderEnd s → Laddered
+  ladder-reached l = go (isDollarClass (s .class)) refl (hasTwoFifties s) refl
     where
-      go : (d : Bool) → isDollarClass c ≡ d → cond {A = ℕ} d 0 lastTwoFifty < h → h % 10 ≡ 0
-      go true d l = standard-five d e
-      go false d l = standard-ladder e .fives l
+      go : (d : Bool) → isDollarClass (s .class) ≡ d → (t : Bool) → hasTwoFifties s ≡ t →
+          h ≤ cond {A = ℕ} d 0 (cond {A = ℕ} t lastDollar lastTwoFifty) → Laddered
+      go true d t e k = absurd (omega arith)
+      go false d true e k = record { outside = d; most = k; program = λ j. e }
+      go false d false e k = record { outside = d; most = omega arith; program = λ j. absurd (omega arith) }
+
+  -- a Standard strike past these is a multiple of $5
+  past-ladder : standardGrid (s .class) (cents h) ≡ true → ladderEnd s < h → h % 10 ≡ 0
+  past-ladder e = go (isDollarClass (s .class)) refl (hasTwoFifties s)
+    where
+      go : (d : Bool) → isDollarClass (s .class) ≡ d → (t : Bool) →
+          cond {A = ℕ} d 0 (cond {A = ℕ} t lastDollar lastTwoFifty) < h → h % 10 ≡ 0
+      go true d t l = standard-five (s .class) h d e
+      go false d true l = standard-ladder (s .class) h e .fives (omega arith)
+      go false d false l = standard-ladder (s .class) h e .fives l
+
+  pub below-reached : h ≤ belowEnd s → h ≤ lastHundred
+  below-reached = go (hasTwoFifties s)
+    where
+      go : (t : Bool) → h ≤ cond {A = ℕ} t (lastBelow (price s)) 0 → h ≤ lastHundred
+      go true k = omega arith
+      go false k = omega arith
+
+  -- it is no more than $10 from the close
+  abbrev pub IsClose : Type 0
+  IsClose = (price s ≤ cents h + tenDollars) × (cents h ≤ price s + tenDollars)
+
+  -- a strike of ground 4 from $50 to $100
+  pub record Around : Type 0 where
+    pub asked : hasTwoFifties s ≡ true
+    pub least : lastDollar ≤ h
+    pub most : h ≤ lastHundred
+    pub close : IsClose
+
+  pub around-reached : 0 < h → belowEnd s < h → h ≤ aroundEnd s → Around
+  around-reached positive = go (hasTwoFifties s) refl
+    where
+      go : (t : Bool) → hasTwoFifties s ≡ t → cond {A = ℕ} t (lastBelow (price s)) 0 < h →
+          h ≤ cond {A = ℕ} t (lastAround (price s)) 0 → Around
+      go true e l k =
+          record { asked = e; least = omega arith; most = omega arith; close = (omega arith, omega arith) }
+      go false e l k = absurd (omega arith)
 
 -- ---- each ground's strikes are on the rungs
 
@@ -172,8 +223,10 @@ module _ (s : Setting) (h : ℕ) where
       at-rung OnStep (rungs s) h
       ((λ a l. mod-one h) ▹
       (λ a l. times 2 h (5 * (h / 10)) (omega (arith, dollar-five (dollar-reached c h (omega arith) l .0)))) ▹
-      (λ a l. standard-ladder c h e .fine (ladder-reached c h (omega arith) l .1)) ▹
-      (λ a l. past-ladder c h e (a .1)) ▹
+      (λ a l. standard-fine c h e) ▹
+      (λ a l. past-ladder s h e (a .1)) ▹
+      (λ a l. standard-fine c h e) ▹
+      (λ a l. past-ladder s h e (omega arith)) ▹
       (λ a. standard-ladder c h e .tens (a .1)))
     where
       dollar-five : isProgramClass c ≡ true → h % 10 ≡ 0
@@ -259,3 +312,110 @@ module _ (s : Setting) (h : ℕ) where
         least = leb-true fiveDollars base (search parts);
         most = most;
       }
+
+  -- what the grid of ground 4 says of the strike
+  pub record TwoFifty : Type 0 where
+    pub asked : hasTwoFifties s ≡ true
+    pub five : h % 5 ≡ 0
+    pub least : lastTwoFifty < h
+    pub most : h ≤ lastHundred
+    pub dollar : isDollarClass c ≡ true → h ≤ lastDollar → h % 10 ≡ 0
+    pub close : lastDollar ≤ h → IsClose s h
+
+  abbrev low : Bool
+  low = ltb twentyFiveDollars (cents h) && ltb (cents h) fiftyDollars
+
+  abbrev high : Bool
+  high =
+      leb fiftyDollars (cents h) && leb (cents h) hundredDollars && leb (apart (cents h) (price s)) tenDollars
+
+  pub two-fifty-stepped : twoFiftyGrid s (cents h) ≡ true → TwoFifty
+  two-fifty-stepped e =
+      let m : cents h % twoFifty ≡ 0 = eqb-true (cents h % twoFifty) 0 (search parts) in
+      let bars : not (isBarred c (cents h)) ≡ true = search parts in
+      let place : (low || high) ≡ true = search parts in
+      let five : h % 5 ≡ 0 = times 5 h (cents h / twoFifty) (omega arith) in
+      ⊎-elim
+      (λ a.
+      let under : cents h < fiftyDollars = ltb→lt (cents h) fiftyDollars (search ands) in
+      record {
+        asked = search parts;
+        five = five;
+        least = omega (arith, ltb→lt twentyFiveDollars (cents h) (search ands));
+        most = omega arith;
+        dollar = λ d k. unbarred-five c h d bars (omega arith);
+        close = λ k. absurd (omega arith);
+      })
+      (λ a.
+      let over : fiftyDollars ≤ cents h = leb→le fiftyDollars (cents h) (search ands) in
+      record {
+        asked = search parts;
+        five = five;
+        least = omega arith;
+        most = omega (arith, leb→le (cents h) hundredDollars (search ands));
+        dollar = λ d k. let is : h ≡ lastDollar = omega arith in rw is;
+        close = λ k.
+            let near : apart (cents h) (price s) ≤ tenDollars =
+            leb→le (apart (cents h) (price s)) tenDollars (search ands) in
+            (omega arith, omega arith);
+      })
+      (or-cases low high (true-T _ place))
+
+  pub two-fifty-on : TwoFifty → On (rungs s) h
+  two-fifty-on w =
+      at-rung OnStep (rungs s) h
+      ((λ a l. mod-one h) ▹
+      (λ a l. dollars (dollar-reached c h (omega arith) l)) ▹
+      (λ a l. w .five) ▹
+      (λ a l. below (isDollarClass c) refl (a .1) l) ▹
+      (λ a l. w .five) ▹
+      (λ a l. absurd (past (a .0 .1) (a .1))) ▹
+      (λ a. absurd (omega (arith, w .most))))
+    where
+      dollars : (isProgramClass c ≡ true) × (h ≤ lastDollar) → h % 2 ≡ 0
+      dollars p = times 2 h (5 * (h / 10)) (omega (arith, w .dollar (program-dollar c h (p .0)) (p .1)))
+
+      near-close : lastDollar ≤ h → h ≤ belowEnd s → ⊥
+      near-close k l =
+          let under : h ≤ lastBelow (price s) = rw (w .asked) at l in
+          omega (arith, w .close k)
+
+      below : (d : Bool) → isDollarClass c ≡ d → ladderEnd s < h → h ≤ belowEnd s → h % 10 ≡ 0
+      below true d k l =
+          ⊎-elim (λ j. absurd (near-close (omega arith) l)) (λ j. w .dollar d j) (lt-or-le lastDollar h)
+      below false d k l =
+          let over : lastDollar < h = rw (d, w .asked) at k in
+          absurd (near-close (omega arith) l)
+
+      past : belowEnd s < h → aroundEnd s < h → ⊥
+      past l m =
+          let over : lastBelow (price s) < h = rw (w .asked) at l in
+          let above : lastAround (price s) < h = rw (w .asked) at m in
+          omega (arith, w .most, w .close (omega arith))
+
+  -- and which strikes are on it: outside the $1 classes those below $50, and those no more than $10 from the close
+  pub two-fifty-low : hasTwoFifties s ≡ true → isDollarClass c ≡ false → h % 5 ≡ 0 → lastTwoFifty < h → h < lastDollar →
+      twoFiftyGrid s (cents h) ≡ true
+  two-fifty-low asked d m l k =
+      rw (
+        asked,
+        d,
+        eq-eqb (cents h % twoFifty) 0 (omega arith),
+        lt-ltb twentyFiveDollars (cents h) (omega arith),
+        lt-ltb (cents h) fiftyDollars (omega arith),
+      )
+
+  pub two-fifty-around : Around s h → h % 5 ≡ 0 → twoFiftyGrid s (cents h) ≡ true
+  two-fifty-around r m =
+      let l = r .least in
+      let k = r .most in
+      rw (
+        r .asked,
+        eq-eqb (cents h % twoFifty) 0 (omega arith),
+        le-ltb (cents h) fiftyDollars (omega arith),
+        le-leb fiftyDollars (cents h) (omega arith),
+        le-leb (cents h) hundredDollars (omega arith),
+        le-leb (apart (cents h) (price s)) tenDollars (omega (arith, r .close)),
+        and-false,
+        and-false,
+      )

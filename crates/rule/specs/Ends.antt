@@ -10,9 +10,9 @@ use Rattle.word.specs.declared.class.ClassRecord.{ClassRecord}
 use Rattle.rule.specs.declared.terms.Setting.{Setting}
 use Rattle.rule.specs.declared.bounds.Rung.{Rung}
 use Rattle.word.specs.Programs.{dollarPrice, halfPrice, halfVolume}
-use Rattle.rule.specs.Terms.{inHalves, isDollarClass, isHalfClass, isLong, isNear}
+use Rattle.rule.specs.Terms.{inHalves, isDollarClass, isHalfClass, isLong, isNear, hasTwoFifties, price}
 use Rattle.rule.specs.Grids.{oneDollar, twoFifty, fiveDollars, fiveFifty, tenDollars, twentyFiveDollars}
-use Rattle.rule.specs.Grids.{fiftyDollars, twoHundredDollars}
+use Rattle.rule.specs.Grids.{fiftyDollars, hundredDollars, twoHundredDollars}
 use Rattle.rule.specs.Ranges.{rangeCount, lowPrice}
 use Rattle.word.specs.Answers.{isAccepted}
 use Rattle.rule.specs.Judgement.{judgement}
@@ -62,7 +62,7 @@ highEnd s =
     (fifthAbove (isNear s && isDollarClass (s .class)) (isDollarClass (s .class)) (inHalves (s .class .close))))
 
 -- the last strikes of these, in half dollars: "whole dollars from $1 to $50"; "multiples of $2.50 to $25, of $5 above
--- $25 to $200"
+-- $25 to $200"; #101: "from $50 to $100"
 abbrev pub lastDollar : ℕ
 lastDollar = inHalves fiftyDollars
 
@@ -72,30 +72,51 @@ lastTwoFifty = inHalves twentyFiveDollars
 abbrev pub lastFive : ℕ
 lastFive = inHalves twoHundredDollars
 
+abbrev pub lastHundred : ℕ
+lastHundred = inHalves hundredDollars
+
 -- the last strike that whole dollars reach, 0 where the class has none
 abbrev pub dollarEnd : ClassRecord → ℕ
 dollarEnd c = cond {A = ℕ} (isProgramClass c) lastDollar 0
 
--- the last strike that multiples of $2.50 reach, 0 in a $1 class
-abbrev pub ladderEnd : ClassRecord → ℕ
-ladderEnd c = cond {A = ℕ} (isDollarClass c) 0 lastTwoFifty
+-- the last strike that multiples of $2.50 reach from the lowest on, 0 in a $1 class: the program takes them to $50
+abbrev pub ladderEnd : Setting → ℕ
+ladderEnd s = cond {A = ℕ} (isDollarClass (s .class)) 0 (cond {A = ℕ} (hasTwoFifties s) lastDollar lastTwoFifty)
+
+-- of the strikes to $100, the last that is below $50 or more than $10 below the price, and the last that is no more
+-- than $10 above it
+abbrev pub lastBelow : ℕ → ℕ
+lastBelow p = min (inHalves (max p (fiftyDollars + tenDollars) - (tenDollars + 1))) lastHundred
+
+abbrev pub lastAround : ℕ → ℕ
+lastAround p = min (inHalves (p + tenDollars)) lastHundred
+
+-- the same at the close, 0 without the program
+abbrev pub belowEnd : Setting → ℕ
+belowEnd s = cond {A = ℕ} (hasTwoFifties s) (lastBelow (price s)) 0
+
+abbrev pub aroundEnd : Setting → ℕ
+aroundEnd s = cond {A = ℕ} (hasTwoFifties s) (lastAround (price s)) 0
 
 abbrev pub rung : ℕ → ℕ → Bool → Rung
 rung to step all = record { to = to; step = step; all = all }
 
--- the table of rungs, each from where the one before it ends: half dollars, whole dollars, multiples of $2.50,
--- of $5, of $10; of a rung that is marked each such multiple in range is open
+-- the table of rungs, each from where the one before it ends: half dollars, whole dollars, multiples of $2.50; those of
+-- $5 below the $2.50 program's around the close, and these; multiples of $5, of $10; of a rung that is marked each such
+-- multiple in range is open
 abbrev pub rungs : Setting → List Rung
 rungs s =
     rung (halfEnd s) 1 true ∷
     rung (dollarEnd (s .class)) (inHalves oneDollar) (isNear s) ∷
-    rung (ladderEnd (s .class)) (inHalves twoFifty) true ∷
+    rung (ladderEnd s) (inHalves twoFifty) true ∷
+    rung (belowEnd s) (inHalves fiveDollars) true ∷
+    rung (aroundEnd s) (inHalves twoFifty) true ∷
     rung lastFive (inHalves fiveDollars) true ∷
     rung highestStrike (inHalves tenDollars) true ∷ []
 
 -- how many rungs the table has
 abbrev pub rungCount : ℕ
-rungCount = 5
+rungCount = 7
 
 -- how many strikes are open at most where `high` is the highest in range: all that Half can give, and half of those
 -- above, rounded up on each rung

@@ -1,4 +1,5 @@
--- Document 01, "Grids": the ladder and the grid of each ground. A strike is given as K, in cents. Assumes nothing.
+-- Document 01, "Grids", and request #101, ground 4: the ladder and the grid of each ground. A strike is given as K, in
+-- cents. Assumes nothing.
 use Prim.Native.Nat.{ℕ, zero, suc, _+_, _*_, _/_, _%_}
 use mathlib.Core.Bool.{Bool, not, _&&_, _||_}
 use mathlib.Core.List.{List, [], _∷_}
@@ -7,7 +8,7 @@ use Rattle.word.specs.declared.class.ClassRecord.{ClassRecord}
 use Rattle.rule.specs.declared.terms.Setting.{Setting}
 use Rattle.word.specs.Programs.{dollarPrice, halfPrice, halfVolume}
 use Rattle.word.specs.Limits.{halfDollar, cents}
-use Rattle.rule.specs.Terms.{isDollarClass, isHalfClass, isLong, isNear, price}
+use Rattle.rule.specs.Terms.{isDollarClass, isHalfClass, isLong, isNear, hasTwoFifties, price, apart}
 
 abbrev pub multiple : ℕ → ℕ → Bool
 multiple n k = eqb (k % n) 0
@@ -42,9 +43,13 @@ oneDollar = 100
 abbrev pub fiftyDollars : ℕ
 fiftyDollars = 5000
 
+-- "every strike below $50 that isn't a multiple of $5 if the class is a $1 class"
+abbrev pub isBarred : ClassRecord → ℕ → Bool
+isBarred c k = isDollarClass c && ltb k fiftyDollars && not (multiple fiveDollars k)
+
 -- "Standard: the ladder, less every strike below $50 that isn't a multiple of $5 if the class is a $1 class."
 abbrev pub standardGrid : ClassRecord → ℕ → Bool
-standardGrid c k = ladder k && not (isDollarClass c && ltb k fiftyDollars && not (multiple fiveDollars k))
+standardGrid c k = ladder k && not (isBarred c k)
 
 -- "Dollar: near, $1 class, P below 5,000; whole dollars from $1 to $50."
 abbrev pub dollarGrid : Setting → ℕ → Bool
@@ -92,7 +97,24 @@ wingGrid s k =
     isLong s && isDollarClass (s .class) && ltb (price s) dollarPrice
     && (leb fiveDollars (wingBase k) && leb (wingBase k) fortyFiveDollars && wingAt (price s) (wingBase k) k)
 
--- "Four grounds, each with its own grid": their numbers
+-- "from $50 to $100"
+abbrev pub hundredDollars : ℕ
+hundredDollars = 10000
+
+-- #101: "multiples of $2.50 above $25 and below $50, and from $50 to $100 those no more than $10 from the close"; "The
+-- $10 condition belongs to its grid."
+abbrev pub twoFifties : ℕ → ℕ → Bool
+twoFifties p k =
+    multiple twoFifty k
+    && (ltb twentyFiveDollars k && ltb k fiftyDollars
+    || leb fiftyDollars k && leb k hundredDollars && leb (apart k p) tenDollars)
+
+-- #101: "Near expirations may then have ..", "In a $1 class ground 4 grants no strike below $50 that isn't a multiple
+-- of $5."
+abbrev pub twoFiftyGrid : Setting → ℕ → Bool
+twoFiftyGrid s k = hasTwoFifties s && (twoFifties (price s) k && not (isBarred (s .class) k))
+
+-- "Four grounds, each with its own grid", and #101: "This is ground 4, tried after Wing": their numbers
 abbrev pub standardGround : ℕ
 standardGround = 0
 
@@ -105,11 +127,15 @@ halfGround = 2
 abbrev pub wingGround : ℕ
 wingGround = 3
 
+abbrev pub twoFiftyGround : ℕ
+twoFiftyGround = 4
+
 abbrev pub grounds : List ℕ
-grounds = standardGround ∷ dollarGround ∷ halfGround ∷ wingGround ∷ []
+grounds = standardGround ∷ dollarGround ∷ halfGround ∷ wingGround ∷ twoFiftyGround ∷ []
 
 abbrev pub gridOf : Setting → ℕ → ℕ → Bool
 gridOf s zero h = standardGrid (s .class) (cents h)
 gridOf s (suc zero) h = dollarGrid s (cents h)
 gridOf s (suc (suc zero)) h = halfGrid s (cents h)
-gridOf s (suc (suc (suc g))) h = wingGrid s (cents h)
+gridOf s (suc (suc (suc zero))) h = wingGrid s (cents h)
+gridOf s (suc (suc (suc (suc g)))) h = twoFiftyGrid s (cents h)

@@ -42,17 +42,23 @@ abbrev pub groundFrom : Answer → ℕ → List (List Bool) → Answer
 groundFrom v g [] = v
 groundFrom v g (row ∷ rows) = cond (passes row) (Ground g) (groundFrom v (g + 1) rows)
 
--- "The ground is the first of the four, from 0 up, that passes grid, range and spacing. With none: .."
+-- "The ground is the first of the four, from 0 up, that passes grid, range and spacing. With none: .."; with #101 of
+-- the five
 abbrev pub decided : List (List Bool) → Answer
 decided rows = groundFrom (Refused (refusalOf rows)) 0 rows
 
 -- the row of one ground as the search leaves it: grid, range on the grid, and whether it is the ground that was found
 abbrev pub foundRow : Setting → ℕ → ℕ → ℕ → List Bool
-foundRow s h found g = gridOf s g h ∷ (gridOf s g h && rangeOf s g h) ∷ eqb g found ∷ []
+foundRow s h found g = gridOf s g h ∷ (gridOf s g h && rangeOf s g h) ∷ eqb found g ∷ []
 
 -- the rows from which the code decides; no ground was found where `found` is their number
 abbrev pub foundRows : Setting → ℕ → ℕ → List (List Bool)
 foundRows s h found = map (foundRow s h found) grounds
+
+-- the rows with the ground that was found noted, as the third result of its row
+abbrev pub noted : List (List Bool) → ℕ → List (List Bool)
+noted rows found =
+    map (λ g. getD (getD rows g []) 0 false ∷ getD (getD rows g []) 1 false ∷ eqb found g ∷ []) grounds
 
 -- the first ground that passes grid, range and spacing; their number where none does
 abbrev pub firstGround : Setting → List Standing → ℕ → ℕ

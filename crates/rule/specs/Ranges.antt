@@ -1,4 +1,5 @@
--- Document 01, "Range". A grid is a test of K, in cents; a strike is counted in half dollars, h. Assumes nothing.
+-- Document 01, "Range", and request #101, "The range rule holds as for Standard." A grid is a test of K, in cents; a
+-- strike is counted in half dollars, h. Assumes nothing.
 use Prim.Native.Nat.{ℕ, zero, suc, _+_, _*_}
 use mathlib.Core.Bool.{Bool, true, false, cond, _&&_, _||_}
 use mathlib.Core.List.{List, [], _∷_}
@@ -44,11 +45,13 @@ rangeGrid s k = cond (isNear s && isDollarClass (s .class)) (multiple oneDollar 
 abbrev pub standardRange : Setting → ℕ → Bool
 standardRange s h = rangeBy (rangeGrid s) (price s) h
 
--- "the Half grid for Half, which may hold fewer than five. A wing is in range when L and L + $5 both are, as Standard."
+-- "the Half grid for Half, which may hold fewer than five. A wing is in range when L and L + $5 both are, as
+-- Standard."; #101: "The range rule holds as for Standard."
 abbrev pub rangeOf : Setting → ℕ → ℕ → Bool
 rangeOf s zero h = standardRange s h
 rangeOf s (suc zero) h = standardRange s h
 rangeOf s (suc (suc zero)) h = rangeBy halfDollars (price s) h
-rangeOf s (suc (suc (suc g))) h =
+rangeOf s (suc (suc (suc zero))) h =
     standardRange s (inHalves (wingBase (cents h)))
     && standardRange s (inHalves (wingBase (cents h)) + inHalves fiveDollars)
+rangeOf s (suc (suc (suc (suc g)))) h = standardRange s h

@@ -20,4 +20,6 @@ pub const FORTY_FIVE_DOLLARS: u32 = 4500;
 
 pub const FIFTY_DOLLARS: u32 = HALF_DOLLAR * Strike::FIFTY_DOLLARS.0;
 
+pub const HUNDRED_DOLLARS: u32 = 10000;
+
 pub const TWO_HUNDRED_DOLLARS: u32 = 20000;

@@ -3,15 +3,18 @@
 ghost use mathlib.Core.Path.{_≡_};
 ghost use Prim.Native.Nat.{_^_, _<_, _≤_, min, max};
 ghost use Rattle.word.specs.Limits.{lastMonth, highestPrice, highestStrike};
-ghost use Rattle.rule.specs.Ends.{fifthAbove, isProgramClass, halfEnd, lowEnd, highEnd, dollarEnd, ladderEnd};
-ghost use Rattle.rule.specs.Ends.{rungs, mostOpen};
+ghost use Rattle.rule.specs.Ends.{fifthAbove, isProgramClass, halfEnd, lowEnd, highEnd, dollarEnd};
+ghost use Rattle.rule.specs.Ends.{ladderEnd, belowEnd, aroundEnd, rungs, mostOpen};
+use crate::amounts::FIFTY_DOLLARS;
 use crate::amounts::FIVE_DOLLARS;
+use crate::amounts::HUNDRED_DOLLARS;
 use crate::amounts::ONE_DOLLAR;
 use crate::amounts::TEN_DOLLARS;
 use crate::amounts::TWENTY_FIVE_DOLLARS;
 use crate::amounts::TWO_FIFTY;
 use crate::amounts::TWO_HUNDRED_DOLLARS;
 use crate::terms::Setting;
+use crate::terms::has_two_fifties;
 use crate::terms::is_dollar_class;
 use crate::terms::is_half_class;
 use crate::terms::is_long;
@@ -38,6 +41,9 @@ const QUARTER_DOLLAR: u32 = 25;
 const LAST_TWO_FIFTY: Strike = Strike(TWENTY_FIVE_DOLLARS / HALF_DOLLAR);
 
 const LAST_FIVE: Strike = Strike(TWO_HUNDRED_DOLLARS / HALF_DOLLAR);
+
+// Where those of the $2.50 program end.
+const LAST_HUNDRED: Strike = Strike(HUNDRED_DOLLARS / HALF_DOLLAR);
 
 // The steps of the ladder and of whole dollars, in half dollars.
 const BY_ONE_DOLLAR: u32 = ONE_DOLLAR / HALF_DOLLAR;
@@ -148,26 +154,53 @@ fn dollar_end(class: ClassRecord) -> u32
     }
 }
 
-// The last strike that multiples of $2.50 reach, 0 in a $1 class.
-fn ladder_end(class: ClassRecord) -> u32
-    ensures { λ r. ⌜ r ≡ ladderEnd class ⌝ }
+// The last strike that multiples of $2.50 reach from the lowest on, 0 in a $1 class.
+fn ladder_end(s: Setting) -> u32
+    requires { ⌜ s .current ≤ lastMonth ⌝ }
+    ensures { λ r. ⌜ r ≡ ladderEnd s ⌝ }
 {
-    if is_dollar_class(class) {
-        0
+    if is_dollar_class(s.class) {
+        return 0;
+    }
+    if has_two_fifties(s) {
+        Strike::FIFTY_DOLLARS.0
     } else {
         LAST_TWO_FIFTY.0
     }
 }
 
+// The last strike to $100 that is below $50 or more than $10 below the close, 0 without the $2.50 program.
+fn below_end(s: Setting) -> u32
+    requires { ⌜ s .current ≤ lastMonth ⌝ }
+    ensures { λ r. ⌜ r ≡ belowEnd s ⌝ }
+{
+    if !has_two_fifties(s) {
+        return 0;
+    }
+    let below = higher_of(s.class.close, FIFTY_DOLLARS + TEN_DOLLARS) - (TEN_DOLLARS + 1);
+    lower_of(below / HALF_DOLLAR, LAST_HUNDRED.0)
+}
+
+// The last strike to $100 that is no more than $10 above the close, 0 without the $2.50 program.
+fn around_end(s: Setting) -> u32
+    requires { ⌜ (s .class .close ≤ highestPrice) × (s .current ≤ lastMonth) ⌝ }
+    ensures { λ r. ⌜ r ≡ aroundEnd s ⌝ }
+{
+    if !has_two_fifties(s) {
+        return 0;
+    }
+    lower_of((s.class.close + TEN_DOLLARS) / HALF_DOLLAR, LAST_HUNDRED.0)
+}
+
 // How many rungs there are.
-const RUNGS: usize = 5;
+const RUNGS: usize = 7;
 
 // The rungs of a setting.
 pub type Rungs = [Rung; RUNGS];
 
 // What the open strikes are multiples of, rung by rung.
 pub fn rungs_of(s: Setting) -> Rungs
-    requires { ⌜ s .current ≤ lastMonth ⌝ }
+    requires { ⌜ (s .class .close ≤ highestPrice) × (s .current ≤ lastMonth) ⌝ }
     ensures { λ r. ⌜ r ≡ rungs s ⌝ }
 {
     [
@@ -182,7 +215,17 @@ pub fn rungs_of(s: Setting) -> Rungs
             all: !is_long(s),
         },
         Rung {
-            to: ladder_end(s.class),
+            to: ladder_end(s),
+            step: BY_TWO_FIFTY,
+            all: true,
+        },
+        Rung {
+            to: below_end(s),
+            step: BY_FIVE_DOLLARS,
+            all: true,
+        },
+        Rung {
+            to: around_end(s),
             step: BY_TWO_FIFTY,
             all: true,
         },

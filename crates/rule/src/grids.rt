@@ -1,11 +1,13 @@
-// The grids of the four grounds, over strikes in cents.
+// The grids of the five grounds, over strikes in cents.
 ghost use mathlib.Core.Path.{_≡_};
 ghost use Prim.Native.Nat.{_≤_};
 ghost use Rattle.word.specs.Limits.{highestStrike, lastMonth, cents};
-ghost use Rattle.rule.specs.Grids.{ladder, standardGrid, dollarGrid, halfDollars, halfGrid, wingAt, wingGrid};
+ghost use Rattle.rule.specs.Grids.{ladder, isBarred, standardGrid, dollarGrid, halfDollars, halfGrid, wingAt, wingGrid};
+ghost use Rattle.rule.specs.Grids.{twoFifties, twoFiftyGrid};
 use crate::amounts::FIFTY_DOLLARS;
 use crate::amounts::FIVE_DOLLARS;
 use crate::amounts::FORTY_FIVE_DOLLARS;
+use crate::amounts::HUNDRED_DOLLARS;
 use crate::amounts::ONE_DOLLAR;
 use crate::amounts::TEN_DOLLARS;
 use crate::amounts::THREE_DOLLARS;
@@ -13,7 +15,9 @@ use crate::amounts::TWENTY_FIVE_DOLLARS;
 use crate::amounts::TWO_DOLLARS;
 use crate::amounts::TWO_FIFTY;
 use crate::amounts::TWO_HUNDRED_DOLLARS;
+use crate::spacing::distance;
 use crate::terms::Setting;
+use crate::terms::has_two_fifties;
 use crate::terms::is_dollar_class;
 use crate::terms::is_half_class;
 use crate::terms::is_long;
@@ -31,6 +35,8 @@ pub const DOLLAR_GROUND: u32 = 1;
 
 pub const WING_GROUND: u32 = 3;
 
+pub const TWO_FIFTY_GROUND: u32 = 4;
+
 fn on_ladder(k: u32) -> bool
     ensures { λ r. ⌜ r ≡ ladder k ⌝ }
 {
@@ -39,10 +45,17 @@ fn on_ladder(k: u32) -> bool
         | (TWO_HUNDRED_DOLLARS < k) & (k % TEN_DOLLARS == 0)
 }
 
+// Whether the class is a $1 class that has no such strike.
+fn is_barred(class: ClassRecord, k: u32) -> bool
+    ensures { λ r. ⌜ r ≡ isBarred class k ⌝ }
+{
+    is_dollar_class(class) & (k < FIFTY_DOLLARS) & !(k % FIVE_DOLLARS == 0)
+}
+
 pub fn on_standard(class: ClassRecord, k: u32) -> bool
     ensures { λ r. ⌜ r ≡ standardGrid class k ⌝ }
 {
-    on_ladder(k) & !(is_dollar_class(class) & (k < FIFTY_DOLLARS) & !(k % FIVE_DOLLARS == 0))
+    on_ladder(k) & !is_barred(class, k)
 }
 
 pub fn on_dollar(s: Setting, k: u32) -> bool
@@ -94,4 +107,23 @@ pub fn on_wing(s: Setting, k: u32) -> bool
         & is_dollar_class(class)
         & (class.close < DOLLAR_PRICE)
         & ((FIVE_DOLLARS <= l) & (l <= FORTY_FIVE_DOLLARS) & is_wing_at(class.close, l, k))
+}
+
+// Whether the strike k is one of the $2.50 program's at the price p.
+fn is_two_fifty(p: u32, k: u32) -> bool
+    ensures { λ r. ⌜ r ≡ twoFifties p k ⌝ }
+{
+    (k % TWO_FIFTY == 0)
+        & ((TWENTY_FIVE_DOLLARS < k) & (k < FIFTY_DOLLARS)
+            | (FIFTY_DOLLARS <= k) & (k <= HUNDRED_DOLLARS) & (distance(k, p) <= TEN_DOLLARS))
+}
+
+pub fn on_two_fifty(s: Setting, k: u32) -> bool
+    requires { ⌜ s .current ≤ lastMonth ⌝ }
+    ensures { λ r. ⌜ r ≡ twoFiftyGrid s k ⌝ }
+{
+    if !has_two_fifties(s) {
+        return false;
+    }
+    is_two_fifty(s.class.close, k) & !is_barred(s.class, k)
 }

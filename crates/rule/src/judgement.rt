@@ -5,7 +5,7 @@ ghost use lib.ListN.{length};
 ghost use Rattle.rule.specs.Grids.{grounds};
 ghost use Rattle.rule.specs.Spacing.{standingOf};
 ghost use Rattle.word.specs.Answers.{isAccepted};
-ghost use Rattle.rule.specs.Judgement.{Judged, decided, judgement, firstGround, foundRows};
+ghost use Rattle.rule.specs.Judgement.{Judged, decided, judgement, firstGround, foundRows, noted};
 use crate::amounts::FIVE_DOLLARS;
 use crate::bounds::BY_FIVE_DOLLARS;
 use crate::bounds::half_end;
@@ -14,6 +14,7 @@ use crate::bounds::low_end;
 use crate::grids::on_dollar;
 use crate::grids::on_half;
 use crate::grids::on_standard;
+use crate::grids::on_two_fifty;
 use crate::grids::on_wing;
 use crate::spacing::is_clear;
 use crate::terms::Setting;
@@ -23,7 +24,7 @@ use word::answer::Refusal;
 use word::strike::Strike;
 
 // How many grounds there are.
-const GROUNDS: u32 = 4;
+const GROUNDS: u32 = 5;
 
 // The grid, the range and the spacing of each ground.
 pub type Rows = [[bool; 3]; GROUNDS as usize];
@@ -81,15 +82,18 @@ fn rows_of(s: Setting, strike: Strike) -> Rows
                 wing & (low <= base) & (base + BY_FIVE_DOLLARS <= high),
                 false,
             ],
+            [false, false, false],
         ];
     }
     let dollar = on_dollar(s, k);
     let half = on_half(s, k);
+    let two_fifty = on_two_fifty(s, k);
     [
         [standard, standard & ranged, false],
         [dollar, dollar & ranged, false],
         [half, half & (h <= half_end(s)), false],
         [false, false, false],
+        [two_fifty, two_fifty & ranged, false],
     ]
 }
 
@@ -122,19 +126,28 @@ fn first_ground(s: Setting, strike: Strike, rows: Rows, standing: &[u32]) -> u32
     found
 }
 
+// The rows with the ground that was found noted, as the third result of its row.
+fn note(rows: Rows, found: u32) -> Rows
+    ensures { λ r. ⌜ r ≡ noted rows found ⌝ }
+{
+    [
+        [rows[0][0], rows[0][1], found == 0],
+        [rows[1][0], rows[1][1], found == 1],
+        [rows[2][0], rows[2][1], found == 2],
+        [rows[3][0], rows[3][1], found == 3],
+        [rows[4][0], rows[4][1], found == 4],
+    ]
+}
+
 // The judgement of the strike beside the words of the standing strikes of its expiration: the rows decide, once the
-// third result of the ground that the search finds is noted.
+// ground that the search finds is noted.
 pub fn judge(s: Setting, strike: Strike, standing: &[u32]) -> Answer
     requires { ⌜ Judged s (strike .0) ⌝ }
     ensures { λ r. ⌜ r ≡ judgement s (map standingOf (now (standing .entry))) (strike .0) ⌝ }
 {
-    let mut rows = rows_of(s, strike);
+    let rows = rows_of(s, strike);
     let found = first_ground(s, strike, rows, standing);
-    if found < GROUNDS {
-        let row = rows[found as usize];
-        rows[found as usize] = [row[0], row[1], true];
-    }
-    decide(rows)
+    decide(note(rows, found))
 }
 
 // Whether the rules accept the strike beside the words of the standing strikes of its expiration.

@@ -2,13 +2,15 @@
 ghost use mathlib.Core.Path.{_≡_};
 ghost use Prim.Native.Nat.{_^_, _<_};
 ghost use Rattle.word.specs.Kinds.{strikeKind};
-ghost use Rattle.rule.specs.Spacing.{apart, crowds, clears, standingOf};
+ghost use Rattle.rule.specs.Terms.{apart};
+ghost use Rattle.rule.specs.Spacing.{crowds, countsAsStandard, clears, standingOf};
 ghost use Rattle.rule.specs.Judgement.{Judged};
 use crate::amounts::FIVE_DOLLARS;
 use crate::amounts::ONE_DOLLAR;
 use crate::amounts::TWO_FIFTY;
 use crate::grids::DOLLAR_GROUND;
 use crate::grids::STANDARD_GROUND;
+use crate::grids::TWO_FIFTY_GROUND;
 use crate::terms::Setting;
 use crate::terms::is_long;
 use word::field::field_of;
@@ -37,6 +39,12 @@ fn is_crowded(dollar: Strike, standard: Strike) -> bool
     (k % FIVE_DOLLARS == TWO_FIFTY) & (distance(d, k) <= HALF_DOLLAR)
 }
 
+fn counts_as_standard(g: u32) -> bool
+    ensures { λ r. ⌜ r ≡ countsAsStandard g ⌝ }
+{
+    (g == STANDARD_GROUND) | (g == TWO_FIFTY_GROUND)
+}
+
 // Whether the strike, on the ground g, may stand beside the strike of the word w.
 pub fn is_clear(s: Setting, g: u32, strike: Strike, w: u32) -> bool
     requires { ⌜ Judged s (strike .0) ⌝ }
@@ -44,7 +52,7 @@ pub fn is_clear(s: Setting, g: u32, strike: Strike, w: u32) -> bool
 {
     let other = Strike(key_of(w, STRIKE));
     let ground = field_of(w, GROUND);
-    !((g == DOLLAR_GROUND) & (ground == STANDARD_GROUND) & is_crowded(strike, other))
-        & !((g == STANDARD_GROUND) & (ground == DOLLAR_GROUND) & is_crowded(other, strike))
+    !((g == DOLLAR_GROUND) & counts_as_standard(ground) & is_crowded(strike, other))
+        & !(counts_as_standard(g) & (ground == DOLLAR_GROUND) & is_crowded(other, strike))
         & !(is_long(s) & (distance(strike.cents(), other.cents()) <= ONE_DOLLAR))
 }

@@ -2,11 +2,13 @@
 ghost use mathlib.Core.Path.{_≡_};
 ghost use Prim.Native.Nat.{_≤_};
 ghost use Rattle.word.specs.Limits.{lastMonth};
-ghost use Rattle.rule.specs.Terms.{isDesignated, isDollarClass, isHalfClass, isLong, isOutside};
+ghost use Rattle.rule.specs.Terms.{isDesignated, isDollarClass, isHalfClass, isTwoFiftyClass};
+ghost use Rattle.rule.specs.Terms.{isLong, hasTwoFifties, isOutside};
 use word::class::ClassRecord;
 use word::limits::MONTHS_AHEAD;
 use word::programs::DOLLAR;
 use word::programs::HALF;
+use word::programs::TWO_FIFTY;
 
 // An expiration is long so many months ahead of the current one.
 const LONG_FROM: u32 = 9;
@@ -36,11 +38,25 @@ pub fn is_half_class(class: ClassRecord) -> bool
     is_designated(class.designations[(HALF - 1) as usize])
 }
 
+fn is_two_fifty_class(class: ClassRecord) -> bool
+    ensures { λ r. ⌜ r ≡ isTwoFiftyClass class ⌝ }
+{
+    is_designated(class.designations[(TWO_FIFTY - 1) as usize])
+}
+
 pub fn is_long(s: Setting) -> bool
     requires { ⌜ s .current ≤ lastMonth ⌝ }
     ensures { λ r. ⌜ r ≡ isLong s ⌝ }
 {
     s.current + LONG_FROM <= s.month
+}
+
+// Whether the expiration has strikes of the $2.50 program.
+pub fn has_two_fifties(s: Setting) -> bool
+    requires { ⌜ s .current ≤ lastMonth ⌝ }
+    ensures { λ r. ⌜ r ≡ hasTwoFifties s ⌝ }
+{
+    !is_long(s) & is_two_fifty_class(s.class)
 }
 
 // Whether nothing can be listed in the expiration's month.

@@ -173,8 +173,8 @@ book-parts ws = (
 
 -- ---- what each test of the code tells
 
-pub some-words : (n : ℕ) → isLength n ≡ true → firstPlace ≤ n
-some-words n t = let long = true-T (isLength n) t in leb→le 1 n (search ands)
+pub some-words : (n : ℕ) → isLength n ≡ true → (firstPlace ≤ n) × (n ≤ longestRun)
+some-words n t = let long = true-T (isLength n) t in (leb→le 1 n (search ands), leb→le n longestRun (search ands))
 
 module _ (ws : List ℕ) where
   good-head : not (isHead ws) ≡ false → T (isHead ws)

@@ -14,41 +14,48 @@ use Rattle.word.specs.Head.{firstPlace}
 use Rattle.word.specs.Limits.{longestRun}
 use Rattle.word.specs.Figures.{figuresLength, areFiguresAt}
 use Rattle.word.specs.Caps.{own, isCapKept}
-use Rattle.word.specs.Programs.{programs, program, isProgram, designationIn, dollarProgram, halfProgram}
+use Rattle.word.specs.Programs.{programs, program, isProgram, designationIn, dollarProgram, halfProgram, twoFiftyProgram}
 use Rattle.logic.specs.Lists.{every}
 use Rattle.book.specs.Facts.{OpenClass}
 use Rattle.book.specs.Books.{isClass}
 use Rattle.logic.proofs.Tests.{true-T, at-most}
-use Rattle.book.proofs.ProgramTable.{tabled, caps-at, caps-kept}
+use Rattle.word.proofs.Counts.{own-at-most-one}
+use Rattle.book.proofs.ProgramTable.{caps-at, caps-kept}
 use Rattle.scan.specs.Stretches.{mayFollow, SeriesThen, ClassesWhere, Classes, AllClasses, SeriesEnd}
 use Rattle.scan.proofs.FiguresFirst.{FiguresThen, figures, classes-length}
 
 -- the counts of own classes, by program number
-abbrev pub countOf : ℕ → ℕ → ℕ → ℕ
-countOf dollars halves p = getD (dollars ∷ halves ∷ []) (p - 1) 0
+abbrev pub countOf : ℕ → ℕ → ℕ → ℕ → ℕ
+countOf dollars halves twoFifties p = getD (dollars ∷ halves ∷ twoFifties ∷ []) (p - 1) 0
 
--- one is exceeded where not each cap is kept
+-- none is exceeded where each cap is kept
 pub caps-tested :
-    (dollars halves : ℕ)
-    → (ltb (dollarProgram .cap) dollars || ltb (halfProgram .cap) halves)
-    ≡ not (every (isCapKept (countOf dollars halves)) programs)
-caps-tested dollars halves =
-    rw (at-most dollars (dollarProgram .cap), at-most halves (halfProgram .cap))
-    (go (ltb (dollarProgram .cap) dollars) (ltb (halfProgram .cap) halves))
+    (dollars halves twoFifties : ℕ)
+    → not (ltb (dollarProgram .cap) dollars || ltb (halfProgram .cap) halves || ltb (twoFiftyProgram .cap) twoFifties)
+    ≡ every (isCapKept (countOf dollars halves twoFifties)) programs
+caps-tested dollars halves twoFifties =
+    rw (
+      at-most dollars (dollarProgram .cap),
+      at-most halves (halfProgram .cap),
+      at-most twoFifties (twoFiftyProgram .cap),
+    )
+    (go (ltb (dollarProgram .cap) dollars) (ltb (halfProgram .cap) halves) (ltb (twoFiftyProgram .cap) twoFifties))
   where
-    go : (one two : Bool) → (one || two) ≡ not (not one && (not two && true))
-    go true two = refl
-    go false true = refl
-    go false false = refl
+    go : (one two three : Bool) → not (one || two || three) ≡ (not one && (not two && (not three && true)))
+    go true two three = refl
+    go false true three = refl
+    go false false true = refl
+    go false false false = refl
 
 -- the classes after the head are what they are after those before i, of which `last` is the last number
 pub record Walked (now : ℕ) (ws : List ℕ) (i last : ℕ) (counts : ℕ → ℕ) : Type 0 where
   pub within : i ≤ length ws
-  pub capped : (p : ℕ) → T (isProgram p) → counts p ≤ program p .cap
+  pub few : (p : ℕ) → T (isProgram p) → counts p < i
   pub same : AllClasses now (drop firstPlace ws) ↔ Classes now last counts (drop i ws)
 
 -- the same after the figures at i
 pub record Counted (now : ℕ) (ws : List ℕ) (i last : ℕ) (counts : ℕ → ℕ) : Type 0 where
+  pub few : (p : ℕ) → T (isProgram p) → counts p ≤ i
   pub same :
       AllClasses now (drop firstPlace ws)
       ↔ ClassesWhere now last counts (λ xs. SeriesThen now 0 (mayFollow 0) xs (drop (i + figuresLength) ws))
@@ -73,7 +80,10 @@ pub counted-same :
     → last′ ≡ last → ((p : ℕ) → T (isProgram p) → counts′ p ≡ counts p) → Counted now ws i last′ counts′
 counted-same v l e =
     rw l
-    (record { same = (λ r. alike e (v .same .0 r), λ r. v .same .1 (alike (λ p k. sym (e p k)) r)) })
+    (record {
+      few = λ p k. rw (e p k) (v .few p k);
+      same = (λ r. alike e (v .same .0 r), λ r. v .same .1 (alike (λ p k. sym (e p k)) r));
+    })
 
 pub walked-start :
     (now : ℕ) (ws : List ℕ) {counts : ℕ → ℕ} → firstPlace ≤ length ws → ((p : ℕ) → T (isProgram p) → counts p ≡ 0)
@@ -81,14 +91,14 @@ pub walked-start :
 walked-start now ws head none =
     record {
       within = head;
-      capped = λ p k. rw (none p k) (omega arith);
+      few = λ p k. rw (none p k) (omega arith);
       same = (alike none, alike (λ p k. sym (none p k)));
     }
 
 module _ {now : ℕ} {ws : List ℕ} {i last : ℕ} {counts : ℕ → ℕ} (v : Walked now ws i last counts) where
   -- so few are counted that one more can be
-  pub walked-small : (p : ℕ) → T (isProgram p) → counts p < longestRun
-  walked-small p k = omega (arith, v .capped p k, tabled p k .cap)
+  pub walked-small : length ws ≤ longestRun → (p : ℕ) → T (isProgram p) → counts p < longestRun
+  walked-small most p k = omega (arith, v .few p k, v .within)
 
   -- no class stands in fewer words than its figures have
   pub walked-short : i < length ws → length ws - i < figuresLength → AllClasses now (drop firstPlace ws) → ⊥
@@ -99,18 +109,21 @@ module _ {now : ℕ} {ws : List ℕ} {i last : ℕ} {counts : ℕ → ℕ} (v : 
         classes-length now last counts (drop i ws) (v .same .0 r) (omega (arith, length-drop i ws)),
       )
 
-  -- no class is left
-  pub walked-end : length ws ≤ i → AllClasses now (drop firstPlace ws)
-  walked-end l =
-      v .same .1
-      (record {
-        classes = [];
-        holds = sym (drop-of-length-le ws l);
-        legal = tt;
-        rising = tt;
-        leading = tt;
-        capped = λ p k. omega (arith, v .capped p k);
-      })
+  -- where no class is left, the caps decide
+  pub walked-end : length ws ≤ i → T (every (isCapKept counts) programs) ↔ AllClasses now (drop firstPlace ws)
+  walked-end l = (
+    λ t.
+        v .same .1
+        (record {
+          classes = [];
+          holds = sym (drop-of-length-le ws l);
+          legal = tt;
+          rising = tt;
+          leading = tt;
+          capped = λ p k. omega (arith, caps-at counts t p k);
+        }),
+    λ r. caps-kept counts (λ p k. omega (arith, v .same .0 r .capped p k)),
+  )
 
   module _ (room : figuresLength ≤ length ws - i) where
     step : AllClasses now (drop firstPlace ws) ↔ FiguresThen now last counts i ws
@@ -126,6 +139,7 @@ module _ {now : ℕ} {ws : List ℕ} {i last : ℕ} {counts : ℕ → ℕ} (v : 
     walked-counted t =
         let test = areFiguresAt last i ws in
         record {
+          few = λ p k. omega (arith, v .few p k, own-at-most-one (designationIn (program p) (getD ws i 0)));
           same = (
             λ r. step .0 r .rest,
             λ r. step .1 (record { figures = true-T test (not-false test t); rest = r }),
@@ -148,11 +162,6 @@ replaced f c =
     }
 
 module _ {now : ℕ} {ws : List ℕ} {i last : ℕ} {counts : ℕ → ℕ} (v : Counted now ws i last counts) where
-  pub counted-exceeded : not (every (isCapKept counts) programs) ≡ true → AllClasses now (drop firstPlace ws) → ⊥
-  counted-exceeded t r =
-      rw (not-true (every (isCapKept counts) programs) t) at
-      (caps-kept counts (λ p k. omega (arith, v .same .0 r .capped p k)))
-
   pub counted-breaks :
       ((xs : List OpenClass) → T (every (isClass now) xs)
       → SeriesThen now 0 (mayFollow 0) xs (drop (i + figuresLength) ws) → ⊥)
@@ -160,14 +169,11 @@ module _ {now : ℕ} {ws : List ℕ} {i last : ℕ} {counts : ℕ → ℕ} (v : 
   counted-breaks breaks r = let c = v .same .0 r in breaks (c .classes) (c .legal) (c .holds)
 
   pub counted-more :
-      (j : ℕ) → not (every (isCapKept counts) programs) ≡ false → SeriesEnd now ws (i + figuresLength) j
-      → Walked now ws j last counts
-  counted-more j t e =
+      (j : ℕ) → SeriesEnd now ws (i + figuresLength) j → Walked now ws j last counts
+  counted-more j e =
       record {
         within = e .within;
-        capped =
-            let kept = every (isCapKept counts) programs in
-            caps-at counts (true-T kept (not-false kept t));
+        few = λ p k. omega (arith, v .few p k, e .onward);
         same = (
           λ r. replaced (λ xs legal. e .rest xs legal .0) (v .same .0 r),
           λ r. v .same .1 (replaced (λ xs legal. e .rest xs legal .1) r),

@@ -1,14 +1,13 @@
--- The bits that tell the others in a stretch of words, as the digits of its words: by its first word, by its parts, and
--- by its next strikes. Assumes nothing.
+-- The bits that tell the others in a stretch of words, as the digits of its words: by its parts, and by its next
+-- strikes. Assumes nothing.
 use Prim.Native.Nat.{ℕ, zero, suc, _+_, _-_, _*_, _/_, _%_, _^_, _<_, _≤_}
 use mathlib.Core.Path.{_≡_, refl, sym, ap, ap₂, _∙_}
 use mathlib.Core.Bool.{Bool, true, false, cond, not}
 use mathlib.Core.List.{List, [], _∷_}
 use native.Mathlib.Omega.{arith}
-use native.Mathlib.Nat.{mul-comm, mul-div-right}
 use lib.ListN.{length, drop, getD, take, drop-of-length-le, length-drop}
-use lib.Seq.{drop-cons, drop-drop, getD-drop, take-nil, take-all}
-use lib.Pow.{pow-pos, shr-shr, shl-exact}
+use lib.Seq.{drop-cons, drop-drop, getD-drop, take-all}
+use lib.Pow.{shl-exact}
 use lib.Bits.{bitOr, or-shifted-r}
 use Rattle.word.specs.Digits.{binary, firstOne}
 use Rattle.word.proofs.Digits.{binary-small, binary-parts, binary-later, digit-more, first-later, first-one}
@@ -58,10 +57,6 @@ others-next before (w ∷ ws) = go (isNextStrike before w) (others-next w ws)
 abbrev pub bitsAt : List ℕ → ℕ → ℕ → ℕ
 bitsAt ws i k = otherBits (getD ws (i - 1) 0) (take k (drop i ws))
 
--- the bit of the word at i
-abbrev pub bitAt : List ℕ → ℕ → ℕ
-bitAt ws i = cond {A = ℕ} (not (isNextStrike (getD ws (i - 1) 0) (getD ws i 0))) 1 0
-
 -- how many words from i on are next strikes
 abbrev pub nextAt : List ℕ → ℕ → ℕ
 nextAt ws i = nextLength (getD ws (i - 1) 0) (drop i ws)
@@ -87,18 +82,10 @@ module _ (ws : List ℕ) where
   bits-digits : (i k : ℕ) → bitsAt ws i k ≡ binary (take k (digits i))
   bits-digits i k = ap binary (others-take k (getD ws (i - 1) 0) (drop i ws))
 
-  pub bits-end : (i k : ℕ) → length ws ≤ i → bitsAt ws i k ≡ 0
-  bits-end i k h = rw (drop-of-length-le ws h, take-nil k)
-
-  pub bits-step : (i k : ℕ) → i < length ws → bitsAt ws i (suc k) ≡ bitAt ws i + 2 * bitsAt ws (suc i) k
-  bits-step i k h =
-      let before : suc i - 1 ≡ i = omega arith in
-      rw (drop-cons ws i 0 h, before)
-
   pub bits-whole : (i k : ℕ) → length ws ≤ i + k → bitsAt ws i k ≡ otherBits (getD ws (i - 1) 0) (drop i ws)
   bits-whole i k h = rw (take-all k (drop i ws) (omega (arith, length-drop i ws)))
 
-  bits-lt : (i k : ℕ) → bitsAt ws i k < 2 ^ k
+  pub bits-lt : (i k : ℕ) → bitsAt ws i k < 2 ^ k
   bits-lt i k = rw (bits-digits i k) (binary-small k (digits i))
 
   bits-parts : (j i k : ℕ) → bitsAt ws i (j + k) ≡ bitsAt ws i j + 2 ^ j * bitsAt ws (i + j) k
@@ -155,19 +142,6 @@ module _ (ws : List ℕ) where
         or-shifted-r (bitsAt ws (i + 32) k) 32 (bitsAt ws i 32) (bits-lt i 32),
       )
       (omega (arith, bits-parts 32 i k))
-
-  -- `(bits >> passed) << passed` in 64 bits
-  pub bits-cleared :
-      (g j i k : ℕ) → g + j + k ≤ 64
-      → 2 ^ g * bitsAt ws i (j + k) / 2 ^ (g + j) * 2 ^ (g + j) % 2 ^ 64 ≡ 2 ^ (g + j) * bitsAt ws (i + j) k
-  bits-cleared g j i k h =
-      rw (
-        ← shr-shr (2 ^ g * bitsAt ws i (j + k)) g j,
-        mul-div-right (bitsAt ws i (j + k)) (pow-pos g),
-        bits-later j i k,
-        shl-exact k (g + j) 64 (bits-lt (i + j) k) (omega arith),
-      )
-      (mul-comm (bitsAt ws (i + j) k) (2 ^ (g + j)))
 
   next-end : (i : ℕ) → length ws ≤ i → nextAt ws i ≡ 0
   next-end i h = rw (drop-of-length-le ws h)

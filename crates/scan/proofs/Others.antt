@@ -4,18 +4,24 @@ use Prim.Native.Nat.{ℕ, suc, _+_, _-_, _*_, _/_, _%_, _^_, _<_, _≤_}
 use mathlib.Core.Path.{_≡_, refl, sym, _∙_}
 use mathlib.Core.List.{List}
 use native.Mathlib.Omega.{arith}
-use native.Mathlib.Nat.{mul-zero, mul-div-right, mul-assoc, pos-of-ne-zero, one-le-mul, eq-of-mul-eq-mul-left}
-use lib.ListN.{length, drop, getD}
-use lib.Pow.{pow-pos, pow-add}
+use native.Mathlib.Nat.{pow-succ', mul-zero, mul-comm, mul-div-right, mul-assoc, pos-of-ne-zero, one-le-mul, eq-of-mul-eq-mul-left}
+use lib.ListN.{length, drop, getD, take}
+use lib.Pow.{pow-pos, pow-add, shr-shr, shl-exact}
 use lib.Bits.{bitAnd}
 use lib.Count.{trailingZeros}
-use Rattle.word.proofs.RawWords.{no-strike}
-use Rattle.word.specs.Kinds.{kindOf, expirationKind}
 use Rattle.word.proofs.Digits.{trailing-lowest, and-lowest}
 use Rattle.scan.specs.NextStrikes.{nextLength}
-use Rattle.scan.specs.Ahead.{Tells, blockLength}
+use Rattle.scan.specs.Ahead.{otherBits, Tells, blockLength}
 use Rattle.scan.specs.declared.ahead.Ahead.{Ahead}
-use Rattle.scan.proofs.OtherBits.{bitsAt, bitAt, nextAt, FirstOther, bits-end, bits-step, bits-later, bits-cleared, next-on, next-all, first-other}
+use Rattle.scan.proofs.OtherBits.{bitsAt, nextAt, FirstOther, bits-lt, bits-later, next-on, next-all, first-other}
+
+-- the bits of the words after i, as far as the block from `base` on reaches
+abbrev bitsAfter : List ℕ → ℕ → ℕ → ℕ
+bitsAfter ws base i = otherBits (getD ws i 0) (take (base + blockLength - suc i) (drop (suc i) ws))
+
+bits-after :
+    (ws : List ℕ) (base i : ℕ) → bitsAfter ws base i ≡ bitsAt ws (suc i) (base + blockLength - suc i)
+bits-after ws base i = let before : suc i - 1 ≡ i = omega arith in rw before refl
 
 module _ (ws : List ℕ) where
   pub tells-end : (at : ℕ) → 1 ≤ at → at ≡ length ws → Tells ws (record { base = at; bits = 0; at = at })
@@ -25,49 +31,72 @@ module _ (ws : List ℕ) where
         onward = omega arith;
         within = omega arith;
         reached = λ l. omega arith;
-        told = rw (bits-end ws at (at + blockLength - at) (omega arith)) (sym (mul-zero (2 ^ (at - at))));
+        told = λ l. absurd (omega arith);
       }
 
   pub tells-start :
-      (at : ℕ) → 1 ≤ at → at < length ws → Tells ws (record { base = at; bits = bitsAt ws at blockLength; at = at })
+      (at : ℕ) → 1 ≤ at → at < length ws
+      → Tells ws (record { base = at; bits = 1 + 2 * (bitsAt ws at blockLength / 2); at = at })
   tells-start at h l =
       let none : at - at ≡ 0 = omega arith in
-      let all : at + blockLength - at ≡ blockLength = omega arith in
+      let rest : at + blockLength - suc at ≡ 63 = omega arith in
+      let one : at + 1 ≡ suc at = omega arith in
+      let before : suc at - 1 ≡ at = omega arith in
+      let half : bitsAt ws at blockLength / 2 ≡ bitsAt ws (suc at) 63 = rw one at (bits-later ws 1 at 63) in
       record {
         first = h;
         onward = omega arith;
         within = omega arith;
         reached = λ l. omega arith;
-        told = rw (none, all) (omega arith);
+        told = λ l. rw (none, rest, half, before) (omega arith);
       }
+
+  -- the bits after a later word, from those after `at`
+  bits-past :
+      {ahead : Ahead} (at : ℕ) → Tells ws ahead → ahead .at ≤ at → at < length ws → at < ahead .base + blockLength
+      → ahead .bits / 2 ^ (at - ahead .base) / 2 ≡ bitsAfter ws (ahead .base) at
+  bits-past {ahead} at t l m h =
+      let i = ahead .at in
+      let g = i - ahead .base in
+      let j = at - i in
+      let k = ahead .base + blockLength - suc at in
+      let x = bitsAt ws (suc i) (j + k) in
+      let parts : ahead .base + blockLength - suc i ≡ j + k = omega arith in
+      let passed : at - ahead .base ≡ g + j = omega arith in
+      let here : suc i + j ≡ suc at = omega arith in
+      let told : ahead .bits ≡ 2 ^ g * (1 + 2 * x) =
+      rw (bits-after ws (ahead .base) i, parts) at (t .told (omega arith)) in
+      let next : j + 1 ≡ 1 + j = omega arith in
+      let half : (1 + 2 * x) / 2 ^ 1 ≡ x = omega arith in
+      rw (passed, told, ← shr-shr (2 ^ g * (1 + 2 * x)) g j, mul-div-right (1 + 2 * x) (pow-pos g))
+      (shr-shr (1 + 2 * x) j 1
+      ∙ rw (next, ← shr-shr (1 + 2 * x) 1 j, half, bits-later ws j (suc i) k, here)
+      (sym (bits-after ws (ahead .base) at)))
 
   pub tells-later :
       {ahead : Ahead} (at : ℕ) → Tells ws ahead → ahead .at ≤ at → at ≤ length ws → at < ahead .base + blockLength
       → Tells ws (record {
         base = ahead .base;
-        bits = ahead .bits / 2 ^ (at - ahead .base) * 2 ^ (at - ahead .base) % 2 ^ 64;
+        bits = (1 + 2 * (ahead .bits / 2 ^ (at - ahead .base) / 2)) * 2 ^ (at - ahead .base) % 2 ^ 64;
         at = at;
       })
   tells-later {ahead} at t l m h =
-      let g = ahead .at - ahead .base in
-      let j = at - ahead .at in
-      let k = ahead .base + blockLength - at in
-      let parts : ahead .base + blockLength - ahead .at ≡ j + k = omega arith in
-      let passed : at - ahead .base ≡ g + j = omega arith in
-      let here : ahead .at + j ≡ at = omega arith in
+      let p = at - ahead .base in
+      let k = ahead .base + blockLength - suc at in
       record {
         first = t .first;
         onward = omega arith;
         within = m;
         reached = λ x. h;
-        told =
-            rw (t .told, parts, passed)
-            (rw here at (bits-cleared ws g j (ahead .at) k (omega arith)));
+        told = λ x.
+            let rest = bitsAfter ws (ahead .base) at in
+            let small : 1 + 2 * rest < 2 ^ suc k =
+            omega (arith, pow-succ' 2 k, bits-after ws (ahead .base) at, bits-lt ws (suc at) k) in
+            rw (bits-past at t l x h, shl-exact (suc k) p 64 small (omega arith)) (mul-comm (1 + 2 * rest) (2 ^ p));
       }
 
   -- the words from the start of the search up to `from` are next strikes, `bits` tells the others from there on, as far
-  -- as the block from `base` on
-  -- reach, and `end` is the next other
+  -- as the block from `base` on reaches, and `end` is the next other
   pub record Searched (end base bits : ℕ) : Type 0 where
     pub from : ℕ
     pub first : 1 ≤ base
@@ -90,13 +119,15 @@ module _ (ws : List ℕ) where
     searched-on e l =
         let k = base + blockLength - searched .from in
         let onward : searched .from + k ≡ base + blockLength = omega arith in
+        let none : base + blockLength - (base + blockLength) ≡ 0 = omega arith in
+        let all : base + blockLength + blockLength - (base + blockLength) ≡ blockLength = omega arith in
         record {
           from = base + blockLength;
           first = omega arith;
           onward = omega arith;
           within = omega arith;
           near = omega arith;
-          told = tells-start (base + blockLength) (omega arith) l .told;
+          told = rw (none, all) (omega arith);
           reaches =
               omega (
                 arith,
@@ -131,39 +162,32 @@ module _ (ws : List ℕ) where
         rw told (trailing-lowest (g + m) 64 (other .higher) (omega arith)) in
         let place : base + trailingZeros 64 bits ≡ i + m = omega arith in
         let passed : i + m - base ≡ g + m = omega arith in
-        let left : base + blockLength - (i + m) ≡ k - m = omega arith in
-        let all : m + (k - m) ≡ k = omega arith in
-        let later : odd ≡ bitsAt ws (i + m) (k - m) =
-        sym (mul-div-right odd (pow-pos m)) ∙ rw (all, other .told) at (bits-later ws m i (k - m)) in
+        let all : suc m + (base + blockLength - suc (i + m)) ≡ k = omega arith in
+        let next : i + suc m ≡ suc (i + m) = omega arith in
+        let half : odd / 2 ^ 1 ≡ other .higher = omega arith in
+        let plus : suc m ≡ m + 1 = omega arith in
+        let split : bitsAt ws i k / 2 ^ suc m ≡ other .higher =
+        rw (other .told, plus, ← shr-shr (2 ^ m * odd) m 1, mul-div-right odd (pow-pos m)) half in
+        let later : other .higher ≡ bitsAfter ws base (i + m) =
+        sym split
+        ∙ rw (all, next) at (bits-later ws (suc m) i (base + blockLength - suc (i + m)))
+        ∙ sym (bits-after ws base (i + m)) in
         rw place (
           record {
             first = searched .first;
             onward = omega arith;
             within = omega arith;
             reached = λ l. omega arith;
-            told = rw (passed, left, ← later) told;
+            told = λ l. rw (passed, ← later) told;
           },
           searched .reaches,
         )
 
-module _ (ws : List ℕ) {ahead : Ahead} (tells : Tells ws ahead) (l : ahead .at < length ws)
-    (e : kindOf (getD ws (ahead .at) 0) ≡ expirationKind .number) where
-  -- the word at `at` is an other, since it is no strike: its bit is the lowest that is 1
-  expiration-told :
-      ahead .bits
-      ≡ 2 ^ (ahead .at - ahead .base) * (1 + 2 * bitsAt ws (suc (ahead .at))
-      (ahead .base + blockLength - suc (ahead .at)))
-  expiration-told =
-      let i = ahead .at in
-      let w = getD ws i 0 in
-      let one : bitAt ws i ≡ 1 = rw (no-strike w e) in
-      let more : ahead .base + blockLength - i ≡ suc (ahead .base + blockLength - suc i) =
-      omega (arith, tells .reached l) in
-      tells .told ∙ rw (more, bits-step ws i (ahead .base + blockLength - suc i) l, one)
+module _ (ws : List ℕ) {ahead : Ahead} (tells : Tells ws ahead) (l : ahead .at < length ws) where
+  pub bits-some : 1 ≤ ahead .bits
+  bits-some = rw (tells .told l) (one-le-mul (pow-pos (ahead .at - ahead .base)) (omega arith))
 
-  pub expiration-some : 1 ≤ ahead .bits
-  expiration-some = rw expiration-told (one-le-mul (pow-pos (ahead .at - ahead .base)) (omega arith))
-
+  -- the search begins after the word at `at`
   pub searched-start :
       Searched ws
       (suc (ahead .at) + nextLength (getD ws (ahead .at) 0) (drop (suc (ahead .at)) ws))
@@ -176,9 +200,11 @@ module _ (ws : List ℕ) {ahead : Ahead} (tells : Tells ws ahead) (l : ahead .at
       record {
         from = suc i;
         first = tells .first;
-        onward = omega arith;
+        onward = omega (arith, tells .onward);
         within = l;
         near = omega (arith, tells .reached l);
-        told = rw (expiration-told, passed) (and-lowest g (bitsAt ws (suc i) (ahead .base + blockLength - suc i)));
+        told =
+            rw (tells .told l, passed, bits-after ws (ahead .base) i)
+            (and-lowest g (bitsAt ws (suc i) (ahead .base + blockLength - suc i)));
         reaches = rw before refl;
       }

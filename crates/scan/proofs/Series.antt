@@ -11,10 +11,10 @@ use lib.Dec.{T, eqb, leb, ltb, leb→le, ltb→lt, lt→ltb, le→leb, eqb→eq}
 use borrow.Author.Tests.{eqb-true, eqb-false, eq-eqb, ne-eqb}
 use Rattle.logic.specs.Lists.{rises, every}
 use Rattle.word.specs.Limits.{highestStrike}
-use Rattle.word.specs.Strikes.{isNextStrike}
+use Rattle.word.specs.Strikes.{orderOf, lowestWord, isNextStrike, isFirstStrike}
 use Rattle.word.specs.Kinds.{kindOf, keyOf, belowKind, classKind, expirationKind, strikeKind, groundField, putField, callField}
 use Rattle.word.specs.Codec.{Word, Expiration, isLegal, packed}
-use Rattle.word.specs.Field.{field}
+use Rattle.word.specs.Field.{field, end}
 use Rattle.book.specs.Facts.{Series, OpenClass, precedes}
 use Rattle.word.specs.Figures.{classWord}
 use Rattle.book.specs.Layout.{strikeWord, expirationUnless, seriesWords, classesWords}
@@ -22,12 +22,13 @@ use Rattle.book.specs.Books.{isListed, isSeries, isClass}
 use Rattle.word.proofs.Words.{kind-packed}
 use Rattle.logic.proofs.Tests.{or-left, or-right, and-intro, ands, T-true, true-T, equal-test, or-else}
 use Rattle.logic.proofs.Slices.{nil-cons}
-use Rattle.word.proofs.RawWords.{fits, figures-legal, IsStrike, isStrikeAbove, strike-packed, strike-test, expiration-packed, expiration-field}
+use Rattle.word.proofs.StrikeOrder.{strike-order, expiration-order}
+use Rattle.word.proofs.RawWords.{fits, figures-legal, IsStrike, bare, isStrikeAbove, strike-packed, strike-test, expiration-packed, expiration-field}
 use Rattle.book.proofs.LegalWords.{strike-legal, month-legal}
 use Rattle.scan.specs.NextStrikes.{nextLength}
 use Rattle.scan.specs.Stretches.{leads, mayFollow, SeriesThen, areStrikes}
 use Rattle.scan.proofs.ExpirationWords.{isExpirationFrom}
-use Rattle.scan.proofs.NextStrikes.{lastNext, HasStrikes, next-strike, next-rises, next-above, above-next, above-none, next-rising, strike-order}
+use Rattle.scan.proofs.NextStrikes.{lastNext, HasStrikes, next-strike, next-first, next-rises, next-above, above-next, above-none, next-rising}
 
 -- the strike that a strike word says, in the expiration of the month m
 abbrev seriesIn : ℕ → ℕ → Series
@@ -275,7 +276,8 @@ module _ (now : ℕ) (xs : List OpenClass) (classesLegal : T (every (isClass now
             × Words (suc m) (mayFollow (suc m)) (drop (cond {A = ℕ} next (suc n) 0) (w ∷ ws)))
         go true e rest =
             let t = true-T (isNextStrike before w) e in
-            let top = next-strike before w t in
+            let word = next-strike before w t prior in
+            let top = bare strikeKind (end callField) w (search ands) in
             let kind : kindOf w ≡ strikeKind .number = omega arith in (
               λ r.
                   let next = strike-from h w ws kind (first r) in
@@ -283,7 +285,7 @@ module _ (now : ℕ) (xs : List OpenClass) (classesLegal : T (every (isClass now
                   rest top (leb→le (keyOf strikeKind w) highestStrike (search ands)) .0 (next .1),
               λ r.
                   let few : keyOf strikeKind w ≤ highestStrike = omega (arith, next-rising w ws top, r .0) in
-                  strike-to h w ws (next-above before w t h (next-rises before w t prior) few) (rest top few .1 r),
+                  strike-to h w ws (next-above w word h (next-rises before w t prior) few) (rest top few .1 r),
             )
         go false e rest =
             let none = strike-none h w ws (above-none before h w (omega (arith, strike-order before prior)) e) in
@@ -308,17 +310,19 @@ module _ (now : ℕ) (xs : List OpenClass) (classesLegal : T (every (isClass now
       strike-test 0 v (s .strike) (s .ground) (s .put) (s .call) (strike-legal now s legal) refl
       (leb→le 1 (s .strike) (search ands)) in
       let above : T (isStrikeAbove 0 v) = test .0 in
-      let next = above-next w 0 v (omega arith) above in
+      let next = above-next w 0 v (omega (arith, expiration-order w kind)) above in
+      let top = bare strikeKind (end callField) v (search ands) in
+      let low : 0 < keyOf strikeKind v = ltb→lt 0 (keyOf strikeKind v) (search ands) in
+      let first : T (isFirstStrike v) =
+      lt→ltb (orderOf lowestWord) (orderOf v) (omega (arith, strike-order v top)) in
       let few : keyOf strikeKind v ≤ highestStrike = leb→le (keyOf strikeKind v) highestStrike (search ands) in
-      let rest = strikes (s .month) listed v vs (next-strike w v next) few .0 (rw (test .1) r) in
-      let low : T (ltb 0 (keyOf strikeKind v)) = search ands in
+      let rest = strikes (s .month) listed v vs top few .0 (rw (test .1) r) in
       let high = le→leb (keyOf strikeKind (lastNext v vs)) highestStrike (rest .0) in
       rw (month, ← es, T-true (isNextStrike w v) next) (
         and-intro (leb p (s .month)) (isListed now (s .month)) leading listed,
         (
           omega arith,
-          and-intro (ltb 0 (keyOf strikeKind v)) (leb (keyOf strikeKind (lastNext v vs)) highestStrike) low
-              high,
+          search and-intro,
         ),
         rest .1,
       )
@@ -344,12 +348,15 @@ module _ (now : ℕ) (xs : List OpenClass) (classesLegal : T (every (isClass now
           → Words p (mayFollow p) (w ∷ v ∷ vs)
       go true e l r =
           let next = true-T (isNextStrike w v) e in
-          let top = next-strike w v next in
           let both : T (areStrikes v (lastNext v vs)) = l .1 in
+          let first : T (isFirstStrike v) = search ands in
+          let word = next-first w v next first in
+          let top = bare strikeKind (end callField) v (search ands) in
           let high : keyOf strikeKind (lastNext v vs) ≤ highestStrike =
           leb→le (keyOf strikeKind (lastNext v vs)) highestStrike (search ands) in
           let few : keyOf strikeKind v ≤ highestStrike = omega (arith, next-rising v vs top) in
-          let above = next-above w v next 0 (ltb→lt 0 (keyOf strikeKind v) (search ands)) few in
+          let low = ltb→lt (orderOf lowestWord) (orderOf v) first in
+          let above = next-above v word 0 (omega (arith, strike-order v top)) few in
           let s = seriesIn m v in
           let word = strike-packed 0 v above in
           let low : p ≤ m = leb→le p m (search ands) in

@@ -1,12 +1,11 @@
 -- Inner: what is told ahead of a word: which of the next words are others, words that are no next strikes. Assumes
 -- nothing.
-use Prim.Native.Nat.{ℕ, _+_, _-_, _*_, _^_, _<_, _≤_}
+use Prim.Native.Nat.{ℕ, suc, _+_, _-_, _*_, _^_, _<_, _≤_}
 use mathlib.Core.Path.{_≡_}
 use mathlib.Core.Bool.{Bool, not}
 use mathlib.Core.List.{List, [], _∷_}
 use lib.ListN.{length, drop, getD, take}
 use Rattle.word.specs.Digits.{binary}
-use Rattle.word.specs.Kinds.{kindOf, expirationKind}
 use Rattle.word.specs.Strikes.{isNextStrike}
 use Rattle.scan.specs.declared.ahead.Ahead.{Ahead}
 
@@ -33,25 +32,22 @@ pub record Fewer (ws : List ℕ) (base : ℕ) : Type 0 where
   pub inside : base < length ws
   pub few : length ws ≤ blockLength
 
--- the bits are those of the words from `at` on, as far as the block from `base` on reaches
+-- the bits are those of the words after `at`, as far as the block from `base` on reaches; the word at `at` is looked at
+-- by itself, and its bit is 1
 pub record Tells (ws : List ℕ) (ahead : Ahead) : Type 0 where
   pub first : 1 ≤ ahead .base
   pub onward : ahead .base ≤ ahead .at
   pub within : ahead .at ≤ length ws
   pub reached : ahead .at < length ws → ahead .at < ahead .base + blockLength
   pub told :
-      ahead .bits
+      ahead .at < length ws
+      → ahead .bits
       ≡ 2 ^ (ahead .at - ahead .base)
-      * otherBits (getD ws (ahead .at - 1) 0) (take (ahead .base + blockLength - ahead .at) (drop (ahead .at) ws))
+      * (1 + 2 * otherBits (getD ws (ahead .at) 0)
+      (take (ahead .base + blockLength - suc (ahead .at)) (drop (suc (ahead .at)) ws)))
 
 -- the same, and `to` is a later index
 pub record Passable (ws : List ℕ) (ahead : Ahead) (to : ℕ) : Type 0 where
   pub tells : Tells ws ahead
   pub later : ahead .at ≤ to
   pub inside : to ≤ length ws
-
--- the same, and an expiration word stands at `at`
-pub record AtExpiration (ws : List ℕ) (ahead : Ahead) : Type 0 where
-  pub tells : Tells ws ahead
-  pub inside : ahead .at < length ws
-  pub kind : kindOf (getD ws (ahead .at) 0) ≡ expirationKind .number

@@ -8,8 +8,10 @@ use mathlib.Core.List.{List, [], _∷_, map}
 use lib.ListN.{length, drop}
 use lib.Dec.{T, eqb, leb, ltb}
 use Rattle.logic.specs.Lists.{rises, every}
-use Rattle.word.specs.Limits.{highestStrike}
+use Rattle.word.specs.Limits.{highestStrike, lastMonth, longestRun}
+use Rattle.word.specs.Head.{firstPlace}
 use Rattle.word.specs.Kinds.{keyOf, strikeKind}
+use Rattle.word.specs.Strikes.{isFirstStrike}
 use Rattle.word.specs.Programs.{program, isProgram}
 use Rattle.word.specs.Codec.{packed}
 use Rattle.book.specs.Facts.{Series, OpenClass, number, isBelow, precedes, owned}
@@ -29,9 +31,10 @@ module _ {A : Type 0} (test : A → Bool) where
   leads [] = true
   leads (x ∷ xs) = test x
 
--- of the first and the last of strikes that rise: the first is above 0 and the last is at most the highest
+-- of the first and the last of words that follow each other as strikes do: the first is a strike and above 0, and the
+-- last is at most the highest
 abbrev pub areStrikes : ℕ → ℕ → Bool
-areStrikes first last = ltb 0 (keyOf strikeKind first) && leb (keyOf strikeKind last) highestStrike
+areStrikes first last = isFirstStrike first && leb (keyOf strikeKind last) highestStrike
 
 -- the series may follow the expiration p, 0 for none, else its month + 1, in another one
 abbrev pub mayFollow : ℕ → Series → Bool
@@ -62,6 +65,12 @@ Classes now last counts ws = ClassesWhere now last counts (λ xs. map packed (cl
 -- ws are the words of all classes of a book
 abbrev pub AllClasses : ℕ → List ℕ → Type 0
 AllClasses now ws = Classes now 0 (λ p. 0) ws
+
+-- words that can be those of a book's head and classes
+pub record Scannable (now : ℕ) (ws : List ℕ) : Type 0 where
+  pub month : now ≤ lastMonth
+  pub head : firstPlace ≤ length ws
+  pub most : length ws ≤ longestRun
 
 -- the series that start at `from` end at `to`, whatever classes follow
 pub record SeriesEnd (now : ℕ) (ws : List ℕ) (from to : ℕ) : Type 0 where

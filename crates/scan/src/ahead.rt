@@ -1,10 +1,10 @@
 // Which words are no next strikes, told a block of words at a time: so that a stretch of strikes is passed at once,
 // however long it is.
 ghost use mathlib.Core.Path.{_≡_};
-ghost use Prim.Native.Nat.{_+_, _-_, _<_, _≤_, suc};
+ghost use Prim.Native.Nat.{_+_, _-_, _*_, _/_, _<_, _≤_, suc};
 ghost use lib.ListN.{drop, getD, length, take};
 ghost use Rattle.scan.specs.NextStrikes.{nextLength};
-ghost use Rattle.scan.specs.Ahead.{AtExpiration, Fewer, Passable, Tells, blockLength, halfBlock, otherBits};
+ghost use Rattle.scan.specs.Ahead.{Fewer, Passable, Tells, blockLength, halfBlock, otherBits};
 use word::strike::is_next_strike;
 
 // How many words are told of at a time, and how many of them at once.
@@ -12,8 +12,8 @@ const BLOCK: usize = 64;
 
 const HALF_BLOCK: usize = 32;
 
-// The others, words that are no next strikes, from `at` on: `bits` has one bit for each word of the block from `base`
-// on, lowest first, which is 1 for an other.
+// The others, words that are no next strikes, after `at`: `bits` has one bit for each word of the block from `base` on,
+// lowest first, which is 1 for an other, and for the word at `at`.
 pub struct Ahead {
     pub base: usize,
     pub bits: u64,
@@ -102,6 +102,13 @@ fn others_from(s: &[u32], base: usize) -> u64
     others_of_64(s, start) >> (base - start)
 }
 
+// The bits from a word on that is looked at by itself: its bit is 1.
+fn looked_at(bits: u64) -> u64
+    ensures { λ r. ⌜ r ≡ 1 + 2 * (bits / 2) ⌝ }
+{
+    (bits >> 1 << 1) + 1
+}
+
 // What is ahead of `at`.
 pub fn look_ahead(s: &[u32], at: usize) -> Ahead
     requires { ⌜ (1 ≤ at) × (at ≤ length (now s)) ⌝ }
@@ -116,7 +123,7 @@ pub fn look_ahead(s: &[u32], at: usize) -> Ahead
     }
     Ahead {
         base: at,
-        bits: others_from(s, at),
+        bits: looked_at(others_from(s, at)),
         at,
     }
 }
@@ -133,14 +140,14 @@ pub fn skip_to(s: &[u32], ahead: Ahead, at: usize) -> Ahead
     let passed = at - base;
     Ahead {
         base,
-        bits: (ahead.bits >> passed) << passed,
+        bits: looked_at(ahead.bits >> passed) << passed,
         at,
     }
 }
 
-// What is ahead of the next other after the word `ahead.at`, which is one.
+// What is ahead of the next other after the word `ahead.at`.
 pub fn next_other(s: &[u32], ahead: Ahead) -> Ahead
-    requires { ⌜ AtExpiration (now s) ahead ⌝ }
+    requires { ⌜ Tells (now s) ahead × (ahead .at < length (now s)) ⌝ }
     ensures { λ r. ⌜ Tells (now (s .entry)) r
         × (r .at
         ≡ suc (ahead .at)

@@ -2,7 +2,7 @@
 ghost use mathlib.Core.Path.{_≡_};
 ghost use mathlib.Core.Logic.{_↔_};
 ghost use Prim.Native.Nat.{_≤_};
-ghost use lib.ListN.{drop, length};
+ghost use lib.ListN.{drop};
 ghost use lib.Dec.{T};
 ghost use Rattle.word.specs.Limits.{lastMonth};
 ghost use Rattle.word.specs.Head.{firstPlace};
@@ -10,7 +10,7 @@ ghost use Rattle.logic.specs.Lists.{every};
 ghost use Rattle.book.specs.Books.{isBook};
 ghost use Rattle.book.specs.Made.{Begun};
 ghost use Rattle.scan.specs.Ahead.{Tells};
-ghost use Rattle.scan.specs.Stretches.{AllClasses, Stretched, areStrikes, isZero};
+ghost use Rattle.scan.specs.Stretches.{AllClasses, Scannable, Stretched, areStrikes, isZero};
 use crate::ahead::Ahead;
 use crate::ahead::look_ahead;
 use crate::ahead::next_other;
@@ -19,6 +19,7 @@ use word::answer::Answer;
 use word::answer::Refusal;
 use word::caps::DollarCount;
 use word::caps::HalfCount;
+use word::caps::TwoFiftyCount;
 use word::codec::expiration_word;
 use word::field::field_of;
 use word::figures;
@@ -32,7 +33,9 @@ use word::limits::is_length;
 use word::limits::latest_month;
 use word::programs::DOLLAR_BITS;
 use word::programs::HALF_BITS;
+use word::programs::TWO_FIFTY_BITS;
 use word::strike::Strike;
+use word::strike::is_first_strike;
 use word::zeros::zero_all;
 
 mod ahead;
@@ -43,12 +46,12 @@ pub enum Stretch {
     Breaks,
 }
 
-// Whether the strikes from `first` to `last`, each of which follows the one before it, are those of a book: none is 0
-// and none is above the highest.
+// Whether the words from `first` to `last`, each of which follows the one before it as strikes do, are strikes of a
+// book: the first is one, none is 0 and none is above the highest.
 fn are_strikes(first: u32, last: u32) -> bool
     ensures { λ r. ⌜ r ≡ areStrikes first last ⌝ }
 {
-    (0 < key_of(first, STRIKE)) & (key_of(last, STRIKE) <= Strike::HIGHEST.0)
+    is_first_strike(first) & (key_of(last, STRIKE) <= Strike::HIGHEST.0)
 }
 
 // Where the expirations that start at `from.at` end, each with its strikes. An expiration word is compared as a whole
@@ -85,7 +88,7 @@ fn expirations_end(current: u32, s: &[u32], from: Ahead) -> Stretch
 
 // Whether the words after the first are those of classes, within the caps.
 fn are_classes(current: u32, s: &[u32]) -> bool
-    requires { ⌜ (current ≤ lastMonth) × (firstPlace ≤ length (now s)) ⌝ }
+    requires { ⌜ Scannable current (now s) ⌝ }
     ensures { λ r. ⌜ T r ↔ AllClasses current (drop firstPlace (now (s .entry))) ⌝ }
 {
     let n = s.len();
@@ -94,6 +97,7 @@ fn are_classes(current: u32, s: &[u32]) -> bool
     let mut last = 0;
     let mut dollars = DollarCount(0);
     let mut halves = HalfCount(0);
+    let mut two_fifties = TwoFiftyCount(0);
     while i < n {
         let w = s[i];
         if n - i < figures::LENGTH {
@@ -105,9 +109,7 @@ fn are_classes(current: u32, s: &[u32]) -> bool
         last = key_of(w, CLASS);
         dollars = dollars.counted(field_of(w, DOLLAR_BITS));
         halves = halves.counted(field_of(w, HALF_BITS));
-        if dollars.is_exceeded() | halves.is_exceeded() {
-            return false;
-        }
+        two_fifties = two_fifties.counted(field_of(w, TWO_FIFTY_BITS));
         let stretch = expirations_end(current, s, skip_to(s, ahead, i + figures::LENGTH));
         let Stretch::EndsAt(next) = stretch else {
             return false;
@@ -115,7 +117,7 @@ fn are_classes(current: u32, s: &[u32]) -> bool
         ahead = next;
         i = ahead.at;
     }
-    true
+    !(dollars.is_exceeded() | halves.is_exceeded() | two_fifties.is_exceeded())
 }
 
 // Whether every word is zero; without an early exit, so that it runs many words at a time.

@@ -1,11 +1,13 @@
 -- Fields of words by position and width: shifts are division and multiplication by powers of two, masks are remainders.
 -- Assumes nothing.
-use mathlib.Core.Path.{_≡_, ap, _∙_}
-use Prim.Native.Nat.{ℕ, _+_, _-_, _*_, _/_, _%_, _^_, _<_, _≤_}
+use mathlib.Core.Path.{_≡_, sym, ap, _∙_}
+use Prim.Native.Nat.{ℕ, _+_, _-_, _*_, _/_, _%_, _^_, _<_, _≤_, min}
 use native.Mathlib.Nat.{mod-lt, mod-eq-of-lt, add-comm, add-assoc, mul-assoc, add-mul, one-mul}
 use native.Mathlib.Omega.{arith}
-use lib.Bits.{bitAnd, bitOr, and-mask, or-shifted-r}
-use lib.Pow.{pow-lt, pow-add, pow-pos, pow-mono, high, low, ones-split, ones-lt}
+use lib.Dec.{eqb, leb, eqb→eq, leb→le, le→leb}
+use lib.Bits.{bitAnd, bitOr, and-mask, and-shr, and-step, or-shifted-r}
+use lib.Pow.{pow-lt, pow-add, pow-pos, pow-mono, shr-shr, high, low, ones-split, ones-lt}
+use Rattle.logic.proofs.Tests.{same-bool, equal-test}
 use Rattle.word.specs.declared.field.Field.{Field}
 use Rattle.word.specs.Field.{field}
 
@@ -59,3 +61,24 @@ pub masked-lowest :
 masked-lowest w width more l =
     let whole : w ≡ w / 2 ^ 0 = omega arith in
     ap (bitAnd w) (mask-cut width more l) ∙ and-mask w width ∙ ap (λ (n : ℕ). n % 2 ^ width) whole
+
+-- the least of the lowest two bits of q is 0 where they are not both 1
+pair-bits : (q x : ℕ) → eqb ((x * 2 + min (q % 2) (q / 2 % 2)) % 2) 0 ≡ leb (q % 4) 2
+pair-bits q x =
+    let both = min (q % 2) (q / 2 % 2) in
+    let lowest : (x * 2 + both) % 2 ≡ both = low x 1 (omega arith) in
+    let two : q % 4 ≡ q % 2 + 2 * (q / 2 % 2) = omega arith in
+    rw lowest
+    (same-bool (eqb both 0) (leb (q % 4) 2) (λ t. le→leb (q % 4) 2 (omega (arith, two, eqb→eq both 0 t)))
+    (λ t. equal-test both 0 (omega (arith, two, leb→le (q % 4) 2 t))))
+
+-- `w & (w >> 1)` has a bit where w has it and the one above it
+pub both-bits :
+    (w position : ℕ)
+    → eqb (field (bitAnd w (w / 2 ^ 1)) (record { low = position; width = 1 })) 0
+    ≡ leb (field w (record { low = position; width = 2 })) 2
+both-bits w position =
+    let q = w / 2 ^ position in
+    let half : w / 2 ^ 1 / 2 ^ position ≡ q / 2 ^ 1 =
+    shr-shr w 1 position ∙ ap (λ (n : ℕ). w / 2 ^ n) (add-comm 1 position) ∙ sym (shr-shr w position 1) in
+    rw (and-shr w (w / 2 ^ 1) position, half, and-step q (q / 2)) (pair-bits q (bitAnd (q / 2) (q / 2 / 2)))

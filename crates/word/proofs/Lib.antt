@@ -8,3 +8,4 @@ pub mod FigureWords
 pub mod Counts
 pub mod Refusals
 pub mod EachProgram
+pub mod StrikeOrder

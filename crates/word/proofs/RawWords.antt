@@ -2,14 +2,13 @@
 -- Assumes nothing.
 use Prim.Native.Nat.{ℕ, _+_, _-_, _*_, _/_, _^_, _<_}
 use mathlib.Core.Path.{_≡_, sym, ap, _∙_, subst}
-use mathlib.Core.Bool.{Bool, false, _&&_}
+use mathlib.Core.Bool.{Bool, _&&_}
 use native.Mathlib.Omega.{arith}
-use lib.Dec.{T, eqb, leb, ltb, leb→le, ltb→lt, lt→ltb, le→leb, eqb→eq}
+use lib.Dec.{T, leb, ltb, leb→le, ltb→lt, lt→ltb, le→leb, eqb→eq}
 use lib.Pow.{shr-shr}
-use borrow.Author.Tests.{ne-eqb}
 use Rattle.word.specs.declared.class.ClassRecord.{ClassRecord}
 use Rattle.word.specs.declared.kind.Kind.{Kind}
-use Rattle.word.specs.Programs.{programs, areDesignations, designationsIn, designationsEnd, designationWidth, dollarProgram, halfProgram}
+use Rattle.word.specs.Programs.{programs, areDesignations, designationIn, designationsIn, designationsEnd, designationWidth, dollarProgram, halfProgram, twoFiftyProgram}
 use Rattle.word.specs.Codec.{Word, Head, Class, Close, Volume, Expiration, Strike, isLegal, packed, kindPlaced, strikeSaid, Fits}
 use Rattle.word.specs.Limits.{isMonth, isVolume, isClose, isGround, isMark, highestPrice, highestStrike, highestClass, highestVolume, lastMonth}
 use Rattle.word.specs.Field.{field, end}
@@ -50,11 +49,6 @@ head-bare w now used small e = bare-test headKind (end usedField) w (omega arith
 -- a word of a strike's kind with no bit beside a strike's
 abbrev pub IsStrike : ℕ → Type 0
 IsStrike w = IsBare strikeKind (end callField) w
-
--- an expiration word is none
-pub no-strike : (w : ℕ) → kindOf w ≡ expirationKind .number → isBare strikeKind (end callField) w ≡ false
-no-strike w e =
-    ne-eqb (w / 2 ^ end callField) (strikeKind .number * 2 ^ (kindField .low - end callField)) (λ z. omega arith)
 
 -- a strike word whose strike is above the one before it
 abbrev pub isStrikeAbove : ℕ → ℕ → Bool
@@ -124,19 +118,34 @@ figures-fit r t =
 abbrev pub classIn : ℕ → Word
 classIn w = Class (keyOf classKind w) (designationsIn w)
 
+-- what stands above its first designation
+halves-bits :
+    (w : ℕ) → IsBare classKind designationsEnd w
+    → w / 2 ^ end (dollarProgram .bits)
+    ≡ designationIn halfProgram w + designationIn twoFiftyProgram w * 2 ^ designationWidth
+    + classKind .number * 2 ^ (kindField .low - end (dollarProgram .bits))
+halves-bits w top =
+    let a : w / 2 ^ halfProgram .bits .low / 2 ^ designationWidth ≡ w / 2 ^ end (halfProgram .bits) =
+    shr-shr w (halfProgram .bits .low) designationWidth in
+    let b : w / 2 ^ twoFiftyProgram .bits .low / 2 ^ designationWidth ≡ w / 2 ^ end (twoFiftyProgram .bits) =
+    shr-shr w (twoFiftyProgram .bits .low) designationWidth in
+    omega arith
+
+class-bits : (w : ℕ) → IsBare classKind designationsEnd w → packed (classIn w) ≡ w
+class-bits w top =
+    let a : w / 2 ^ dollarProgram .bits .low / 2 ^ designationWidth ≡ w / 2 ^ end (dollarProgram .bits) =
+    shr-shr w (dollarProgram .bits .low) designationWidth in
+    omega (arith, halves-bits w top)
+
 pub class-said : (above w : ℕ) → T (isClassAbove above w) → (packed (classIn w) ≡ w) × T (isLegal (classIn w))
 class-said above w t =
     let n = keyOf classKind w in
     let top = bare classKind designationsEnd w (search ands) in
     let l : above < n = ltb→lt above n (search ands) in
-    let a : w / 2 ^ dollarProgram .bits .low / 2 ^ designationWidth ≡ w / 2 ^ end (dollarProgram .bits) =
-    shr-shr w (dollarProgram .bits .low) designationWidth in
-    let b : w / 2 ^ halfProgram .bits .low / 2 ^ designationWidth ≡ w / 2 ^ end (halfProgram .bits) =
-    shr-shr w (halfProgram .bits .low) designationWidth in
     let low : T (leb 1 n) = le→leb 1 n (omega arith) in
     let high : T (leb n highestClass) = le→leb n highestClass (omega arith) in
     let designations : T (areDesignations programs (designationsIn w)) = search ands in
-    (omega arith, search and-intro)
+    (class-bits w top, search and-intro)
 
 pub class-test :
     (above w : ℕ) (r : ClassRecord) → T (isLegal (classWord r)) → packed (classWord r) ≡ w → T (ltb above (r .number))

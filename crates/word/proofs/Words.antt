@@ -11,7 +11,7 @@ use borrow.Author.Tests.{leb-true, eqb-true, eq-eqb}
 use Rattle.word.specs.Limits.{isStrike, isMonth, isClassNumber, isLength, isDesignation, isGround, isMark}
 use Rattle.word.specs.declared.field.Field.{Field}
 use Rattle.word.specs.declared.kind.Kind.{Kind}
-use Rattle.word.specs.Programs.{Program, programs, programCount, program, isProgram, areDesignations, designationWidth, designationIn, designationsIn, dollarProgram, halfProgram}
+use Rattle.word.specs.Programs.{Program, programs, programCount, program, isProgram, areDesignations, designationWidth, designationIn, designationsIn, dollarProgram, halfProgram, twoFiftyProgram}
 use Rattle.word.specs.Field.{field, end}
 use Rattle.word.specs.Kinds.{kindField, kindOf, keyOf, headKind, usedField, classKind, closeKind, volumeKind, expirationKind, strikeKind, groundField, putField, callField}
 use Rattle.word.specs.Codec.{isLegal, packed, shifted, kindPlaced, FitEach, Fits, fieldsAs, reading, Word, Head, Class, Close, Volume, Expiration, Strike, Invalid}
@@ -62,8 +62,9 @@ pub kind-packed : (x : Word) (w : ℕ) → Fits x → packed x ≡ w → kindOf 
 kind-packed (Head now used) w fits e = omega arith
 kind-packed (Class number []) w fits e = absurd (fits .1)
 kind-packed (Class number (d ∷ [])) w fits e = absurd (fits .1 .1)
-kind-packed (Class number (d ∷ h ∷ [])) w fits e = omega arith
-kind-packed (Class number (d ∷ h ∷ x ∷ ds)) w fits e = absurd (fits .1 .1 .1)
+kind-packed (Class number (d ∷ h ∷ [])) w fits e = absurd (fits .1 .1 .1)
+kind-packed (Class number (d ∷ h ∷ t ∷ [])) w fits e = omega arith
+kind-packed (Class number (d ∷ h ∷ t ∷ x ∷ ds)) w fits e = absurd (fits .1 .1 .1 .1)
 kind-packed (Close price) w fits e = omega arith
 kind-packed (Volume contracts) w fits e = omega arith
 kind-packed (Expiration month) w fits e = omega arith
@@ -88,16 +89,20 @@ pub class-fields :
     → (keyOf classKind w ≡ number) × (designationsIn w ≡ ds)
 class-fields w number [] fits e = absurd (fits .1)
 class-fields w number (d ∷ []) fits e = absurd (fits .1 .1)
-class-fields w number (d ∷ h ∷ []) fits e =
+class-fields w number (d ∷ h ∷ []) fits e = absurd (fits .1 .1 .1)
+class-fields w number (d ∷ h ∷ t ∷ []) fits e =
+    let below = number + shifted d (dollarProgram .bits) in
     let first : designationIn dollarProgram w ≡ d =
-    field-packed w number d (h + classKind .number * 2 ^ (kindField .low - halfProgram .bits .low))
-    (dollarProgram .bits)
+    field-packed w number d (h + t * 4 + kindAbove classKind (dollarProgram .bits)) (dollarProgram .bits)
     (omega arith) (omega arith) (omega arith) in
     let second : designationIn halfProgram w ≡ h =
-    field-packed w (number + shifted d (dollarProgram .bits)) h (kindAbove classKind (halfProgram .bits))
-    (halfProgram .bits) (omega arith) (omega arith) (omega arith) in
-    (omega arith, λ i. first i ∷ second i ∷ [])
-class-fields w number (d ∷ h ∷ x ∷ ds) fits e = absurd (fits .1 .1 .1)
+    field-packed w below h (t + kindAbove classKind (halfProgram .bits)) (halfProgram .bits)
+    (omega arith) (omega arith) (omega arith) in
+    let third : designationIn twoFiftyProgram w ≡ t =
+    field-packed w (below + shifted h (halfProgram .bits)) t (kindAbove classKind (twoFiftyProgram .bits))
+    (twoFiftyProgram .bits) (omega arith) (omega arith) (omega arith) in
+    (omega arith, λ i. first i ∷ second i ∷ third i ∷ [])
+class-fields w number (d ∷ h ∷ t ∷ x ∷ ds) fits e = absurd (fits .1 .1 .1 .1)
 
 -- its designations stand in the order of the programs
 pub designation-said : (w p : ℕ) → T (isProgram p) → designationIn (program p) w ≡ getD (designationsIn w) (p - 1) 0
@@ -116,13 +121,16 @@ class-designation w number ds fits e p k =
 pub class-packed :
     (number : ℕ) (ds : List ℕ) → Fits (Class number ds)
     → (getD ds 0 0 < 2 ^ designationWidth) × (getD ds 1 0 < 2 ^ designationWidth)
+    × (getD ds 2 0 < 2 ^ designationWidth)
     × (packed (Class number ds)
     ≡ number + shifted (getD ds 0 0) (dollarProgram .bits) + shifted (getD ds 1 0) (halfProgram .bits)
+    + shifted (getD ds 2 0) (twoFiftyProgram .bits)
     + kindPlaced classKind)
 class-packed number [] fits = absurd (fits .1)
 class-packed number (d ∷ []) fits = absurd (fits .1 .1)
-class-packed number (d ∷ h ∷ []) fits = (fits .1 .0, fits .1 .1 .0, omega arith)
-class-packed number (d ∷ h ∷ x ∷ ds) fits = absurd (fits .1 .1 .1)
+class-packed number (d ∷ h ∷ []) fits = absurd (fits .1 .1 .1)
+class-packed number (d ∷ h ∷ t ∷ []) fits = (fits .1 .0, fits .1 .1 .0, fits .1 .1 .1 .0, omega arith)
+class-packed number (d ∷ h ∷ t ∷ x ∷ ds) fits = absurd (fits .1 .1 .1 .1)
 
 pub strike-fields :
     (w h ground put call : ℕ) → Fits (Strike h ground put call) → packed (Strike h ground put call) ≡ w

@@ -75,9 +75,9 @@ isDesignation d = leb d highestDesignation
 abbrev pub isClose : ℕ → Bool
 isClose p = leb p highestPrice
 
--- "ground in 15–17 (0 to 3)"
+-- "ground in 15–17 (0 to 3)", and #101: "This is ground 4"
 abbrev pub highestGround : ℕ
-highestGround = 3
+highestGround = 4
 
 abbrev pub isGround : ℕ → Bool
 isGround g = leb g highestGround

@@ -1,6 +1,8 @@
 -- Document 01, "program p (1 for $1, 2 for $0.50)", "at most 150 classes with $1 designation 1 and at most 20 with ..",
--- "A new d of 1 needs a close below 5,000 for $1, or ..": one row for each program. Assumes nothing.
-use Prim.Native.Nat.{ℕ, _-_, _≤_}
+-- "A new d of 1 needs a close below 5,000 for $1, or .."; request #101, "a designation in bits 18–19 of the class word,
+-- `D` program 3, and its own counter": one row for each program. Assumes nothing.
+use Prim.Native.Nat.{ℕ, _-_, _≤_, _<_}
+use mathlib.Core.Path.{_≡_}
 use mathlib.Core.Bool.{Bool, true, false, _&&_}
 use mathlib.Core.List.{List, [], _∷_, map}
 use lib.ListN.{length, getD}
@@ -21,7 +23,7 @@ pub record Program : Type 0 where
   -- "9 close or volume doesn't qualify": here they do
   pub qualifies : ClassRecord → Bool
 
--- how many bits a designation has: "14–15", "16–17"
+-- how many bits a designation has: "14–15", "16–17", "18–19"
 abbrev pub designationWidth : ℕ
 designationWidth = 2
 
@@ -57,9 +59,21 @@ halfProgram =
       qualifies = λ r. leb (r .close) halfPrice && leb halfVolume (r .volume);
     }
 
+-- #101: "`D` program 3"; "a designation in bits 18–19 of the class word"; "up to 60 classes of our own"; "a new 1 needs
+-- the cap only, not a close"
+abbrev pub twoFiftyProgram : Program
+twoFiftyProgram =
+    record {
+      number = 3;
+      bits = record { low = 18; width = designationWidth };
+      cap = 60;
+      needsClose = false;
+      qualifies = λ r. true;
+    }
+
 -- by number, from 1 on
 abbrev pub programs : List Program
-programs = dollarProgram ∷ halfProgram ∷ []
+programs = dollarProgram ∷ halfProgram ∷ twoFiftyProgram ∷ []
 
 abbrev pub programCount : ℕ
 programCount = length programs
@@ -81,6 +95,10 @@ areDesignations [] [] = true
 areDesignations [] (d ∷ ds) = false
 areDesignations (g ∷ gs) [] = false
 areDesignations (g ∷ gs) (d ∷ ds) = isDesignation d && areDesignations gs ds
+
+-- a field of a word as wide as a designation
+abbrev pub HoldsDesignation : Field → Type 0
+HoldsDesignation f = (f .low < 32) × (f .width ≡ designationWidth)
 
 -- the designation in the program g that a class word says, and those in all programs
 abbrev pub designationIn : Program → ℕ → ℕ

@@ -4,6 +4,7 @@ ghost use Rattle.word.specs.Class.{opened, withClose, withVolume, design
 ghost use Rattle.word.specs.Programs.{IsProgram};
 use crate::programs::COUNT;
 use crate::programs::DOLLAR;
+use crate::programs::HALF;
 
 pub struct ClassRecord {
     pub number: u32,
@@ -60,7 +61,10 @@ impl ClassRecord {
         if p == DOLLAR {
             return designations[0];
         }
-        designations[1]
+        if p == HALF {
+            return designations[1];
+        }
+        designations[2]
     }
 
     pub fn with_designation(self, p: u32, d: u32) -> ClassRecord
@@ -70,8 +74,10 @@ impl ClassRecord {
         let mut designations = self.designations;
         if p == DOLLAR {
             designations[0] = d;
-        } else {
+        } else if p == HALF {
             designations[1] = d;
+        } else {
+            designations[2] = d;
         }
         ClassRecord {
             number: self.number,

@@ -13,6 +13,7 @@ use crate::kind::VOLUME;
 use crate::kind::with_kind;
 use crate::programs::DOLLAR_BITS;
 use crate::programs::HALF_BITS;
+use crate::programs::TWO_FIFTY_BITS;
 use crate::strike::CALL;
 use crate::strike::GROUND;
 use crate::strike::PUT;
@@ -29,8 +30,9 @@ pub fn class_word(figures: ClassRecord) -> u32
     ensures { λ r. ⌜ r ≡ packed (Class (figures .number) (figures .designations)) ⌝ }
 {
     let designations = figures.designations;
-    let below = put_at(figures.number, designations[0], DOLLAR_BITS);
-    with_kind(put_at(below, designations[1], HALF_BITS), CLASS)
+    let dollar = put_at(figures.number, designations[0], DOLLAR_BITS);
+    let half = put_at(dollar, designations[1], HALF_BITS);
+    with_kind(put_at(half, designations[2], TWO_FIFTY_BITS), CLASS)
 }
 
 pub fn close_word(price: u32) -> u32

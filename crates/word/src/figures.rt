@@ -20,11 +20,12 @@ use crate::kind::is_bare;
 use crate::kind::is_of_kind;
 use crate::kind::key_of;
 use crate::limits::is_close;
-use crate::limits::is_designation;
 use crate::limits::is_volume;
 use crate::programs::DESIGNATIONS_END;
 use crate::programs::DOLLAR_BITS;
 use crate::programs::HALF_BITS;
+use crate::programs::TWO_FIFTY_BITS;
+use crate::programs::is_designation_in;
 
 // How many words there are.
 pub const LENGTH: usize = 3;
@@ -34,7 +35,11 @@ pub fn read(run: &[u32], at: usize) -> ClassRecord
     requires { ⌜ at + figuresLength ≤ length (now run) ⌝ }
     ensures { λ r. ⌜ r ≡ figuresAt at (now (run .entry)) ⌝ }
 {
-    let designations = [field_of(run[at], DOLLAR_BITS), field_of(run[at], HALF_BITS)];
+    let designations = [
+        field_of(run[at], DOLLAR_BITS),
+        field_of(run[at], HALF_BITS),
+        field_of(run[at], TWO_FIFTY_BITS),
+    ];
     ClassRecord {
         number: key_of(run[at], CLASS),
         close: key_of(run[at + 1], CLOSE),
@@ -58,7 +63,8 @@ fn is_class_above(w: u32, above: u32) -> bool
 {
     is_bare(w, CLASS, DESIGNATIONS_END)
         & ((above < key_of(w, CLASS))
-            & (is_designation(field_of(w, DOLLAR_BITS)) & is_designation(field_of(w, HALF_BITS))))
+            & (is_designation_in(w, DOLLAR_BITS)
+                & (is_designation_in(w, HALF_BITS) & is_designation_in(w, TWO_FIFTY_BITS))))
 }
 
 fn is_close_word(w: u32) -> bool

@@ -1,7 +1,7 @@
 // The limits of the numbers that a call or a word carries.
 ghost use mathlib.Core.Path.{_≡_};
 ghost use Prim.Native.Nat.{_≤_};
-ghost use Rattle.word.specs.Limits.{isPrice, isStrike, isMonth, isClassNumber, isVolume, isLength, isDesignation, isClose, isGround, isMark, lastMonth, latestMonth};
+ghost use Rattle.word.specs.Limits.{isPrice, isStrike, isMonth, isClassNumber, isVolume, isLength, isDesignation, isClose, isMark, lastMonth, latestMonth};
 use crate::strike::Strike;
 
 // In cents.
@@ -20,7 +20,7 @@ const LONGEST_RUN: usize = 65535;
 
 const HIGHEST_DESIGNATION: u32 = 2;
 
-const HIGHEST_GROUND: u32 = 3;
+pub const HIGHEST_GROUND: u32 = 4;
 
 // A price in cents.
 pub fn is_price(p: u32) -> bool
@@ -84,12 +84,6 @@ pub fn is_close(p: u32) -> bool
     ensures { λ r. ⌜ r ≡ isClose p ⌝ }
 {
     p <= HIGHEST_PRICE
-}
-
-pub fn is_ground(g: u32) -> bool
-    ensures { λ r. ⌜ r ≡ isGround g ⌝ }
-{
-    g <= HIGHEST_GROUND
 }
 
 // A mark of open interest.

@@ -8,6 +8,9 @@ use hand::{inner, Known};
 
 const NOW: u32 = 4;
 
+/// The close of the class that all calls are made on.
+const CLOSE: u32 = 2_400;
+
 /// Words that are left in a full book, so that `O` and `L` are accepted.
 const LEFT: usize = 3;
 
@@ -15,6 +18,10 @@ const LEFT: usize = 3;
 pub struct Book {
     pub run: Vec<u32>,
     class: u32,
+    /// The program in which it is another exchange's, and becomes ours.
+    program: u32,
+    /// A strike that may be listed.
+    permitted: u32,
 }
 
 /// Takes a call that must be accepted.
@@ -22,12 +29,12 @@ fn accepted(answer: hand::Answer) {
     assert_eq!(answer.number, 0);
 }
 
-/// The class that all calls are made on: $24, another exchange's $1 class, with `strikes` whole
-/// dollars in each month, from $36 down by $2 and then from $35. In the first month $26 is marked.
-/// A review removes the ones that are far from the close.
-fn add_middle(run: &mut [u32], class: u32, months: &[u32], strikes: u32) {
+/// The class that all calls are made on: another exchange's $1 class, with `strikes` whole dollars in
+/// each month, from $36 down by $2 and then from $35. In the first month $26 is marked. A review
+/// removes the ones that are far from the close.
+fn add_middle(run: &mut [u32], class: u32, close: u32, months: &[u32], strikes: u32) {
     accepted(inner::open_class(run, class));
-    accepted(inner::set_close(run, class, 2_400));
+    accepted(inner::set_close(run, class, close));
     accepted(inner::set_volume(run, class, 5_000));
     accepted(inner::designate(run, class, 1, 2));
     for &ahead in months {
@@ -103,7 +110,7 @@ pub fn full(length: usize, seed: u64) -> Book {
             } else {
                 (&[1, 2, 3, 6][..], 15)
             };
-            add_middle(&mut run, number, months, strikes);
+            add_middle(&mut run, number, CLOSE, months, strikes);
             middle = number;
         } else {
             let stop = if small && middle == 0 {
@@ -115,34 +122,60 @@ pub fn full(length: usize, seed: u64) -> Book {
         }
         place += 1;
     }
-    Book { run, class: middle }
+    Book::of_dollars(run, middle)
 }
 
 /// The class of the calls alone, with two expirations of six strikes.
-pub fn nearly_empty(length: usize, seed: u64) -> Book {
+fn alone(length: usize, seed: u64, close: u32) -> Book {
     let class = 1 + Random::new(seed).below(16_000);
     let mut run = vec![0; length];
     assert!(hand::fresh(&mut run));
     accepted(inner::set_month(&mut run, NOW));
-    add_middle(&mut run, class, &[1, 2], 6);
-    Book { run, class }
+    add_middle(&mut run, class, close, &[1, 2], 6);
+    Book::of_dollars(run, class)
+}
+
+pub fn nearly_empty(length: usize, seed: u64) -> Book {
+    alone(length, seed, CLOSE)
+}
+
+/// The same with the class in the $2.50 program too: at $48.50 it may list $52.50.
+pub fn two_fifty(length: usize, seed: u64) -> Book {
+    let mut book = alone(length, seed, 4_850);
+    accepted(inner::designate(&mut book.run, book.class, 3, 2));
+    Book {
+        program: 3,
+        permitted: 105,
+        ..book
+    }
 }
 
 impl Book {
+    /// A book whose calls are about the $1 program.
+    fn of_dollars(run: Vec<u32>, class: u32) -> Book {
+        Book {
+            run,
+            class,
+            program: 1,
+            permitted: 54,
+        }
+    }
+
     /// The calls that are timed, each accepted but the last, with the name of its row. `M` lets the
     /// first month of every class pass. `O` opens a class in the middle. `D` is to a new 1, which
     /// counts the classes. `L` and `X` are in an expiration that stays. `R` removes strikes.
     pub fn calls(&self) -> Vec<(&'static str, Call)> {
         let c = self.class;
         let m = NOW + 2;
+        let (p, h) = (self.program, self.permitted);
         vec![
             ("`M`", Call::M { m }),
             ("`O`", Call::O { c: c + 1 }),
             ("`C`", Call::C { c, p: 2_450 }),
             ("`V`", Call::V { c, n: 6_000 }),
-            ("`D`", Call::D { c, p: 1, d: 1 }),
-            ("`L`", Call::L { c, m, h: 54 }),
-            ("`J`", Call::J { c, m, h: 54 }),
+            ("`D`", Call::D { c, p, d: 1 }),
+            ("`L`", Call::L { c, m, h }),
+            ("`J`", Call::J { c, m, h }),
             ("`X`", Call::X { c, m, h: 56 }),
             ("`I`", Call::of('I', &[c, m, 56, 0, 1])),
             ("`R`", Call::R { c }),

@@ -126,14 +126,18 @@ fn measure(name: &str, books: &[Book], works: &[Work]) -> [Compared; 2] {
     [hand, plain]
 }
 
-fn table(title: &str, kind: Kind) {
+/// The table of a kind of book; of all rows, or of those that are named.
+fn table(title: &str, kind: Kind, names: &[&str]) {
+    let is_named = |name: &str| names.is_empty() || names.contains(&name);
     let mut rows: Vec<Row> = Vec::new();
     for length in LENGTHS {
         let books = books_of(kind, length);
         let used = used(&books[0].run);
         let classes = places(&books[0].run, CLASS).len();
         eprintln!("{title}, {used} of {length} words used, classes: {classes}");
-        for (place, (name, works)) in rows_of(&books).iter().enumerate() {
+        let mut works = rows_of(&books);
+        works.retain(|row| is_named(row.0));
+        for (place, (name, works)) in works.iter().enumerate() {
             if place == rows.len() {
                 let cells = Vec::new();
                 rows.push(Row { name, cells });
@@ -198,8 +202,10 @@ fn main() {
     let words: Vec<&str> = words.iter().map(String::as_str).collect();
     match words[..] {
         [] => {
-            table("Full books", books::full);
-            table("Nearly empty books", books::nearly_empty);
+            table("Full books", books::full, &[]);
+            table("Nearly empty books", books::nearly_empty, &[]);
+            let of_program = ["`D`", "`L`", "`J`", "`A`"];
+            table("In the $2.50 program", books::two_fifty, &of_program);
             growth();
         }
         ["sheet"] => programs::sheet(),

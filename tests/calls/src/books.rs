@@ -1,7 +1,7 @@
 //! Words of books: any that the layout allows, those that no call makes too.
 
 use crate::figures;
-use crate::words::{class, head, strike, CLOSE, EXPIRATION, VOLUME};
+use crate::words::{class, head, strike, ByProgram, CLOSE, EXPIRATION, GROUNDS, PROGRAMS, VOLUME};
 use crate::Random;
 use std::collections::BTreeSet;
 
@@ -35,8 +35,7 @@ fn filled(random: &mut Random, length: usize, most: usize) -> Vec<u32> {
         expirations: random.pick(&[0, 2, 4, 4, 8]),
         strikes: random.pick(&[1, 2, 6, 12, 25, 70]),
         ours: random.one_in(6),
-        dollars: 0,
-        halves: 0,
+        own: [0; PROGRAMS.len()],
     };
     let step = random.pick(&[1, 1, 1, 3, 40, 400]);
     let mut number = random.between(1, step);
@@ -62,30 +61,27 @@ struct Filler {
     /// Whether all designations are ours, as far as the caps allow.
     ours: bool,
     /// The counts against the caps.
-    dollars: u32,
-    halves: u32,
+    own: ByProgram,
 }
 
 impl Filler {
     fn add_class(&mut self, random: &mut Random, number: u32) {
-        let [mut dollar, mut half] = match self.ours {
-            true => [1, 1],
-            false => [random.below(3), random.below(3)],
+        let mut designations = match self.ours {
+            true => [1; PROGRAMS.len()],
+            false => any_designations(random),
         };
-        if dollar == 1 && self.dollars == 150 {
-            dollar = 2;
+        for (place, designation) in designations.iter_mut().enumerate() {
+            if *designation == 1 && self.own[place] == PROGRAMS[place].cap {
+                *designation = random.pick(&[0, 2]);
+            }
+            self.own[place] += u32::from(*designation == 1);
         }
-        if half == 1 && self.halves == 20 {
-            half = 0;
-        }
-        self.dollars += u32::from(dollar == 1);
-        self.halves += u32::from(half == 1);
         let close = match random.one_in(8) {
             true => 0,
             false => figures::close(random),
         };
         let volume = figures::volume(random);
-        let words = [class(number, dollar, half), CLOSE | close, VOLUME | volume];
+        let words = [class(number, designations), CLOSE | close, VOLUME | volume];
         self.words.extend(words);
         let mut month = self.now;
         for _ in 0..random.below(self.expirations + 1) {
@@ -103,16 +99,20 @@ impl Filler {
         let left = self.most - self.words.len();
         let count = (random.between(1, self.strikes) as usize).min(left);
         for h in strikes(random, count, close) {
-            self.words.push(any_strike(random, h));
+            self.words.push(any_strike(random, h, &GROUNDS));
         }
     }
 }
 
-/// A strike word of any ground and marks.
-fn any_strike(random: &mut Random, h: u32) -> u32 {
+fn any_designations(random: &mut Random) -> ByProgram {
+    PROGRAMS.map(|_| random.below(3))
+}
+
+/// A strike word of one of the grounds and any marks.
+fn any_strike(random: &mut Random, h: u32, grounds: &[u32]) -> u32 {
     let marked = random.one_in(3);
     let [put, call] = [0, 1].map(|_| u32::from(marked && random.one_in(2)));
-    strike(h, random.below(4), put, call)
+    strike(h, random.pick(grounds), put, call)
 }
 
 /// Up to `count` strikes, at least one, near each other and near the grids.
@@ -131,17 +131,27 @@ fn strikes(random: &mut Random, count: usize, close: u32) -> BTreeSet<u32> {
     strikes
 }
 
-/// A book at or just below both caps: 151 to 160 classes that mostly qualify for both programs. They
-/// take at most 481 words.
+/// How many words a run has room for that has as many own classes as the caps allow, and more classes.
+pub const CAPPED_WORDS: usize = 601;
+
+/// A book at or just below each cap.
 pub fn near_caps(random: &mut Random, length: usize) -> Vec<u32> {
+    let own = PROGRAMS.map(|program| random.between(program.cap - 2, program.cap));
+    with_own_classes(random, length, own)
+}
+
+/// A run with so many own classes in each program, of 151 to 200 classes that mostly qualify. They take
+/// at most [`CAPPED_WORDS`].
+pub fn with_own_classes(random: &mut Random, length: usize, own: ByProgram) -> Vec<u32> {
     let mut words = vec![0];
-    let (dollars, halves) = (random.between(148, 150), random.between(18, 20));
-    for number in 1..=random.between(151, 160) {
-        let dollar = if number <= dollars { 1 } else { 0 };
-        let half = if number <= halves { 1 } else { 2 };
+    for number in 1..=random.between(151, 200) {
+        let designations = own.map(|last| match number <= last {
+            true => 1,
+            false => random.pick(&[0, 2]),
+        });
         let close = random.pick(&[0, 200, 499, 500, 500, 501, 4_999, 5_000]);
         let volume = random.pick(&[999, 1_000, 1_000, 1_000, 1_001]);
-        words.extend([class(number, dollar, half), CLOSE | close, VOLUME | volume]);
+        words.extend([class(number, designations), CLOSE | close, VOLUME | volume]);
     }
     words[0] = head(0, words.len());
     words.resize(length, 0);
@@ -151,18 +161,20 @@ pub fn near_caps(random: &mut Random, length: usize) -> Vec<u32> {
 /// The class of a crowded book.
 pub const CROWDED: u32 = 7;
 
-/// A book with one crowded expiration, about the close of its class and of any grounds; and its month.
+/// A book with one crowded expiration, about the close of its class; and its month. Its strikes are of any
+/// grounds, or of Dollar and one that stays away from it.
 pub fn crowded(random: &mut Random) -> (Vec<u32>, u32) {
     let now = random.below(980);
     let month = now + random.pick(&[1, 2, 7, 8, 9, 10, 20, 39]);
-    let close = match random.below(3) {
+    let close = match random.below(4) {
         0 => random.between(1, 700),
         1 => random.between(1, 6_000),
+        2 => figures::about_two_fifty(random),
         _ => random.pick(&figures::CLOSES).min(60_000),
     };
     let mut words = vec![
         0,
-        class(CROWDED, random.below(3), random.below(3)),
+        class(CROWDED, any_designations(random)),
         CLOSE | close,
         VOLUME | random.pick(&[999, 1_000]),
     ];
@@ -172,21 +184,39 @@ pub fn crowded(random: &mut Random) -> (Vec<u32>, u32) {
         words.extend([1, 2].map(|more| strike(close / 50 + more, 0, 0, 0)));
     }
     words.push(EXPIRATION | month);
+    let grounds = random.pick(&[&GROUNDS[..], &[0, 1], &[1, 4]]);
     let last = 3 * close / 100 + 60;
     let most = random.pick(&[2, 4, 9, 30]);
     let mut h = close / 100 + random.between(1, most);
     while h <= last {
-        words.push(any_strike(random, h));
+        words.push(any_strike(random, h, grounds));
         h += random.between(1, most);
     }
     if random.one_in(2) && month < now + 39 {
         words.extend([EXPIRATION | (month + 1), strike(h, 0, 0, 0)]);
     }
     if random.one_in(2) {
-        words.extend([class(CROWDED + 2, 0, 0), CLOSE, VOLUME]);
+        words.extend([class(CROWDED + 2, [0; PROGRAMS.len()]), CLOSE, VOLUME]);
     }
     words[0] = head(now, words.len());
     let left = random.index(40);
     words.resize(words.len() + left, 0);
     (words, month)
+}
+
+#[cfg(test)]
+mod tests {
+    use super::*;
+    use crate::words::own_classes;
+
+    #[test]
+    fn each_cap_is_reached_and_none_is_passed() {
+        let mut random = Random::new(0);
+        let mut most = [0; PROGRAMS.len()];
+        for _ in 0..300 {
+            let own = own_classes(&any(&mut random, 600));
+            most = std::array::from_fn(|place| most[place].max(own[place]));
+        }
+        assert_eq!(most, PROGRAMS.map(|program| program.cap));
+    }
 }

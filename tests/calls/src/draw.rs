@@ -1,6 +1,6 @@
 //! Calls drawn over what a run shows, so that most of them say something about it.
 
-use crate::words::{any_class, class_of, now, Class};
+use crate::words::{any_class, class_of, now, Class, PROGRAMS};
 use crate::{figures, Call, Random, LETTERS};
 
 /// How often each letter is drawn, in the order of [`LETTERS`], and the highest class number that is
@@ -57,8 +57,9 @@ pub fn call_of(random: &mut Random, run: &[u32], mix: &Mix, letter: char) -> Cal
             Call::V { c, n }
         }
         'D' => {
-            let (p, d) = (random.between(1, 2), random.pick(&[0, 1, 1, 1, 2]));
-            let p = beyond(random, p, &[0, 3]);
+            let last = PROGRAMS.len() as u32;
+            let (p, d) = (random.between(1, last), random.pick(&[0, 1, 1, 1, 2]));
+            let p = beyond(random, p, &[0, last + 1]);
             let d = beyond(random, d, &[3, 4]);
             Call::D { c, p, d }
         }
@@ -171,19 +172,20 @@ fn around(random: &mut Random, h: u32) -> u32 {
 }
 
 /// A strike beside one that stands: the two beside an odd multiple of $2.50, the nearest multiple of
-/// $2.50 or $5, the wings of an interval, and others.
+/// $2.50 or $5, the odd multiple of $2.50 or the wings of an interval, and others.
 fn beside(random: &mut Random, h: u32) -> u32 {
-    match random.below(4) {
+    match random.below(5) {
         0 if h % 10 == 5 => h + random.pick(&[1, 0, 2]) - 1,
         0 | 1 => (h + 2) / 5 * 5,
-        2 => h / 10 * 10 + random.pick(&[0, 4, 6, 10]),
+        2 => h / 10 * 10 + 5,
+        3 => h / 10 * 10 + random.pick(&[0, 4, 6, 10]),
         _ => around(random, h),
     }
 }
 
 /// A strike on or beside a grid, or at an end of the range about a close.
 fn at_edges(random: &mut Random, close: u32) -> u32 {
-    match random.below(16) {
+    match random.below(19) {
         0 => around(random, close / 100),
         1 => around(random, close / 50),
         2 => around(random, close * 3 / 100),
@@ -196,6 +198,9 @@ fn at_edges(random: &mut Random, close: u32) -> u32 {
         12 => 10 * random.between(1, 60),
         13 => 5 * random.between(1, 14),
         14 => random.between(1, 120),
+        // Odd multiples of $2.50: from $27.50 to $97.50, and up to some $12 from the close.
+        15 => 10 * random.between(5, 19) + 5,
+        16..=17 => (close / 50 + random.below(50)).saturating_sub(25) / 10 * 10 + 5,
         _ => random.between(1, 19_999),
     }
 }
@@ -217,6 +222,7 @@ pub fn second_run(random: &mut Random, call: &Call, needed: impl FnOnce() -> u32
 mod tests {
     use super::*;
     use crate::books;
+    use std::collections::BTreeSet;
 
     #[test]
     fn each_letter_is_drawn_where_it_has_weight() {
@@ -236,5 +242,31 @@ mod tests {
             }
             assert!(drawn > 50, "{}", LETTERS[place]);
         }
+    }
+
+    #[test]
+    fn each_program_is_drawn() {
+        let mut random = Random::new(0);
+        let (run, _) = books::crowded(&mut random);
+        let mix = Mix {
+            weights: [1; 11],
+            highest: 9,
+        };
+        let mut drawn = BTreeSet::new();
+        for _ in 0..1_000 {
+            let call = call_of(&mut random, &run, &mix, 'D');
+            drawn.insert(call.numbers()[1]);
+        }
+        assert!((0..=4).all(|p| drawn.contains(&p)));
+    }
+
+    #[test]
+    fn odd_multiples_of_two_fifty_are_drawn() {
+        let mut random = Random::new(0);
+        let mut drawn = BTreeSet::new();
+        for _ in 0..10_000 {
+            drawn.insert(at_edges(&mut random, 7_500));
+        }
+        assert!((55..200).step_by(10).all(|h| drawn.contains(&h)));
     }
 }

@@ -9,12 +9,18 @@ pub const CLOSES: [u32; 27] = [
 
 /// A close within its limits.
 pub fn close(random: &mut Random) -> u32 {
-    match random.below(12) {
+    match random.below(14) {
         0 => random.between(1, 999_999),
         1 => random.between(1, 40_000),
         2..=3 => random.between(1, 6_000),
+        4..=5 => about_two_fifty(random),
         _ => random.pick(&CLOSES),
     }
+}
+
+/// A close at or a cent beside a multiple of $2.50 from $10 to $115: the edges of the $2.50 program.
+pub fn about_two_fifty(random: &mut Random) -> u32 {
+    250 * random.between(4, 46) + random.below(3) - 1
 }
 
 /// A volume within its limits.

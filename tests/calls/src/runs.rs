@@ -1,7 +1,7 @@
 //! Runs that are mostly no books.
 
 use crate::books;
-use crate::words::used;
+use crate::words::{used, PROGRAMS};
 use crate::Random;
 
 /// A book of up to `most` words with a few words changed.
@@ -16,6 +16,14 @@ pub fn damaged(random: &mut Random, most: usize) -> Vec<u32> {
     words
 }
 
+/// A run that would be a book but for its own classes: in each program one less than the cap, as many
+/// or one more.
+pub fn about_caps(random: &mut Random) -> Vec<u32> {
+    let own = PROGRAMS.map(|program| random.between(program.cap - 1, program.cap + 1));
+    let length = books::CAPPED_WORDS + random.index(100);
+    books::with_own_classes(random, length, own)
+}
+
 /// Changes one word of a run, mostly a little and mostly one that is used; or its length by one.
 pub fn damage(random: &mut Random, words: &mut Vec<u32>) {
     let reach = match random.one_in(8) {
@@ -27,7 +35,7 @@ pub fn damage(random: &mut Random, words: &mut Vec<u32>) {
         false => random.index(reach),
     };
     let other = random.index(reach);
-    match random.below(16) {
+    match random.below(18) {
         0..=2 => words[at] ^= 1 << random.below(32),
         3 => words[at] ^= 1 << random.below(10),
         4 => words[at] = words[at].wrapping_add(1),
@@ -49,6 +57,49 @@ pub fn damage(random: &mut Random, words: &mut Vec<u32>) {
         14 => {
             words.remove(at);
         }
+        // The designations of a class, the ground and the marks of a strike, and the bit after them.
+        15..=16 => words[at] ^= random.between(1, 63) << 15,
         _ => words.push(random.pick(&[0, 0, 1, 6 << 28 | 19_999])),
+    }
+}
+
+#[cfg(test)]
+mod tests {
+    use super::*;
+    use crate::words::{class, head, own_classes, strike, CLOSE, EXPIRATION, VOLUME};
+    use std::collections::BTreeSet;
+
+    #[test]
+    fn each_cap_is_passed_alone() {
+        let mut random = Random::new(0);
+        let mut passed = BTreeSet::new();
+        for _ in 0..200 {
+            let own = own_classes(&about_caps(&mut random));
+            let over: Vec<usize> = (0..PROGRAMS.len())
+                .filter(|place| own[*place] > PROGRAMS[*place].cap)
+                .collect();
+            passed.insert(over);
+        }
+        assert!(passed.contains(&vec![]));
+        assert!((0..PROGRAMS.len()).all(|place| passed.contains(&vec![place])));
+    }
+
+    #[test]
+    fn designations_and_grounds_are_damaged() {
+        let mut random = Random::new(0);
+        let (class, strike) = (class(7, [0; 3]), strike(55, 0, 0, 0));
+        let run = vec![head(4, 6), class, CLOSE, VOLUME, EXPIRATION | 5, strike];
+        let (mut designations, mut grounds) = (BTreeSet::new(), BTreeSet::new());
+        for _ in 0..20_000 {
+            let mut damaged = run.clone();
+            damage(&mut random, &mut damaged);
+            if damaged.len() == run.len() {
+                designations.insert((damaged[1] ^ class) >> 18);
+                grounds.insert((damaged[5] ^ strike) >> 15);
+            }
+        }
+        // Bits 18 to 20 of a class word, and 15 to 17 of a strike word, with no other changed above them.
+        assert!((0..8).all(|bits| designations.contains(&bits)));
+        assert!((0..8).all(|ground| grounds.contains(&ground)));
     }
 }

@@ -1,7 +1,9 @@
-//! How often each call drew each number.
+//! How often each call drew each number, for each program and on each ground.
 
-use crate::Call;
+use crate::words::{GROUNDS, PROGRAMS};
+use crate::{Answer, Call};
 use std::collections::BTreeMap;
+use std::ops::Range;
 
 /// The numbers that each call can draw by document 01; `-` is a malformed line.
 const DRAWN: [(char, &[u32]); 12] = [
@@ -19,20 +21,38 @@ const DRAWN: [(char, &[u32]); 12] = [
     ('X', &[0, 1, 2, 4, 7, 14]),
 ];
 
-/// How often each number must have been drawn.
-const LEAST: u64 = 100;
+/// The number of the caps.
+const CAP_REACHED: u32 = 10;
 
-/// The same for the number of the caps, which takes a book of many classes.
-const LEAST_OF_CAPS: u64 = 10;
+/// What tells answers of one number apart: the program whose cap is reached, the ground that is granted.
+/// Any other number has only 0.
+fn details(letter: char, number: u32) -> Range<u32> {
+    match (letter, number) {
+        ('D', CAP_REACHED) => 1..PROGRAMS.len() as u32 + 1,
+        ('J' | 'L', 0) => 0..GROUNDS.len() as u32,
+        _ => 0..1,
+    }
+}
+
+/// How often each of them must have been drawn.
+const LEAST: u64 = 100;
 
 #[derive(Default)]
 pub struct Tally {
-    times: BTreeMap<(char, u32), u64>,
+    /// By letter, number and what tells its answers apart.
+    times: BTreeMap<(char, u32, u32), u64>,
 }
 
 impl Tally {
-    pub fn count(&mut self, call: &Call, number: u32) {
-        *self.times.entry((call.letter(), number)).or_default() += 1;
+    pub fn count(&mut self, call: &Call, answer: Answer) {
+        let Answer { number, value } = answer;
+        let detail = match (call, number) {
+            (Call::D { p, .. }, CAP_REACHED) => *p,
+            (Call::J { .. } | Call::L { .. }, 0) => value,
+            _ => 0,
+        };
+        let drawn = (call.letter(), number, detail);
+        *self.times.entry(drawn).or_default() += 1;
     }
 
     pub fn calls(&self) -> u64 {
@@ -40,26 +60,38 @@ impl Tally {
     }
 
     pub fn times(&self, letter: char, number: u32) -> u64 {
-        self.times.get(&(letter, number)).copied().unwrap_or(0)
+        let all = (letter, number, 0)..=(letter, number, u32::MAX);
+        self.times.range(all).map(|(_, times)| times).sum()
     }
 
-    /// Each call drew each number that it can draw often enough, and no other.
+    /// How often a call drew a number for one program, or on one ground.
+    pub fn times_of(&self, letter: char, number: u32, detail: u32) -> u64 {
+        let drawn = (letter, number, detail);
+        self.times.get(&drawn).copied().unwrap_or(0)
+    }
+
+    /// Each call drew each number that it can draw often enough, for each program and on each ground, and
+    /// no other.
     pub fn is_complete(&self) -> Result<(), String> {
         for (letter, can) in DRAWN {
             for number in 0..16 {
-                let times = self.times(letter, number);
-                let least = match number {
-                    10 => LEAST_OF_CAPS,
-                    _ => LEAST,
-                };
-                if !can.contains(&number) && times > 0 {
+                if can.contains(&number) {
+                    self.is_drawn(letter, number)?;
+                } else if self.times(letter, number) > 0 {
                     return Err(format!("{letter} drew {number}, which it can't"));
                 }
-                if can.contains(&number) && times < least {
-                    return Err(format!(
-                        "{letter} drew {number} {times} times, and is to draw it {least} times"
-                    ));
-                }
+            }
+        }
+        Ok(())
+    }
+
+    fn is_drawn(&self, letter: char, number: u32) -> Result<(), String> {
+        for detail in details(letter, number) {
+            let times = self.times_of(letter, number, detail);
+            if times < LEAST {
+                return Err(format!(
+                    "{letter} drew {number} ({detail}) {times} times, and is to draw it {LEAST} times"
+                ));
             }
         }
         Ok(())
@@ -70,9 +102,21 @@ impl Tally {
         for (letter, _) in DRAWN {
             let drawn: Vec<String> = (0..16)
                 .filter(|number| self.times(letter, *number) > 0)
-                .map(|number| format!("{number}: {}", self.times(letter, number)))
+                .map(|number| self.told(letter, number))
                 .collect();
             println!("  {letter}  {}", drawn.join(", "));
+        }
+    }
+
+    /// How often a number was drawn, and then for each program or on each ground.
+    fn told(&self, letter: char, number: u32) -> String {
+        let told = format!("{number}: {}", self.times(letter, number));
+        let apart: Vec<String> = details(letter, number)
+            .map(|detail| format!("{detail}: {}", self.times_of(letter, number, detail)))
+            .collect();
+        match apart.len() {
+            1 => told,
+            _ => format!("{told} ({})", apart.join(", ")),
         }
     }
 }
@@ -86,8 +130,9 @@ mod tests {
         let mut tally = Tally::default();
         for (letter, can) in DRAWN {
             for number in can {
-                let times = if *number == 10 { 10 } else { 100 };
-                tally.times.insert((letter, *number), times);
+                for detail in details(letter, *number) {
+                    tally.times.insert((letter, *number, detail), LEAST);
+                }
             }
         }
         tally
@@ -98,16 +143,18 @@ mod tests {
         assert_eq!(complete().is_complete(), Ok(()));
         for (letter, can) in DRAWN {
             for number in 0..16 {
-                let mut tally = complete();
-                match tally.times.get_mut(&(letter, number)) {
-                    Some(times) => *times -= 1,
-                    None => {
-                        tally.times.insert((letter, number), 1);
+                for detail in details(letter, number) {
+                    let mut tally = complete();
+                    match tally.times.get_mut(&(letter, number, detail)) {
+                        Some(times) => *times -= 1,
+                        None => {
+                            tally.times.insert((letter, number, detail), 1);
+                        }
                     }
+                    let said = tally.is_complete().unwrap_err();
+                    let wanted = format!("{letter} drew {number}");
+                    assert!(said.starts_with(&wanted), "{said}, {can:?}");
                 }
-                let said = tally.is_complete().unwrap_err();
-                let wanted = format!("{letter} drew {number}");
-                assert!(said.starts_with(&wanted), "{said}, {can:?}");
             }
         }
     }
@@ -115,10 +162,19 @@ mod tests {
     #[test]
     fn calls_are_counted() {
         let mut tally = Tally::default();
-        tally.count(&Call::M { m: 4 }, 0);
-        tally.count(&Call::M { m: 3 }, 5);
-        tally.count(&Call::M { m: 2 }, 5);
-        assert_eq!(tally.calls(), 3);
+        let mut count = |call, number, value| tally.count(&call, Answer { number, value });
+        count(Call::M { m: 4 }, 0, 0);
+        count(Call::M { m: 3 }, 5, 0);
+        count(Call::M { m: 2 }, 5, 0);
+        let (c, d, m, h) = (7, 1, 5, 105);
+        for p in [2, 3, 3] {
+            count(Call::D { c, p, d }, 10, 0);
+        }
+        count(Call::L { c, m, h }, 0, 4);
+        count(Call::J { c, m, h }, 0, 4);
+        assert_eq!(tally.calls(), 8);
         assert_eq!([0, 5].map(|number| tally.times('M', number)), [1, 2]);
+        assert_eq!(tally.told('D', 10), "10: 3 (1: 0, 2: 1, 3: 2)");
+        assert_eq!(tally.times_of('L', 0, 4), 1);
     }
 }

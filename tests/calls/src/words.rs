@@ -10,12 +10,36 @@ pub const VOLUME: u32 = 4 << 28;
 pub const EXPIRATION: u32 = 5 << 28;
 pub const STRIKE: u32 = 6 << 28;
 
+/// A program: the lowest bit of its designation in a class word, and how many of its classes may be ours.
+pub struct Program {
+    pub low: u32,
+    pub cap: u32,
+}
+
+/// The $1, the $0.50 and the $2.50 program, 1 to 3 in `D`.
+pub const PROGRAMS: [Program; 3] = [
+    Program { low: 14, cap: 150 },
+    Program { low: 16, cap: 20 },
+    Program { low: 18, cap: 60 },
+];
+
+/// A number for each program.
+pub type ByProgram = [u32; PROGRAMS.len()];
+
+/// The grounds of a strike.
+pub const GROUNDS: [u32; 5] = [0, 1, 2, 3, 4];
+
 pub fn head(now: u32, used: usize) -> u32 {
     HEAD | now | (used as u32) << 10
 }
 
-pub fn class(number: u32, dollar: u32, half: u32) -> u32 {
-    CLASS | number | dollar << 14 | half << 16
+/// A class with its designations.
+pub fn class(number: u32, designations: ByProgram) -> u32 {
+    let mut word = CLASS | number;
+    for (program, designation) in PROGRAMS.iter().zip(designations) {
+        word |= designation << program.low;
+    }
+    word
 }
 
 pub fn strike(h: u32, ground: u32, put: u32, call: u32) -> u32 {
@@ -116,6 +140,16 @@ pub fn any_strike(random: &mut Random, run: &[u32]) -> Option<(u32, u32, u32)> {
     Some((number(*class), month(*expiration), half_dollars(run[place])))
 }
 
+/// How many classes are ours in each program.
+#[cfg(test)]
+pub fn own_classes(run: &[u32]) -> ByProgram {
+    let classes = places(run, CLASS);
+    PROGRAMS.map(|program| {
+        let ours = |place: &&usize| run[**place] >> program.low & 3 == 1;
+        classes.iter().filter(ours).count() as u32
+    })
+}
+
 #[cfg(test)]
 mod tests {
     use super::*;
@@ -124,17 +158,19 @@ mod tests {
     fn a_class_is_read_as_written() {
         let run = [
             head(4, 9),
-            class(7, 1, 2),
+            class(7, [1, 2, 1]),
             CLOSE | 200,
             VOLUME,
             EXPIRATION | 5,
-            strike(14, 3, 1, 1),
-            class(9, 0, 0),
+            strike(14, 4, 1, 1),
+            class(9, [0; 3]),
             CLOSE,
             VOLUME,
             0,
         ];
         assert_eq!((now(&run), used(&run)), (4, 9));
+        assert_eq!(run[1], CLASS | 7 | 1 << 14 | 2 << 16 | 1 << 18);
+        assert_eq!(run[5], STRIKE | 14 | 4 << 15 | 1 << 18 | 1 << 19);
         let seven = class_of(&run, 7).unwrap();
         assert_eq!((seven.number, seven.close), (7, 200));
         assert_eq!(seven.strikes, [(5, 14)]);

@@ -1,4 +1,5 @@
-//! Document 01's examples, with the answers that it gives, asserted of both sides.
+//! Document 01's examples and those of #101, with the answers that the papers give, asserted of both
+//! sides.
 
 use crate::pair::{same, same_words, Pair};
 use calls::Tally;
@@ -32,7 +33,7 @@ fn list(length: usize, calls: &str, answers: &str, tally: &mut Tally) -> Result<
         // The two sides agree; the strikes are those that the library wrote.
         let text = printed(&call, answer, &second);
         if text != wanted {
-            let said = format!("both sides answer {text}, document 01 {wanted}");
+            let said = format!("both sides answer {text}, the papers {wanted}");
             return Err(told(said));
         }
     }
@@ -61,7 +62,7 @@ fn sample_sheet() -> Result<(), String> {
 /// Opens and qualifies `count` + 1 classes for a program, and gives it to all: the last draws 10, also
 /// once it is another exchange's, and passes after a release, which frees one place only.
 fn cap(program: u32, count: u32) -> (String, String) {
-    let other = 3 - program;
+    let other = program % 3 + 1;
     let last = count + 1;
     let (mut calls, mut answers) = (Vec::new(), Vec::new());
     for c in 1..=last {
@@ -90,6 +91,7 @@ pub fn compare(tally: &mut Tally) -> Result<(), String> {
     let t7 = permitted(&[30, 36, 40, 44, 46, 50, 54, 60, 64, 70]);
     let (dollar_calls, dollar_answers) = cap(1, 150);
     let (half_calls, half_answers) = cap(2, 20);
+    let (two_fifty_calls, two_fifty_answers) = cap(3, 60);
     let reviewed = "M 4 / O 7 / C 7 1300 / D 7 1 1 / L 7 5 14 / L 7 5 16 / L 7 5 38 / L 7 5 40";
     let stood = "0 / 0 / 0 / 0 / 0 1 / 0 1 / 0 1 / 0 0";
     let examples: Vec<(&str, usize, String, String)> = vec![
@@ -171,6 +173,7 @@ pub fn compare(tally: &mut Tally) -> Result<(), String> {
         ),
         ("the 151st class", 4_096, dollar_calls, dollar_answers),
         ("the 21st half class", 4_096, half_calls, half_answers),
+        ("the 61st class of the $2.50 program", 4_096, two_fifty_calls, two_fifty_answers),
         (
             "the review with none marked",
             4_096,
@@ -189,6 +192,61 @@ pub fn compare(tally: &mut Tally) -> Result<(), String> {
             "O 7 / C 7 1300 / D 7 1 1 / L 7 5 14 / L 7 6 14 / X 7 5 14 / L 7 6 14 / R 7 / L 7 5 14 / M 6 / L 7 7 14"
                 .to_string(),
             "0 / 0 / 0 / 0 1 / 15 / 0 / 0 1 / 0 1 / 0 1 / 0 / 0 1".to_string(),
+        ),
+        (
+            "#101 at 4850: $52.50 and $57.50, not $62.50; $42.50 and $47.50 too; none long",
+            4_096,
+            "M 4 / O 7 / C 7 4850 / D 7 3 1 / J 7 5 105 / J 7 5 115 / J 7 5 125 / L 7 5 85 / L 7 12 95 / \
+             J 7 13 105 / L 7 13 95 / A 7 6"
+                .to_string(),
+            format!(
+                "0 / 0 / 0 / 0 / 0 4 / 0 4 / 11 / 0 4 / 0 4 / 11 / 11 / {}",
+                both(by(5, 50, 120), &[130, 140])
+            ),
+        ),
+        (
+            "#101 in a $1 class: no $47.50, and $52.50",
+            4_096,
+            "M 4 / O 7 / C 7 4850 / D 7 3 2 / D 7 1 1 / L 7 5 95 / L 7 5 105 / J 7 5 94".to_string(),
+            "0 / 0 / 0 / 0 / 0 / 11 / 0 4 / 0 1".to_string(),
+        ),
+        (
+            "#101 at 5400, and exactly $10 from the close",
+            4_096,
+            "M 4 / O 7 / D 7 3 1 / C 7 5400 / L 7 5 105 / C 7 4249 / J 7 6 105 / C 7 4250 / J 7 6 105 / \
+             C 7 10750 / J 7 6 195 / C 7 10751 / J 7 6 195"
+                .to_string(),
+            "0 / 0 / 0 / 0 / 0 4 / 0 / 11 / 0 / 0 4 / 0 / 0 4 / 0 / 11".to_string(),
+        ),
+        (
+            "#101 in Standard's range",
+            4_096,
+            "M 4 / O 7 / C 7 2000 / D 7 3 1 / J 7 5 75 / J 7 5 85 / C 7 1250 / J 7 5 55".to_string(),
+            "0 / 0 / 0 / 0 / 0 4 / 12 / 0 / 12".to_string(),
+        ),
+        (
+            "#101 beside Dollar: $27.50 keeps $27 away, and $27 keeps $27.50 away",
+            4_096,
+            "M 4 / O 7 / C 7 2700 / D 7 3 1 / L 7 5 55 / D 7 1 1 / L 7 5 54 / L 7 5 56 / L 7 6 54 / D 7 1 0 / \
+             L 7 6 55"
+                .to_string(),
+            "0 / 0 / 0 / 0 / 0 4 / 0 / 13 / 13 / 0 1 / 0 / 13".to_string(),
+        ),
+        (
+            "#101 needs the cap only, not a close",
+            4_096,
+            "O 7 / D 7 4 1 / D 7 3 3 / D 7 3 1 / D 7 3 1 / D 7 3 2 / D 7 1 1 / L 7 5 55 / J 7 5 55 / A 7 5 / R 7 / \
+             D 8 3 1"
+                .to_string(),
+            "0 / 2 / 2 / 0 / 0 / 0 / 8 / 8 / 8 / 8 / 8 / 4".to_string(),
+        ),
+        (
+            "#101 and the review: a marked $52.50 counts for the highest, and $27.50 stays",
+            4_096,
+            "M 4 / O 7 / C 7 4850 / D 7 3 1 / L 7 5 55 / L 7 5 105 / D 7 1 1 / L 7 5 82 / I 7 5 55 1 0 / \
+             I 7 5 105 0 1 / R 7 / I 7 5 105 0 0 / R 7 / I 7 5 55 0 0 / R 7 / J 7 5 55"
+                .to_string(),
+            "0 / 0 / 0 / 0 / 0 4 / 0 4 / 0 / 0 1 / 0 / 0 / 0 0 / 0 / 0 1 / 0 / 0 0 / 6".to_string(),
         ),
         (
             "malformed lines",

@@ -101,14 +101,14 @@ const KINDS: [Kind; 8] = [
     },
     Kind {
         name: "books near the caps",
-        lists: 200,
-        calls: 200,
+        lists: 1_000,
+        calls: 40,
         mix: Mix {
             weights: [1, 4, 14, 8, 70, 2, 1, 1, 1, 1, 0],
-            highest: 162,
+            highest: 202,
         },
         start: |random| {
-            let length = random.between(481, 600) as usize;
+            let length = books::CAPPED_WORDS + random.index(100);
             Ok(Pair::of(books::near_caps(random, length)))
         },
     },

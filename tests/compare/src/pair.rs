@@ -38,7 +38,7 @@ impl Pair {
         same("the number and the value", answer, wanted)?;
         same_words("the run", &self.words, &self.plain.words())?;
         same_words("the second run", &written, &expected)?;
-        tally.count(call, answer.number);
+        tally.count(call, answer);
         Ok((answer, written))
     }
 }
@@ -57,7 +57,7 @@ pub fn make_on_any(
     same("the number and the value", answer, wanted)?;
     same_words("the run", &left, &expected)?;
     same_words("the second run", &left_second, &expected_second)?;
-    tally.count(call, answer.number);
+    tally.count(call, answer);
     Ok(())
 }
 

@@ -1,4 +1,4 @@
-//! Any words: damaged books, noise, and runs of lengths that no book has.
+//! Any words: damaged books, own classes about the caps, noise, and runs of lengths that no book has.
 
 use crate::pair::{fresh, make_on_any, same};
 use calls::draw::{self, Mix};
@@ -60,12 +60,13 @@ pub fn compare(tally: &mut Tally) -> Result<(), String> {
     let mut books = 0;
     for seed in 0..RUNS {
         let mut random = Random::new(seed);
-        let words = match random.one_in(10) {
-            true => {
+        let words = match random.below(20) {
+            0..=1 => {
                 let length = random.index(40);
                 random.words(length)
             }
-            false => runs::damaged(&mut random, 120),
+            2 => runs::about_caps(&mut random),
+            _ => runs::damaged(&mut random, 120),
         };
         let told = |text| format!("runs, seed {seed}, {} words, {text}", words.len());
         fresh(words.clone()).map_err(told)?;

@@ -3,7 +3,7 @@
 use crate::pair::{same, same_words};
 use crate::proved::Proved;
 use calls::draw::Mix;
-use calls::{books, runs, sheets, Random, StrikeBook, Tally};
+use calls::{books, runs, sheets, Answer, Random, StrikeBook, Tally};
 use second::{lines, parse_line, PlainBook};
 use strikebook::library;
 
@@ -42,15 +42,15 @@ fn read(
     let mut expected_answers = Vec::new();
     for line in lines(sheet) {
         let call = parse_line(line);
-        let (number, value) = match &mut book {
-            None => (1, 0),
-            Some(book) => {
-                let answer = book.make(&call, &mut expected_second);
-                (answer.number, answer.value)
-            }
+        let answer = match &mut book {
+            None => Answer {
+                number: 1,
+                value: 0,
+            },
+            Some(book) => book.make(&call, &mut expected_second),
         };
-        tally.count(&call, number);
-        expected_answers.extend([number, value]);
+        tally.count(&call, answer);
+        expected_answers.extend([answer.number, answer.value]);
     }
     same("the count of lines", count, expected_answers.len() / 2)?;
     // Answers are written as far as there are places, and places past them stay.

@@ -1,6 +1,7 @@
 //! Whether a run is a book: one pass, 64 words at a time.
 
-use crate::word::{head, CLOSE, EXPIRATION, KEY, STRIKE, VOLUME};
+use crate::program::PROGRAMS;
+use crate::word::{head, strike, CLOSE, EXPIRATION, KEY, STRIKE, UNMARKED, VOLUME};
 
 /// Makes a fresh book of the run, whatever it held; false, and nothing changed, where its length is bad.
 pub fn fresh(run: &mut [u32]) -> bool {
@@ -14,10 +15,12 @@ pub fn fresh(run: &mut [u32]) -> bool {
 
 /// Whether `w` is a strike word that may follow `before`, an expiration or a strike. That h is at
 /// least 1 after an expiration, and at most 19,999 at the end of a stretch of strikes, is tested
-/// elsewhere.
+/// elsewhere. Words of lower kinds pass too where `before` is of a lower kind than a strike: what
+/// follows an expiration, or the words of a class, is tested with these.
 #[inline(always)]
 fn is_next_strike(before: u32, w: u32) -> bool {
-    (w & 0xfff2_0000 == STRIKE) & ((w & KEY) as i32 > (before & KEY) as i32)
+    let last = strike(0x7fff, 4) as i32;
+    ((w & UNMARKED) as i32 <= last) & ((w & KEY) as i32 > (before & KEY) as i32)
 }
 
 /// False for a strike above 19,999.
@@ -46,8 +49,8 @@ struct Passed {
     latest: u32,
     least_month: u32,
     class: u32,
-    dollars: u32,
-    halves: u32,
+    /// The own classes of each program.
+    own: [u32; PROGRAMS.len()],
 }
 
 impl Passed {
@@ -63,28 +66,44 @@ impl Passed {
         good
     }
 
-    /// The three words of a class, at `at`, and that no strike follows them.
+    /// The three words of a class, at `at`, and its first expiration where one follows. Answers how many
+    /// words these are; none where they are no class's.
     #[inline(always)]
-    fn class(&mut self, words: &[u32], at: usize) -> bool {
-        let Some(&[before, w, close, volume]) = words.get(at - 1..at + 3) else {
-            return false;
+    fn class(&mut self, words: &[u32], at: usize) -> Option<usize> {
+        let &[before, w, close, volume] = words.get(at - 1..at + 3)? else {
+            return None;
         };
         let class = w & 16_383;
-        let (dollar, half) = ((w >> 14) & 3, (w >> 16) & 3);
-        self.dollars += (dollar == 1) as u32;
-        self.halves += (half == 1) as u32;
-        let good = (w >> 18 == 2 << 10)
+        let mut designated = true;
+        for (own, program) in self.own.iter_mut().zip(&PROGRAMS) {
+            let designation = program.designation(w);
+            *own += (designation == 1) as u32;
+            designated &= designation != 3;
+        }
+        let good = (w >> 20 == 2 << 8)
             & (class > self.class)
-            & (dollar != 3)
-            & (half != 3)
-            & (self.dollars <= 150)
-            & (self.halves <= 20)
+            & designated
             & (close.wrapping_sub(CLOSE) <= 999_999)
             & (volume.wrapping_sub(VOLUME) <= 9_999_999)
             & is_strike_low(before);
+        if !good {
+            return None;
+        }
         self.class = class;
         self.least_month = self.now;
-        good && words.get(at + 3).map_or(true, |next| next >> 28 != 6)
+        match words.get(at + 3).map(|next| next >> 28) {
+            None | Some(2) => Some(3),
+            Some(5) => {
+                let after = *words.get(at + 4)?;
+                self.expiration(volume, words[at + 3], after).then_some(4)
+            }
+            Some(_) => None,
+        }
+    }
+
+    fn caps_hold(&self) -> bool {
+        let mut counts = self.own.iter().zip(&PROGRAMS);
+        counts.all(|(own, program)| *own <= program.cap)
     }
 }
 
@@ -107,22 +126,23 @@ fn are_zero(words: &[u32]) -> bool {
 
 /// Whether the words used, with their good head, are those of a book.
 fn are_words(words: &[u32]) -> bool {
-    // A strike or an expiration straight after the head would pass the tests below.
-    if words.len() > 1 && words[1] >> 28 != 2 {
-        return false;
-    }
     let now = words[0] & 1_023;
     let mut passed = Passed {
         now,
         latest: (now + 39).min(1_023),
         least_month: now,
         class: 0,
-        dollars: 0,
-        halves: 0,
+        own: [0; PROGRAMS.len()],
     };
     let mut at = 1;
     // The first word that isn't tested yet, where it is beyond `at`.
     let mut next = 1;
+    if words.len() > 1 {
+        let Some(count) = passed.class(words, at) else {
+            return false;
+        };
+        next += count;
+    }
     while let Some(part) = words.get(at - 1..at + 65) {
         let part: &[u32; 66] = part.try_into().unwrap();
         let low = others(
@@ -146,11 +166,11 @@ fn are_words(words: &[u32]) -> bool {
                 }
                 bits &= bits - 1;
             } else {
-                if !passed.class(words, at + i) {
+                let Some(count) = passed.class(words, at + i) else {
                     return false;
-                }
-                next = at + i + 3;
-                bits &= !(7 << i);
+                };
+                next = at + i + count;
+                bits &= u64::MAX << i << count;
             }
         }
         at += 64;
@@ -169,11 +189,11 @@ fn are_words(words: &[u32]) -> bool {
             }
             at += 1;
         } else {
-            if !passed.class(words, at) {
+            let Some(count) = passed.class(words, at) else {
                 return false;
-            }
-            at += 3;
+            };
+            at += count;
         }
     }
-    is_strike_low(words[words.len() - 1])
+    is_strike_low(words[words.len() - 1]) && passed.caps_hold()
 }

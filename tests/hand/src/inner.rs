@@ -2,9 +2,10 @@
 
 use crate::find::{class_or_close, class_place, expiration_from, strike_from};
 use crate::permitted;
+use crate::program::{Program, DOLLAR, HALF, TWO_FIFTY};
 use crate::rule::Terms;
 use crate::word::{
-    head, now, used, CLASS, CLOSE, EXPIRATION, KEY, MARKS, STRIKE, UNMARKED, VOLUME,
+    head, now, strike, used, CLASS, CLOSE, EXPIRATION, KEY, MARKS, STRIKE, UNMARKED, VOLUME,
 };
 use crate::Answer;
 
@@ -134,39 +135,44 @@ pub fn set_volume(run: &mut [u32], c: u32, n: u32) -> Answer {
 
 /// `D c p d`
 pub fn designate(run: &mut [u32], c: u32, p: u32, d: u32) -> Answer {
-    if !(is_class(c) & (p.wrapping_sub(1) < 2) & (d <= 2)) {
+    match p {
+        1 => designate_in(&DOLLAR, run, c, d),
+        2 => designate_in(&HALF, run, c, d),
+        3 => designate_in(&TWO_FIFTY, run, c, d),
+        _ => Answer::refused(2),
+    }
+}
+
+/// The same in one program: each has code of its own.
+#[inline(always)]
+fn designate_in(program: &Program, run: &mut [u32], c: u32, d: u32) -> Answer {
+    if !(is_class(c) & (d <= 2)) {
         return Answer::refused(2);
     }
     let Some(at) = class_at(run, c) else {
         return Answer::refused(4);
     };
     let class = run[at];
-    let low = 12 + 2 * p;
-    let field = 3 << low;
-    if d == 1 && class & field != 1 << low {
+    let field = 3 << program.low;
+    if d == 1 && program.designation(class) != 1 {
         let close = run[at + 1] - CLOSE;
         let volume = run[at + 2] - VOLUME;
-        if close == 0 {
+        if program.needs.is_some() && close == 0 {
             return Answer::refused(8);
         }
-        let (qualified, cap) = if p == 1 {
-            (close < 5_000, 150)
-        } else {
-            ((close <= 500) & (volume >= 1_000), 20)
-        };
-        if !qualified {
+        if !program.qualifies(close, volume) {
             return Answer::refused(9);
         }
-        let (kept, ours) = (0xf000_0000 | field, CLASS | 1 << low);
+        let (kept, ours) = (0xf000_0000 | field, CLASS | 1 << program.low);
         let own: u32 = run[1..used(run)]
             .iter()
             .map(|w| (w & kept == ours) as u32)
             .sum();
-        if own >= cap {
+        if own >= program.cap {
             return Answer::refused(10);
         }
     }
-    run[at] = class & !field | d << low;
+    run[at] = class & !field | d << program.low;
     DONE
 }
 
@@ -205,13 +211,13 @@ pub fn list_strike(run: &mut [u32], c: u32, m: u32, h: u32) -> Answer {
         return answer;
     }
     let end = used(run);
-    let strike = STRIKE | answer.value << 15 | h;
+    let listed = strike(h, answer.value);
     if stands {
         if end + 1 > run.len() {
             return Answer::refused(15);
         }
         run.copy_within(place..end, place + 1);
-        run[place] = strike;
+        run[place] = listed;
         run[0] += 1 << 10;
     } else {
         if end + 2 > run.len() {
@@ -219,7 +225,7 @@ pub fn list_strike(run: &mut [u32], c: u32, m: u32, h: u32) -> Answer {
         }
         run.copy_within(place..end, place + 2);
         run[place] = EXPIRATION | m;
-        run[place + 1] = strike;
+        run[place + 1] = listed;
         run[0] += 2 << 10;
     }
     answer

@@ -8,6 +8,7 @@ mod book;
 mod find;
 pub mod inner;
 mod permitted;
+mod program;
 mod rule;
 pub mod sheet;
 mod strike_book;

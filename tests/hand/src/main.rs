@@ -13,10 +13,10 @@ const PIECE: usize = 1 << 16;
 const LONGEST: usize = 4_096;
 
 /// The lines of the answers without strikes: 0 to 15, and from 16 on the grounds. Each is its bytes, and how many.
-const LINES: [([u8; 4], usize); 20] = {
-    let mut lines = [([b'\n'; 4], 0); 20];
+const LINES: [([u8; 4], usize); 21] = {
+    let mut lines = [([b'\n'; 4], 0); 21];
     let mut i = 0;
-    while i < 20 {
+    while i < lines.len() {
         lines[i] = if i < 10 {
             ([b'0' + i as u8, b'\n', 0, 0], 2)
         } else if i < 16 {
@@ -101,7 +101,7 @@ impl Printer {
         } else {
             let ground = number == 0 && (letter == b'L' || letter == b'J');
             let line = if ground { 16 + value } else { number };
-            let (text, count) = LINES[line as usize % 20];
+            let (text, count) = LINES[line as usize % LINES.len()];
             self.put(text, count);
         }
     }

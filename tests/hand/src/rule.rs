@@ -1,6 +1,7 @@
 //! Grids, range and spacing.
 
-use crate::word::{KEY, STRIKE, UNMARKED};
+use crate::program::{DOLLAR, HALF, TWO_FIFTY};
+use crate::word::{strike, AS_STANDARD, KEY, STRIKE, UNMARKED};
 use crate::Answer;
 
 /// What the rules read of a class and an expiration.
@@ -13,8 +14,11 @@ pub struct Terms {
     pub dollar_program: bool,
     /// Ground 2 may be had: near, a half class, P at most 500, volume at least 1,000.
     pub half_program: bool,
-    /// The lowest and the highest strike in range on grounds 0 and 1, and the ends of the range for
-    /// a wing's two multiples of $5.
+    /// Ground 4 may be had: near, a class of the $2.50 program.
+    two_fifty_program: bool,
+    /// The lowest and the highest strike in range on grounds 0, 1 and 4, and the ends of the range for
+    /// a wing's two multiples of $5. In a near expiration the fifth strike above the close is at most $25
+    /// or at most twice the close, so that ground 4 gains nothing from it.
     pub low: u32,
     pub high: u32,
 }
@@ -24,8 +28,10 @@ impl Terms {
     #[inline(always)]
     pub fn of(class: u32, close: u32, volume: u32, near: bool) -> Terms {
         let close = close & 0x000f_ffff;
-        let dollar = class & (3 << 14) != 0;
-        let half = class & (3 << 16) != 0;
+        let volume = volume & 0x00ff_ffff;
+        let dollar = DOLLAR.designation(class) != 0;
+        let half = HALF.designation(class) != 0;
+        let two_fifty = TWO_FIFTY.designation(class) != 0;
         let (low, high) = if close > 2_000 {
             ((close + 99) / 100, 3 * close / 100)
         } else {
@@ -35,8 +41,9 @@ impl Terms {
             close,
             near,
             dollar,
-            dollar_program: dollar & (close < 5_000),
-            half_program: near & half & (close <= 500) & (volume & 0x00ff_ffff >= 1_000),
+            dollar_program: dollar & DOLLAR.qualifies(close, volume),
+            half_program: near & half & HALF.qualifies(close, volume),
+            two_fifty_program: near & two_fifty,
             low,
             high,
         }
@@ -46,6 +53,30 @@ impl Terms {
     #[inline(always)]
     pub fn half_high(&self) -> u32 {
         (self.close / 25).max(self.close / 50 + 5).min(11)
+    }
+
+    /// From where to where ground 4, where it may be had, has the odd multiples of $2.50: above $25 and
+    /// below $50, which a $1 class lacks; and from $50 to $100 at most $10 from the close. Its multiples of
+    /// $5 are Standard's.
+    #[inline(always)]
+    pub fn two_fifty_spans(&self) -> Option<[(u32, u32); 2]> {
+        if !self.two_fifty_program {
+            return None;
+        }
+        let low = self.close.saturating_sub(1_000).div_ceil(50);
+        let high = (self.close + 1_000) / 50;
+        let below = if self.dollar { (1, 0) } else { (51, 99) };
+        Some([below, (low.max(100), high.min(200))])
+    }
+
+    /// Whether ground 4 adds the strike to Standard's.
+    #[inline(always)]
+    fn is_added(&self, h: u32) -> bool {
+        let is_in = |(from, to): (u32, u32)| (from <= h) & (h <= to);
+        match self.two_fifty_spans() {
+            Some([below, about]) => (h % 10 == 5) & (is_in(below) | is_in(about)),
+            None => false,
+        }
     }
 
     /// The ground of a strike that isn't standing, or 11, 12 or 13. `below` and `above` are the
@@ -61,17 +92,21 @@ impl Terms {
             (rest == 0) | ((rest == 5) & (h <= 50) & !self.dollar)
         };
         if self.near {
-            let is = |w: u32, h: u32, ground: u32| w & UNMARKED == STRIKE | ground << 15 | h;
+            // Ground 4 has Standard's range and spacing, and no other ground has what it adds.
+            let two_fifty = self.is_added(h);
+            let standard = standard | two_fifty;
+            let is_dollar = |w: u32, h: u32| w & UNMARKED == strike(h, 1);
             if standard & in_range {
-                let crowded = (rest == 5) & (is(below, h - 1, 1) | is(above, h + 1, 1));
+                let crowded = (rest == 5) & (is_dollar(below, h - 1) | is_dollar(above, h + 1));
                 if !crowded {
-                    return Answer::accepted(0);
+                    return Answer::accepted(if two_fifty { 4 } else { 0 });
                 }
             }
             let dollar = self.dollar_program & (h & 1 == 0) & (h <= 100);
             if dollar & in_range {
-                let crowded =
-                    ((rest == 4) & is(above, h + 1, 0)) | ((rest == 6) & is(below, h - 1, 0));
+                let is_standard = |w: u32, h: u32| w & AS_STANDARD == strike(h, 0);
+                let crowded = ((rest == 4) & is_standard(above, h + 1))
+                    | ((rest == 6) & is_standard(below, h - 1));
                 if !crowded {
                     return Answer::accepted(1);
                 }
@@ -80,7 +115,7 @@ impl Terms {
             if half & (h <= self.half_high()) {
                 return Answer::accepted(2);
             }
-            // Standard and Dollar have the same range; Half has no spacing.
+            // Standard, ground 4 and Dollar have the same range; Half has no spacing.
             if !(standard | dollar | half) {
                 Answer::refused(11)
             } else if !((standard | dollar) & in_range) {

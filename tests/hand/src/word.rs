@@ -17,6 +17,16 @@ pub const UNMARKED: u32 = !MARKS;
 /// The two marks of a strike word.
 pub const MARKS: u32 = 3 << 18;
 
+/// All of a strike word but its marks and the highest bit of its ground, by which ground 4 differs from
+/// ground 0.
+pub const AS_STANDARD: u32 = UNMARKED & !(4 << 15);
+
+/// A strike word without marks.
+#[inline(always)]
+pub fn strike(h: u32, ground: u32) -> u32 {
+    STRIKE | ground << 15 | h
+}
+
 #[inline(always)]
 pub fn now(run: &[u32]) -> u32 {
     run[0] & 1_023

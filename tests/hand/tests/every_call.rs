@@ -2,7 +2,7 @@
 
 use calls::books::{self, CROWDED};
 use calls::draw::{self, Mix};
-use calls::words::{number, places, CLASS, VOLUME};
+use calls::words::{number, places, CLASS, PROGRAMS, VOLUME};
 use calls::{runs, words, Call, Random, StrikeBook, Tally};
 use hand::{inner, Known, Tested};
 use second::{make_on_words, PlainBook};
@@ -44,7 +44,7 @@ fn compare(run: &mut Vec<u32>, call: &Call, second: &[u32], tally: &mut Tally) {
     if wanted.number != 1 {
         same(&|run, second| Known(run).make(call, second));
     }
-    tally.count(call, wanted.number);
+    tally.count(call, wanted);
     *run = wanted_run;
 }
 
@@ -96,7 +96,7 @@ fn long_lists() {
     tally.print();
 }
 
-/// Many classes, for both caps and the search of classes.
+/// Many classes, for the caps and the search of classes.
 #[test]
 fn caps() {
     let mut random = Random::new(0x5eed_0003);
@@ -108,11 +108,11 @@ fn caps() {
         };
         let mut run = fresh(600);
         list(&mut random, &mut run, &mix, 1_200, &mut tally);
-        let length = 481 + random.index(100);
+        let length = books::CAPPED_WORDS + random.index(100);
         let mut run = books::near_caps(&mut random, length);
         assert!(PlainBook::read(&run).is_some());
         list(&mut random, &mut run, &mix, 200, &mut tally);
-        // All at once: the 151st and the 21st draw 10, and pass after a release.
+        // All at once: the class after the last that a cap allows draws 10, and passes after a release.
         let mut run = fresh(600);
         for c in 1..=152 {
             let (p, n) = (400, 1_000);
@@ -120,7 +120,8 @@ fn caps() {
                 compare(&mut run, &call, &[], &mut tally);
             }
         }
-        for (p, cap) in [(1, 150), (2, 20)] {
+        for (p, program) in (1..).zip(&PROGRAMS) {
+            let cap = program.cap;
             for c in 1..=cap + 1 {
                 compare(&mut run, &Call::D { c, p, d: 1 }, &[], &mut tally);
             }
@@ -130,8 +131,10 @@ fn caps() {
             }
         }
     }
-    assert!(tally.times('D', 10) > 20);
     tally.print();
+    for (p, _) in (1..).zip(&PROGRAMS) {
+        assert!(tally.times_of('D', 10, p) > 20, "program {p}");
+    }
 }
 
 /// Runs that are no books, and runs that only were changed.
@@ -142,7 +145,10 @@ fn damaged_runs() {
     for _ in 0..10_000 {
         let mix = any_mix(&mut random);
         let most = random.pick(&[60, 400]);
-        let mut run = runs::damaged(&mut random, most);
+        let mut run = match random.one_in(20) {
+            true => runs::about_caps(&mut random),
+            false => runs::damaged(&mut random, most),
+        };
         list(&mut random, &mut run, &mix, 1, &mut tally);
         compare(&mut run, &Call::Malformed, &[], &mut tally);
     }

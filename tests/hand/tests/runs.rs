@@ -1,6 +1,6 @@
 //! Whether a run is a book, against the plain implementation.
 
-use calls::words::{head, month, CLASS, CLOSE, EXPIRATION, HEAD, STRIKE, VOLUME};
+use calls::words::{class, head, month, CLASS, CLOSE, EXPIRATION, HEAD, PROGRAMS, STRIKE, VOLUME};
 use calls::{books, runs, Random};
 use second::PlainBook;
 
@@ -78,17 +78,38 @@ fn lengths() {
     }
 }
 
-/// Both caps at their ends.
+/// Each cap at its end.
 #[test]
 fn caps() {
-    for (field, cap) in [(14, 150), (16, 20)] {
-        for classes in cap - 1..cap + 2 {
+    for (place, program) in PROGRAMS.iter().enumerate() {
+        let mut designations = [0; PROGRAMS.len()];
+        designations[place] = 1;
+        for classes in program.cap - 1..program.cap + 2 {
             let mut run = vec![head(0, 1 + 3 * classes as usize)];
             for c in 1..=classes {
-                run.extend([CLASS | c | 1 << field, CLOSE, VOLUME]);
+                run.extend([class(c, designations), CLOSE, VOLUME]);
             }
-            assert_eq!(hand::is_book(&run), classes <= cap);
-            assert_eq!(is_book(&run), classes <= cap);
+            assert_eq!(hand::is_book(&run), classes <= program.cap);
+            assert_eq!(is_book(&run), classes <= program.cap);
         }
     }
+}
+
+/// Every value of a class word's designations and the bit after them, and of a strike word's ground, marks
+/// and the bit after them.
+#[test]
+fn fields() {
+    let mut books = 0;
+    for designations in 0..1 << 7 {
+        for ground in 0..1 << 6 {
+            let class = CLASS | 7 | designations << 14;
+            let strike = STRIKE | 105 | ground << 15;
+            let run = [head(4, 6), class, CLOSE, VOLUME, EXPIRATION | 5, strike];
+            let told = hand::is_book(&run);
+            assert_eq!(told, is_book(&run), "{run:x?}");
+            books += u32::from(told);
+        }
+    }
+    // Three values of each designation; five grounds and any marks.
+    assert_eq!(books, 27 * 20);
 }

@@ -1,8 +1,9 @@
 //! "The plain book holds `now`, and for each open class its close, volume,
 //! two designations and a set of (month, h, ground, put, call). It holds the
-//! run's length too."
+//! run's length too." #101: "equality of books now reads the third designation
+//! too."
 
-use crate::units::{is_length, DOLLAR_CAP, HALF_CAP, HIGHEST_STRIKE, LOWEST_STRIKE};
+use crate::units::*;
 use std::collections::{BTreeMap, BTreeSet};
 
 #[derive(Clone, Debug, PartialEq, Eq)]
@@ -21,13 +22,15 @@ pub struct Class {
     pub dollar_designation: u32,
     /// 0 none, 1 ours, 2 another exchange's.
     pub half_designation: u32,
+    /// 0 none, 1 ours, 2 another exchange's.
+    pub two_fifty_designation: u32,
     /// By (month, h).
     pub strikes: BTreeMap<(u32, u32), Strike>,
 }
 
 #[derive(Clone, Copy, Debug, PartialEq, Eq)]
 pub struct Strike {
-    /// 0 Standard, 1 Dollar, 2 Half, 3 Wing.
+    /// 0 Standard, 1 Dollar, 2 Half, 3 Wing, 4 the $2.50 program's.
     pub ground: u32,
     /// Put open interest, 1 yes.
     pub put: u32,
@@ -43,14 +46,29 @@ impl Strike {
 }
 
 impl Class {
-    /// "A *$1 class* has $1 designation 1 or 2"
-    pub fn is_dollar_class(&self) -> bool {
-        self.dollar_designation == 1 || self.dollar_designation == 2
+    /// The designation of a program.
+    pub fn designation(&self, program: u32) -> u32 {
+        match program {
+            DOLLAR_PROGRAM => self.dollar_designation,
+            HALF_PROGRAM => self.half_designation,
+            _ => self.two_fifty_designation,
+        }
     }
 
-    /// "a *half class* has $0.50 designation 1 or 2."
-    pub fn is_half_class(&self) -> bool {
-        self.half_designation == 1 || self.half_designation == 2
+    /// "program p ... gets designation d."
+    pub fn designate(&mut self, program: u32, designation: u32) {
+        match program {
+            DOLLAR_PROGRAM => self.dollar_designation = designation,
+            HALF_PROGRAM => self.half_designation = designation,
+            _ => self.two_fifty_designation = designation,
+        }
+    }
+
+    /// "A *$1 class* has $1 designation 1 or 2; a *half class* has $0.50
+    /// designation 1 or 2." #101: "classes of our own, others by another
+    /// exchange", for $2.50.
+    pub fn is_in(&self, program: u32) -> bool {
+        self.designation(program) == 1 || self.designation(program) == 2
     }
 
     /// "close ... 0 when none has come."
@@ -97,21 +115,18 @@ impl PlainBook {
         words
     }
 
-    /// The count against 150.
-    pub fn dollar_count(&self) -> usize {
-        let ours = |class: &&Class| class.dollar_designation == 1;
-        self.classes.values().filter(ours).count()
-    }
-
-    /// The count against 20.
-    pub fn half_count(&self) -> usize {
-        let ours = |class: &&Class| class.half_designation == 1;
+    /// The count against a program's cap. "The count against 150 and the count
+    /// against 20 are two counters, and neither is ever tested against the
+    /// other's cap." #101: "and its own counter", for $2.50.
+    pub fn own_count(&self, program: u32) -> usize {
+        let ours = |class: &&Class| class.designation(program) == 1;
         self.classes.values().filter(ours).count()
     }
 
     /// "at most 150 classes with $1 designation 1 and at most 20 with $0.50
-    /// designation 1."
+    /// designation 1." #101: "a run over the cap being no book"
     pub fn caps_hold(&self) -> bool {
-        self.dollar_count() <= DOLLAR_CAP && self.half_count() <= HALF_CAP
+        let holds = |program: u32| self.own_count(program) <= cap(program);
+        PROGRAMS.into_iter().all(holds)
     }
 }

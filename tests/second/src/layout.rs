@@ -37,22 +37,25 @@ fn read_head(word: u32) -> Option<(u32, u32)> {
 }
 
 /// "Kind 2, a class: number in bits 0–13, $1 designation in 14–15, $0.50
-/// designation in 16–17 (0 none, 1 ours, 2 another exchange's)."
-fn class_word(number: u32, dollar: u32, half: u32) -> u32 {
-    of_kind(2) | number | dollar << 14 | half << 16
+/// designation in 16–17 (0 none, 1 ours, 2 another exchange's)." #101: "with a
+/// designation in bits 18–19 of the class word"
+fn class_word(number: u32, dollar: u32, half: u32, two_fifty: u32) -> u32 {
+    of_kind(2) | number | dollar << 14 | half << 16 | two_fifty << 18
 }
 
-fn read_class_word(word: u32) -> Option<(u32, u32, u32)> {
-    if kind(word) != 2 || bits(word, 18, 27) != 0 {
+fn read_class_word(word: u32) -> Option<(u32, u32, u32, u32)> {
+    if kind(word) != 2 || bits(word, 20, 27) != 0 {
         return None;
     }
     let number = bits(word, 0, 13);
     let dollar = bits(word, 14, 15);
     let half = bits(word, 16, 17);
-    if !is_class_number(number) || !is_designation(dollar) || !is_designation(half) {
+    let two_fifty = bits(word, 18, 19);
+    let designations = [dollar, half, two_fifty];
+    if !is_class_number(number) || !designations.into_iter().all(is_designation) {
         return None;
     }
-    Some((number, dollar, half))
+    Some((number, dollar, half, two_fifty))
 }
 
 /// "Kind 3: close in bits 0–19, 0 when none has come."
@@ -100,7 +103,7 @@ fn read_expiration_word(word: u32) -> Option<u32> {
 }
 
 /// "Kind 6, a strike: h in bits 0–14, ground in 15–17 (0 to 3), put open
-/// interest in 18, call open interest in 19 (1 yes)."
+/// interest in 18, call open interest in 19 (1 yes)." #101: "This is ground 4"
 fn strike_word(h: u32, strike: &Strike) -> u32 {
     of_kind(6) | h | strike.ground << 15 | strike.put << 18 | strike.call << 19
 }
@@ -142,7 +145,7 @@ fn read_classes(walk: &mut Walk) -> Option<BTreeMap<u32, Class>> {
     let mut classes = BTreeMap::new();
     let mut last = None;
     while let Some(word) = walk.take() {
-        let (number, dollar, half) = read_class_word(word)?;
+        let (number, dollar, half, two_fifty) = read_class_word(word)?;
         if !rises(last, number) {
             return None;
         }
@@ -156,6 +159,7 @@ fn read_classes(walk: &mut Walk) -> Option<BTreeMap<u32, Class>> {
             volume,
             dollar_designation: dollar,
             half_designation: half,
+            two_fifty_designation: two_fifty,
             strikes,
         };
         classes.insert(number, class);
@@ -209,7 +213,8 @@ fn rises(last: Option<u32>, next: u32) -> bool {
 impl PlainBook {
     /// "A run is a book exactly when it has this form with every field in its
     /// limits, each expiration from `now` to `now` + 39, at most 150 classes
-    /// with $1 designation 1 and at most 20 with $0.50 designation 1."
+    /// with $1 designation 1 and at most 20 with $0.50 designation 1." #101: "a
+    /// run over the cap being no book"
     pub fn read(words: &[u32]) -> Option<PlainBook> {
         if !is_length(words.len()) {
             return None;
@@ -258,6 +263,7 @@ impl PlainBook {
                 *number,
                 class.dollar_designation,
                 class.half_designation,
+                class.two_fifty_designation,
             ));
             words.push(close_word(class.close));
             words.push(volume_word(class.volume));

@@ -147,57 +147,22 @@ impl PlainBook {
         Ok(0)
     }
 
-    /// "program p (1 for $1, 2 for $0.50) gets designation d."
+    /// "program p (1 for $1, 2 for $0.50) gets designation d. A repeat of the
+    /// present d is accepted unchanged, untested. A new d of 1 needs ... the
+    /// cap. d of 0 or 2 needs nothing." #101: "`D` program 3"
     fn try_designate(&mut self, c: u32, p: u32, d: u32) -> Answered {
         limits(is_class_number(c) && is_program(p) && is_designation(d))?;
-        match p {
-            1 => self.designate_dollar(c, d),
-            _ => self.designate_half(c, d),
-        }
-    }
-
-    /// `D c 1 d`. "A repeat of the present d is accepted unchanged, untested.
-    /// A new d of 1 needs a close below 5,000 for $1 ... and the cap. d of 0
-    /// or 2 needs nothing."
-    fn designate_dollar(&mut self, c: u32, d: u32) -> Answered {
         let class = self.class(c)?;
-        if d == class.dollar_designation {
+        if d == class.designation(p) {
             return Ok(0);
         }
         if d == 1 {
-            if !class.has_close() {
-                return Err(8);
-            }
-            if class.close >= 5_000 {
-                return Err(9);
-            }
-            if self.dollar_count() >= DOLLAR_CAP {
+            qualifies(class, p)?;
+            if self.own_count(p) >= cap(p) {
                 return Err(10);
             }
         }
-        self.class_mut(c)?.dollar_designation = d;
-        Ok(0)
-    }
-
-    /// `D c 2 d`. "A new d of 1 needs ... a close of at most 500 and a volume
-    /// of at least 1,000 for $0.50, and the cap."
-    fn designate_half(&mut self, c: u32, d: u32) -> Answered {
-        let class = self.class(c)?;
-        if d == class.half_designation {
-            return Ok(0);
-        }
-        if d == 1 {
-            if !class.has_close() {
-                return Err(8);
-            }
-            if class.close > 500 || class.volume < 1_000 {
-                return Err(9);
-            }
-            if self.half_count() >= HALF_CAP {
-                return Err(10);
-            }
-        }
-        self.class_mut(c)?.half_designation = d;
+        self.class_mut(c)?.designate(p, d);
         Ok(0)
     }
 
@@ -304,6 +269,27 @@ impl PlainBook {
         }
         let accepted = |h: &u32| self.try_judge_strike(c, m, *h).is_ok();
         Ok((LOWEST_STRIKE..=HIGHEST_STRIKE).filter(accepted).collect())
+    }
+}
+
+/// "8 no close yet (... `D` to a new 1); 9 close or volume doesn't qualify"
+fn qualifies(class: &Class, program: u32) -> Result<(), u32> {
+    // #101: "a new 1 needs the cap only, not a close."
+    if program == TWO_FIFTY_PROGRAM {
+        return Ok(());
+    }
+    if !class.has_close() {
+        return Err(8);
+    }
+    let qualified = match program {
+        // "a close below 5,000 for $1"
+        DOLLAR_PROGRAM => class.close < 5_000,
+        // "a close of at most 500 and a volume of at least 1,000 for $0.50"
+        _ => class.close <= 500 && class.volume >= 1_000,
+    };
+    match qualified {
+        true => Ok(()),
+        false => Err(9),
     }
 }
 

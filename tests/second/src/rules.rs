@@ -1,15 +1,16 @@
 //! "Grids", "Range" and "Spacing": which strikes a class may list.
 
 use crate::book::{Class, Strike};
-use crate::units::{cents, HIGHEST_STRIKE, LOWEST_STRIKE};
+use crate::units::*;
 
 pub const STANDARD: u32 = 0;
 pub const DOLLAR: u32 = 1;
 pub const HALF: u32 = 2;
 pub const WING: u32 = 3;
+pub const TWO_FIFTY: u32 = 4;
 
-/// "Four grounds", from 0 up.
-pub const GROUNDS: [u32; 4] = [STANDARD, DOLLAR, HALF, WING];
+/// "Four grounds", from 0 up. #101: "This is ground 4, tried after Wing".
+pub const GROUNDS: [u32; 5] = [STANDARD, DOLLAR, HALF, WING, TWO_FIFTY];
 
 /// One class and one expiration, at the present `now`, as the rules look at
 /// them.
@@ -38,7 +39,7 @@ impl Setting<'_> {
 // ---- Grids -------------------------------------------------------------
 
 const ONE_DOLLAR: u32 = 100;
-const TWO_FIFTY: u32 = 250;
+const TWO_DOLLARS_FIFTY: u32 = 250;
 const FIVE_DOLLARS: u32 = 500;
 const TEN_DOLLARS: u32 = 1_000;
 
@@ -46,11 +47,15 @@ fn is_multiple(k: u32, of: u32) -> bool {
     k.is_multiple_of(of)
 }
 
+fn distance(k: u32, other: u32) -> u32 {
+    k.abs_diff(other)
+}
+
 /// "The *ladder*: multiples of $2.50 to $25, of $5 above $25 to $200, of $10
 /// above $200."
 pub fn on_ladder(k: u32) -> bool {
     if k <= 2_500 {
-        is_multiple(k, TWO_FIFTY)
+        is_multiple(k, TWO_DOLLARS_FIFTY)
     } else if k <= 20_000 {
         is_multiple(k, FIVE_DOLLARS)
     } else {
@@ -58,17 +63,22 @@ pub fn on_ladder(k: u32) -> bool {
     }
 }
 
+/// "every strike below $50 that isn't a multiple of $5 if the class is a $1
+/// class."
+fn is_lost(setting: &Setting, k: u32) -> bool {
+    setting.class.is_in(DOLLAR_PROGRAM) && k < 5_000 && !is_multiple(k, FIVE_DOLLARS)
+}
+
 /// "0. Standard: the ladder, less every strike below $50 that isn't a
 /// multiple of $5 if the class is a $1 class."
 pub fn on_standard_grid(setting: &Setting, k: u32) -> bool {
-    let lost = setting.class.is_dollar_class() && k < 5_000 && !is_multiple(k, FIVE_DOLLARS);
-    on_ladder(k) && !lost
+    on_ladder(k) && !is_lost(setting, k)
 }
 
 /// "1. Dollar: near, $1 class, P below 5,000; whole dollars from $1 to $50."
 pub fn on_dollar_grid(setting: &Setting, k: u32) -> bool {
     setting.is_near()
-        && setting.class.is_dollar_class()
+        && setting.class.is_in(DOLLAR_PROGRAM)
         && setting.price() < 5_000
         && is_multiple(k, ONE_DOLLAR)
         && (100..=5_000).contains(&k)
@@ -78,7 +88,7 @@ pub fn on_dollar_grid(setting: &Setting, k: u32) -> bool {
 /// multiples of $0.50 to $5.50."
 pub fn on_half_grid(setting: &Setting, k: u32) -> bool {
     setting.is_near()
-        && setting.class.is_half_class()
+        && setting.class.is_in(HALF_PROGRAM)
         && setting.price() <= 500
         && setting.class.volume >= 1_000
         && is_multiple(k, 50)
@@ -88,7 +98,7 @@ pub fn on_half_grid(setting: &Setting, k: u32) -> bool {
 /// "3. Wing: long, $1 class, P below 5,000."
 pub fn on_wing_grid(setting: &Setting, k: u32) -> bool {
     setting.is_long()
-        && setting.class.is_dollar_class()
+        && setting.class.is_in(DOLLAR_PROGRAM)
         && setting.price() < 5_000
         && !wing_bases(setting.price(), k).is_empty()
 }
@@ -119,12 +129,28 @@ fn largest_five_strictly_below(p: u32) -> u32 {
     largest
 }
 
+/// #101: "Near expirations may then have multiples of $2.50 above $25 and below
+/// $50, and from $50 to $100 those no more than $10 from the close." "The $10
+/// condition belongs to its grid. In a $1 class ground 4 grants no strike below
+/// $50 that isn't a multiple of $5."
+pub fn on_two_fifty_grid(setting: &Setting, k: u32) -> bool {
+    let above_25_below_50 = 2_500 < k && k < 5_000;
+    let from_50_to_100 = (5_000..=10_000).contains(&k);
+    let at_most_10_from_close = distance(k, setting.price()) <= TEN_DOLLARS;
+    setting.is_near()
+        && setting.class.is_in(TWO_FIFTY_PROGRAM)
+        && is_multiple(k, TWO_DOLLARS_FIFTY)
+        && (above_25_below_50 || from_50_to_100 && at_most_10_from_close)
+        && !is_lost(setting, k)
+}
+
 pub fn passes_grid(setting: &Setting, ground: u32, k: u32) -> bool {
     match ground {
         STANDARD => on_standard_grid(setting, k),
         DOLLAR => on_dollar_grid(setting, k),
         HALF => on_half_grid(setting, k),
-        _ => on_wing_grid(setting, k),
+        WING => on_wing_grid(setting, k),
+        _ => on_two_fifty_grid(setting, k),
     }
 }
 
@@ -162,7 +188,7 @@ fn five_lowest_above(setting: &Setting, ground: u32) -> Vec<u32> {
 /// the Standard grid otherwise for Standard; the Half grid for Half, which
 /// may hold fewer than five."
 fn on_range_grid(setting: &Setting, ground: u32, k: u32) -> bool {
-    let near_dollar_class = setting.is_near() && setting.class.is_dollar_class();
+    let near_dollar_class = setting.is_near() && setting.class.is_in(DOLLAR_PROGRAM);
     if ground == HALF {
         on_half_grid(setting, k)
     } else if near_dollar_class {
@@ -183,22 +209,26 @@ fn wing_in_range(setting: &Setting, k: u32) -> bool {
 }
 
 pub fn passes_range(setting: &Setting, ground: u32, k: u32) -> bool {
-    if ground == WING {
-        wing_in_range(setting, k)
-    } else {
-        in_range(setting, ground, k)
+    match ground {
+        WING => wing_in_range(setting, k),
+        // #101: "The range rule holds as for Standard."
+        TWO_FIFTY => in_range(setting, STANDARD, k),
+        _ => in_range(setting, ground, k),
     }
 }
 
 // ---- Spacing -----------------------------------------------------------
 
-fn distance(k: u32, other: u32) -> u32 {
-    k.abs_diff(other)
+/// #101: "For spacing it counts as Standard."
+fn counts_as_standard(ground: u32) -> bool {
+    ground == STANDARD || ground == TWO_FIFTY
 }
 
 /// "a Standard strike at an odd multiple of $2.50"
 fn is_odd_standard(ground: u32, k: u32) -> bool {
-    ground == STANDARD && is_multiple(k, TWO_FIFTY) && (k / TWO_FIFTY) % 2 == 1
+    counts_as_standard(ground)
+        && is_multiple(k, TWO_DOLLARS_FIFTY)
+        && (k / TWO_DOLLARS_FIFTY) % 2 == 1
 }
 
 /// "Within one expiration, a Dollar strike and a Standard strike at an odd
@@ -241,7 +271,8 @@ pub fn passes_spacing(setting: &Setting, ground: u32, k: u32) -> bool {
 
 /// "The ground is the first of the four, from 0 up, that passes grid, range
 /// and spacing. With none: 11 if none passes its grid, 12 if some pass the
-/// grid and none the range too, else 13."
+/// grid and none the range too, else 13." #101: "This is ground 4, tried after
+/// Wing", so the four are five.
 pub fn ground_or_refusal(setting: &Setting, h: u32) -> Result<u32, u32> {
     let k = cents(h);
     let mut some_pass_grid = false;

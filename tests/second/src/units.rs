@@ -33,9 +33,14 @@ pub fn is_volume(n: u32) -> bool {
     n <= 9_999_999
 }
 
-/// "program p (1 for $1, 2 for $0.50)"
+/// "program p (1 for $1, 2 for $0.50)"; #101: "`D` program 3", for $2.50.
+pub const DOLLAR_PROGRAM: u32 = 1;
+pub const HALF_PROGRAM: u32 = 2;
+pub const TWO_FIFTY_PROGRAM: u32 = 3;
+pub const PROGRAMS: [u32; 3] = [DOLLAR_PROGRAM, HALF_PROGRAM, TWO_FIFTY_PROGRAM];
+
 pub fn is_program(n: u32) -> bool {
-    n == 1 || n == 2
+    PROGRAMS.contains(&n)
 }
 
 /// "(0 none, 1 ours, 2 another exchange's)"
@@ -48,9 +53,9 @@ pub fn is_mark(n: u32) -> bool {
     n <= 1
 }
 
-/// "ground in 15–17 (0 to 3)"
+/// "ground in 15–17 (0 to 3)"; #101: "This is ground 4".
 pub fn is_ground(n: u32) -> bool {
-    n <= 3
+    n <= 4
 }
 
 /// "The book is a lent run of 1 to 65,535 words of 32 bits."
@@ -61,8 +66,14 @@ pub fn is_length(n: usize) -> bool {
 /// "each expiration from `now` to `now` + 39"
 pub const MONTHS_AHEAD: u32 = 39;
 
-/// "at most 150 classes with $1 designation 1"
-pub const DOLLAR_CAP: usize = 150;
-
-/// "and at most 20 with $0.50 designation 1."
-pub const HALF_CAP: usize = 20;
+/// The cap of a program: how many classes may have its designation 1.
+pub fn cap(program: u32) -> usize {
+    match program {
+        // "at most 150 classes with $1 designation 1"
+        DOLLAR_PROGRAM => 150,
+        // "and at most 20 with $0.50 designation 1."
+        HALF_PROGRAM => 20,
+        // #101: "up to 60 classes of our own"
+        _ => 60,
+    }
+}

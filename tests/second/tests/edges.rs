@@ -389,7 +389,7 @@ fn a_release_lowers_the_count() {
             ],
         );
     }
-    assert_eq!(book.dollar_count(), 0);
+    assert_eq!(book.own_count(1), 0);
 }
 
 // ---- Grids, range and spacing further ----------------------------------
@@ -617,7 +617,7 @@ fn two_before_all_else() {
         "C 0 5",
         "V 7 10000000",
         "D 7 0 1",
-        "D 7 3 1",
+        "D 7 4 1",
         "D 7 1 3",
         "L 7 1024 5",
         "L 7 5 0",

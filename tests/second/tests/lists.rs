@@ -38,6 +38,19 @@ fn equal_and_unequal() {
     assert_eq!(compared(&[], &[]), (0, 1));
 }
 
+/// #101: "equality of books now reads the third designation too."
+#[test]
+fn the_third_designation_is_a_fact() {
+    let calls = records(CALLS);
+    let ours = records(&format!("{CALLS}\nD 7 3 1"));
+    let others = records(&format!("{CALLS}\nD 7 3 2"));
+    let released = records(&format!("{CALLS}\nD 7 3 1\nD 7 3 0"));
+    assert_eq!(compared(&calls, &ours), (0, 0));
+    assert_eq!(compared(&ours, &others), (0, 0));
+    assert_eq!(compared(&ours, &ours), (0, 1));
+    assert_eq!(compared(&calls, &released), (0, 1));
+}
+
 #[test]
 fn words_of_a_list() {
     let calls = records(CALLS);

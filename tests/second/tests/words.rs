@@ -52,6 +52,24 @@ fn the_small_book() {
     assert_eq!(book.words_taken(), 12);
 }
 
+/// #101's designation in bits 18–19, and its ground under any strike and
+/// designation.
+#[test]
+fn the_third_designation_and_ground_4() {
+    for designation in 0..=2 {
+        for h in [1, 5, 54, 55, 105, 19_999] {
+            let mut words = small();
+            words[9] += designation << 18;
+            words[8] = STRIKE + h + 4 * 32_768;
+            assert!(is_book(&words));
+            let book = PlainBook::read(&words).unwrap();
+            assert_eq!(book.classes[&16_383].two_fifty_designation, designation);
+            assert_eq!(book.classes[&7].two_fifty_designation, 0);
+            assert_eq!(book.classes[&7].strikes[&(43, h)].ground, 4);
+        }
+    }
+}
+
 #[test]
 fn lengths() {
     assert_eq!(PlainBook::fresh(0), None);
@@ -101,7 +119,8 @@ fn damaged_words() {
         ("class 0", change(1, CLASS)),
         ("class designation 3", change(1, CLASS + 7 + 3 * 16_384)),
         ("class designation 3", change(1, CLASS + 7 + 3 * 65_536)),
-        ("class stray bit", change(1, CLASS + 7 + (1 << 18))),
+        ("class designation 3", change(1, CLASS + 7 + 3 * 262_144)),
+        ("class stray bit", change(1, CLASS + 7 + (1 << 20))),
         ("class stray bit", change(1, CLASS + 7 + (1 << 27))),
         ("class twice", change(1, CLASS + 16_383)),
         ("classes fall", change(9, CLASS + 6)),
@@ -121,7 +140,9 @@ fn damaged_words() {
         ("expiration with no strike", change(8, EXPIRATION + 44)),
         ("strike 0", change(5, STRIKE)),
         ("strike 20,000", change(6, STRIKE + 20_000)),
-        ("ground 4", change(5, STRIKE + 5 + 4 * 32_768)),
+        ("ground 5", change(5, STRIKE + 5 + 5 * 32_768)),
+        ("ground 6", change(5, STRIKE + 5 + 6 * 32_768)),
+        ("ground 7", change(5, STRIKE + 5 + 7 * 32_768)),
         ("strike stray bit", change(5, STRIKE + 5 + (1 << 20))),
         ("strike twice", change(6, STRIKE + 5)),
         ("strikes fall", change(6, STRIKE + 4)),
@@ -186,8 +207,11 @@ fn caps_in_a_read_book() {
     assert!(!is_book(&designated(151, 1 << 14)));
     assert!(is_book(&designated(20, 1 << 16)));
     assert!(!is_book(&designated(21, 1 << 16)));
+    assert!(is_book(&designated(60, 1 << 18)));
+    assert!(!is_book(&designated(61, 1 << 18)));
     assert!(is_book(&designated(200, 2 << 14)));
     assert!(is_book(&designated(200, 2 << 16)));
+    assert!(is_book(&designated(200, 2 << 18)));
 }
 
 /// Each single bit turned: no bit that isn't named leaves a book ("every bit
@@ -196,7 +220,7 @@ fn caps_in_a_read_book() {
 fn single_bits() {
     let words = small();
     // The count of named bits of each word, all from bit 0.
-    let named = [26, 18, 20, 24, 10, 20, 20, 10, 20, 18, 20, 24, 0, 0];
+    let named = [26, 20, 20, 24, 10, 20, 20, 10, 20, 20, 20, 24, 0, 0];
     let mut books = 0;
     for at in 0..words.len() {
         for bit in 0..32 {

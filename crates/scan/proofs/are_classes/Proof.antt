@@ -1,27 +1,24 @@
 -- `are_classes` tests the classes: each way through the loop is one law of the loop.
 use Prim.Native.Nat.{ℕ, _+_, _-_}
-use mathlib.Core.Path.{_≡_, refl, sym, ap, _∙_}
-use mathlib.Core.Bool.{Bool, true, false, not, _||_}
+use mathlib.Core.Path.{_≡_, refl, ap, _∙_}
 use native.Mathlib.Omega.{arith}
 use lib.ListN.{length}
 use borrow.Author.Needs.{needs}
-use Rattle.logic.specs.Lists.{every}
-use Rattle.word.specs.Caps.{own, isCapKept}
+use Rattle.word.specs.Caps.{own}
 use Rattle.word.specs.Figures.{figuresLength}
-use Rattle.word.specs.Programs.{programs}
 use Rattle.word.proofs.EachProgram.{each-program}
 use Rattle.scan.specs.Ahead.{Tells}
 use Rattle.scan.specs.Stretches.{SeriesEnd}
-use Rattle.scan.proofs.Classes.{countOf, caps-tested, Walked, Counted, counted-same, walked-start, walked-small, walked-short, walked-wrong, walked-counted, walked-end, counted-exceeded, counted-breaks, counted-more}
+use Rattle.scan.proofs.Classes.{countOf, caps-tested, Walked, Counted, counted-same, walked-start, walked-small, walked-short, walked-wrong, walked-counted, walked-end, counted-breaks, counted-more}
 use Rattle.scan.proofs.are_classes.Statement.{statement}
 use Rattle.scan.proofs.are_classes.Tie as tie
 
 abbrev Inv-loop : tie.InvT-loop
-Inv-loop current s n ahead₀ i₀ last₀ dollars₀ halves₀ ahead i last dollars halves =
-    Walked current s i last (countOf (dollars .0) (halves .0)) × (Tells s ahead × (ahead .at ≡ i))
+Inv-loop current s n ahead₀ i₀ last₀ dollars₀ halves₀ two-fifties₀ ahead i last dollars halves two-fifties =
+    Walked current s i last (countOf (dollars .0) (halves .0) (two-fifties .0)) × (Tells s ahead × (ahead .at ≡ i))
 
 abbrev μ-loop : tie.MeasureT-loop
-μ-loop current s n ahead₀ i₀ last₀ dollars₀ halves₀ ahead i last dollars halves = length s - i
+μ-loop current s n ahead₀ i₀ last₀ dollars₀ halves₀ two-fifties₀ ahead i last dollars halves two-fifties = length s - i
 
 -- where the words of figures passed their test, from where the class's number is read
 abbrev figured : tie.After-key-of Inv-loop μ-loop → tie.Else2 Inv-loop μ-loop
@@ -38,54 +35,55 @@ turn c = roomy c .before .before .before
 abbrev start : tie.At-loop Inv-loop μ-loop → tie.Start Inv-loop μ-loop
 start c = c .before .before .before
 
--- where the number is read, from where the class is counted
-abbrev numbered : tie.After-counted2 Inv-loop μ-loop → tie.After-key-of Inv-loop μ-loop
-numbered c = c .before .before .before .before
+-- where the number is read, and where the class is counted in the first program and in the second, each from the next
+abbrev numbered : tie.After-counted Inv-loop μ-loop → tie.After-key-of Inv-loop μ-loop
+numbered c = c .before .before
 
--- where the class is counted, from the tests of the caps on
-abbrev tallied : tie.After-is-exceeded2 Inv-loop μ-loop → tie.After-counted2 Inv-loop μ-loop
+abbrev first : tie.After-counted2 Inv-loop μ-loop → tie.After-counted Inv-loop μ-loop
+first c = c .before .before
+
+abbrev second : tie.After-counted3 Inv-loop μ-loop → tie.After-counted2 Inv-loop μ-loop
+second c = c .before .before
+
+-- where the number is read, from where the class is counted in every program
+abbrev uncounted : tie.After-counted3 Inv-loop μ-loop → tie.After-key-of Inv-loop μ-loop
+uncounted c = numbered (first (second c))
+
+-- where the class is counted, from the end of its series
+abbrev tallied : tie.After-expirations-end Inv-loop μ-loop → tie.After-counted3 Inv-loop μ-loop
 tallied c = c .before .before
 
--- where the caps are kept, from the end of the series on
-abbrev capped : tie.After-expirations-end Inv-loop μ-loop → tie.Else3 Inv-loop μ-loop
-capped c = c .before .before
-
 -- the counts with the class at i
-abbrev counts : tie.After-counted2 Inv-loop μ-loop → ℕ → ℕ
-counts c = countOf (c .before .before .counted .result .0) (c .counted2 .result .0)
+abbrev counts : tie.After-counted3 Inv-loop μ-loop → ℕ → ℕ
+counts c = countOf (first (second c) .counted .result .0) (second c .counted2 .result .0) (c .counted3 .result .0)
 
 -- the class at i is counted
 counted :
-    (c : tie.After-counted2 Inv-loop μ-loop)
-    → let at = turn (figured (numbered c)) in
+    (c : tie.After-counted3 Inv-loop μ-loop)
+    → let at = turn (figured (uncounted c)) in
     let args = start at .args in
-    Counted (args .current) (args .s .now) (at .loop .i) (numbered c .key-of .result) (counts c)
+    Counted (args .current) (args .s .now) (at .loop .i) (uncounted c .key-of .result) (counts c)
 counted c =
-    let passed = figured (numbered c) in
+    let passed = figured (uncounted c) in
     let loop = turn passed .loop in
-    let dollar = c .before .before in
+    let two = second c in
+    let one = first two in
     let walk =
     walked-counted (loop .inv .0) (roomy passed .if1 .left)
     (rw (passed .before .are-figures .ensures) at (passed .if2 .left)) in
-    counted-same walk (numbered c .key-of .ensures)
+    counted-same walk (uncounted c .key-of .ensures)
     (each-program _ (
-      dollar .counted .ensures ∙ ap (λ (d : ℕ). loop .dollars .0 + own d) (dollar .before .field-of .ensures),
-      (c .counted2 .ensures ∙ ap (λ (d : ℕ). loop .halves .0 + own d) (c .before .field-of2 .ensures), tt),
+      one .counted .ensures ∙ ap (λ (d : ℕ). loop .dollars .0 + own d) (one .before .field-of .ensures),
+      (
+        two .counted2 .ensures ∙ ap (λ (d : ℕ). loop .halves .0 + own d) (two .before .field-of2 .ensures),
+        (c .counted3 .ensures ∙ ap (λ (d : ℕ). loop .two-fifties .0 + own d) (c .before .field-of3 .ensures), tt),
+      ),
     ))
-
--- the caps are exceeded or kept by them
-caps :
-    (c : tie.After-is-exceeded2 Inv-loop μ-loop) (over : Bool)
-    → (c .before .is-exceeded .result || c .is-exceeded2 .result) ≡ over
-    → not (every (isCapKept (counts (tallied c))) programs) ≡ over
-caps c over e =
-    sym (caps-tested (tallied c .before .before .counted .result .0) (tallied c .counted2 .result .0))
-    ∙ rw (c .before .is-exceeded .ensures, c .is-exceeded2 .ensures) at e
 
 -- its series end where the next class starts
 ended :
     (c : tie.After-stretch Inv-loop μ-loop)
-    → let at = turn (figured (numbered (tallied (capped (c .before .before) .before)))) in
+    → let at = turn (figured (uncounted (tallied (c .before .before)))) in
     let args = start at .args in
     let ahead = c .stretch .given .0 .0 in
     SeriesEnd (args .current) (args .s .now) (at .loop .i + figuresLength) (ahead .at) × Tells (args .s .now) ahead
@@ -99,8 +97,8 @@ look-ahead-requires c κs = search needs
 loop-holds : tie.Need-loop-holds Inv-loop μ-loop
 loop-holds c =
     let start = c .before .before in
-    let none = each-program _ (refl, (refl, tt)) in
-    (walked-start (start .args .current) (start .args .s .now) (start .pre .1) none, c .look-ahead .ensures)
+    let none = each-program _ (refl, (refl, (refl, tt))) in
+    (walked-start (start .args .current) (start .args .s .now) (start .pre .head) none, c .look-ahead .ensures)
 
 mul-w : tie.Need-mul-w Inv-loop μ-loop
 mul-w c = search needs
@@ -137,29 +135,34 @@ field-of-requires c κs = search needs
 field-of-requires-2 : tie.Need-field-of-requires-2 Inv-loop μ-loop
 field-of-requires-2 c κs = search needs
 
+field-of-requires-3 : tie.Need-field-of-requires-3 Inv-loop μ-loop
+field-of-requires-3 c κs = search needs
+
 counted-requires : tie.Need-counted-requires Inv-loop μ-loop
-counted-requires c κs = walked-small (turn (figured (c .before)) .loop .inv .0) 1 tt
+counted-requires c κs =
+    let at = turn (figured (c .before)) in
+    walked-small (at .loop .inv .0) (start at .pre .most) 1 tt
 
 counted-requires-2 : tie.Need-counted-requires-2 Inv-loop μ-loop
-counted-requires-2 c κs = walked-small (turn (figured (c .before .before .before)) .loop .inv .0) 2 tt
+counted-requires-2 c κs =
+    let at = turn (figured (numbered (c .before))) in
+    walked-small (at .loop .inv .0) (start at .pre .most) 2 tt
 
-is-exceeded-requires : tie.Need-is-exceeded-requires Inv-loop μ-loop
-is-exceeded-requires c κs = search needs
-
-is-exceeded-requires-2 : tie.Need-is-exceeded-requires-2 Inv-loop μ-loop
-is-exceeded-requires-2 c κs = search needs
-
-returns-3 : tie.Need-returns-3 Inv-loop μ-loop
-returns-3 c =
-    let test = c .before in
-    (λ t. absurd t, counted-exceeded (counted (tallied test)) (caps test true (c .if3 .taken)))
+counted-requires-3 : tie.Need-counted-requires-3 Inv-loop μ-loop
+counted-requires-3 c κs =
+    let at = turn (figured (numbered (first (c .before)))) in
+    walked-small (at .loop .inv .0) (start at .pre .most) 3 tt
 
 add-skip-to : tie.Need-add-skip-to Inv-loop μ-loop
-add-skip-to c = search needs
+add-skip-to c =
+    let passed = figured (uncounted c) in
+    let room = roomy passed .if1 .left in
+    let short = turn passed .before .before .shared-slice-known .given in
+    search needs
 
 skip-to-requires : tie.Need-skip-to-requires Inv-loop μ-loop
 skip-to-requires c κs =
-    let passed = figured (numbered (tallied (c .before))) in
+    let passed = figured (uncounted c) in
     let at = turn passed in
     record {
       tells = at .loop .inv .1 .0;
@@ -169,8 +172,8 @@ skip-to-requires c κs =
 
 expirations-end-requires : tie.Need-expirations-end-requires Inv-loop μ-loop
 expirations-end-requires c κs =
-    let at = turn (figured (numbered (tallied (c .before .before)))) in
-    (start at .pre .0, c .skip-to .ensures .0)
+    let at = turn (figured (uncounted (c .before))) in
+    (start at .pre .month, c .skip-to .ensures .0)
 
 enum-known-stretch : tie.Need-enum-known-stretch Inv-loop μ-loop
 enum-known-stretch c = search needs
@@ -178,11 +181,11 @@ enum-known-stretch c = search needs
 enum-told : tie.Need-enum-told Inv-loop μ-loop
 enum-told c = search needs
 
-returns-4 : tie.Need-returns-4 Inv-loop μ-loop
-returns-4 c =
+returns-3 : tie.Need-returns-3 Inv-loop μ-loop
+returns-3 c =
     let end = c .before .before in (
       λ t. absurd t,
-      counted-breaks (counted (tallied (capped end .before)))
+      counted-breaks (counted (tallied end))
           (rw (c .enum-told .given .1, end .before .skip-to .ensures .1) at (end .expirations-end .ensures)),
     )
 
@@ -191,15 +194,31 @@ loop-less c = omega (arith, ended (c .before))
 
 loop-again : tie.Need-loop-again Inv-loop μ-loop
 loop-again c =
-    let kept = capped (c .before .before .before) in
     let end = ended (c .before) in (
-      counted-more (counted (tallied (kept .before))) (c .before .stretch .given .0 .0 .at)
-          (caps (kept .before) false (kept .if3 .left)) (end .0),
+      counted-more (counted (tallied (c .before .before .before))) (c .before .stretch .given .0 .0 .at) (end .0),
       (end .1, refl),
     )
 
-returns-5 : tie.Need-returns-5 Inv-loop μ-loop
-returns-5 c = (λ t. walked-end (c .before .loop .inv .0) (c .loop-test .left), λ r. tt)
+is-exceeded-requires : tie.Need-is-exceeded-requires Inv-loop μ-loop
+is-exceeded-requires c κs = search needs
+
+is-exceeded-requires-2 : tie.Need-is-exceeded-requires-2 Inv-loop μ-loop
+is-exceeded-requires-2 c κs = search needs
+
+is-exceeded-requires-3 : tie.Need-is-exceeded-requires-3 Inv-loop μ-loop
+is-exceeded-requires-3 c κs = search needs
+
+returns-4 : tie.Need-returns-4 Inv-loop μ-loop
+returns-4 c =
+    let end = c .before .before .before in
+    let loop = end .before .loop in
+    rw (
+      c .is-exceeded3 .ensures,
+      c .before .is-exceeded2 .ensures,
+      c .before .before .is-exceeded .ensures,
+      caps-tested (loop .dollars .0) (loop .halves .0) (loop .two-fifties .0),
+    )
+    (walked-end (loop .inv .0) (end .loop-test .left))
 
 pub are-classes-spec : {M : Type 1} → statement M
 are-classes-spec =
@@ -220,15 +239,17 @@ are-classes-spec =
     counted-requires
     field-of-requires-2
     counted-requires-2
-    is-exceeded-requires
-    is-exceeded-requires-2
-    returns-3
+    field-of-requires-3
+    counted-requires-3
     add-skip-to
     skip-to-requires
     expirations-end-requires
     enum-known-stretch
     enum-told
-    returns-4
+    returns-3
     loop-less
     loop-again
-    returns-5)
+    is-exceeded-requires
+    is-exceeded-requires-2
+    is-exceeded-requires-3
+    returns-4)

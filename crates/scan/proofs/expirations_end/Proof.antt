@@ -127,11 +127,7 @@ returns-2 c =
 next-other-requires : tie.Need-next-other-requires Inv-loop μ-loop
 next-other-requires c κs =
     let at = c .before .before .before in
-    record {
-      tells = at .loop .inv .1 .0;
-      inside = rw (at .loop .inv .1 .1) (c .before .before .loop-test .taken);
-      kind = rw (at .loop .inv .1 .1) (kind-five c);
-    }
+    (at .loop .inv .1 .0, rw (at .loop .inv .1 .1) (c .before .before .loop-test .taken))
 
 add-if3 : tie.Need-add-if3 Inv-loop μ-loop
 add-if3 c = search needs

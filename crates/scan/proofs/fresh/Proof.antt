@@ -40,7 +40,7 @@ cleared c = ap length (c .zero-all .ensures) ∙ length-replicate (length (words
 write-requires : tie.Need-write-requires
 write-requires c κs =
     let clear = c .before .before .before in
-    let some = some-words (length (words (measured clear .before))) (long (measured clear)) in
+    let some = some-words (length (words (measured clear .before))) (long (measured clear)) .0 in
     (omega (arith, cleared clear), (omega arith, omega arith))
 
 same-length : tie.Need-same-length

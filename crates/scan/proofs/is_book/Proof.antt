@@ -10,7 +10,7 @@ use lib.Dec.{T}
 use borrow.Author.Needs.{needs}
 use borrow.Author.Tests.{not-true, not-false}
 use Rattle.word.specs.Head.{firstPlace, monthIn, isHead}
-use Rattle.word.specs.Limits.{isLength}
+use Rattle.word.specs.Limits.{isLength, longestRun}
 use Rattle.logic.proofs.Tests.{true-T}
 use Rattle.scan.specs.Stretches.{AllClasses}
 use Rattle.scan.proofs.BookParts.{front, used-front, some-words, head-within, wrong-length, wrong-head, wrong-classes, zeros-left}
@@ -24,8 +24,8 @@ words c = c .before .before .args .run .now
 long : (c : tie.Else1) → isLength (length (words (c .before))) ≡ true
 long c = sym (c .before .is-length .ensures) ∙ not-false _ (c .if1 .left)
 
--- so it has a head
-some-word : (c : tie.Else1) → firstPlace ≤ length (words (c .before))
+-- so it has a head, and no more words than a book may have
+some-word : (c : tie.Else1) → (firstPlace ≤ length (words (c .before))) × (length (words (c .before)) ≤ longestRun)
 some-word c = some-words (length (words (c .before))) (long c)
 
 returns : tie.Need-returns
@@ -65,16 +65,16 @@ is-length-requires : tie.Need-is-length-requires
 is-length-requires c κs = search needs
 
 is-head-requires : tie.Need-is-head-requires
-is-head-requires c κs = some-word c
+is-head-requires c κs = some-word c .0
 
 returns-2 : tie.Need-returns-2
 returns-2 c = wrong-head (words (c .before .before .before)) (rw (c .before .is-head .ensures) at (c .if2 .taken))
 
 used-requires : tie.Need-used-requires
-used-requires c κs = some-word (measured c)
+used-requires c κs = some-word (measured c) .0
 
 month-requires : tie.Need-month-requires
-month-requires c κs = some-word (measured (c .before))
+month-requires c κs = some-word (measured (c .before)) .0
 
 sub-are-classes : tie.Need-sub-are-classes
 sub-are-classes c = omega (arith, within (c .before))
@@ -88,7 +88,11 @@ part-are-classes-end c = let fits = within (c .before) in search needs
 are-classes-requires : tie.Need-are-classes-requires
 are-classes-requires c κs =
     let fits = within (c .before .before) in
-    (omega (arith, c .before .month .ensures), simp length-take (omega arith))
+    record {
+      month = omega (arith, c .before .month .ensures);
+      head = simp length-take (omega arith);
+      most = simp length-take (omega (arith, some-word (measured (c .before .before .before))));
+    }
 
 returns-3 : tie.Need-returns-3
 returns-3 c =

@@ -100,7 +100,7 @@ impl Writer {
             }),
             1 => self.write(Call::J { c, m: 1_024 + m, h }),
             2 => self.write(Call::C { c, p: 1_000_000 }),
-            3 => self.write(Call::D { c, p: 3, d: 1 }),
+            3 => self.write(Call::D { c, p: 4, d: 1 }),
             _ => self.write(Call::I {
                 c,
                 m,
@@ -129,7 +129,8 @@ impl Writer {
             return self.write(Call::D { c, p: 2, d });
         }
         let d = self.random.pick(&[0, 1, 1, 1, 1, 2, 2]);
-        self.write(Call::D { c, p: 1, d })
+        let p = self.random.pick(&[1, 1, 3]);
+        self.write(Call::D { c, p, d })
     }
 
     fn volume(&mut self) -> Answer {
@@ -251,6 +252,9 @@ fn main() -> Result<()> {
                 p: 2,
                 d: 1 + place % 2,
             });
+        }
+        if (2_000..10_000).contains(&aim) && place % 2 == 0 {
+            waiting.push(Call::D { c, p: 3, d: 1 });
         }
     }
     waiting.push(Call::O { c: UNPRICED });

@@ -5,7 +5,7 @@ use borrow.Author.Needs.{needs}
 use Rattle.word.specs.Programs.{program}
 use Rattle.book.specs.Facts.{Facts}
 use Rattle.book.specs.Layout.{factsOf}
-use Rattle.book.specs.Views.{isNew}
+use Rattle.book.specs.Views.{isNew, lacksClose}
 use Rattle.class_call.proofs.DesignationWays.{claim-untested, claim-no-close, claim-not-qualified, claim-capped, claim-granted}
 use Rattle.class_call.proofs.programs.claim_of.Statement.{statement}
 use Rattle.class_call.proofs.programs.claim_of.Tie as tie
@@ -15,13 +15,17 @@ abbrev priced : tie.Else3 → tie.Else2
 priced p = p .before .before
 
 abbrev tested : tie.Else2 → tie.Else1
-tested p = p .before .before
+tested p = p .before .before .before
 
 abbrev start : tie.Else1 → tie.Start
 start p = p .before .before .before
 
 new : (p : tie.Else1) → let a = start p .args in not (isNew (a .p) (a .d) (a .figures)) ≡ false
 new p = rw (p .before .designation .ensures) at (p .if1 .left)
+
+-- a close is there where it is needed
+closed : (p : tie.Else2) → let a = start (tested p) .args in lacksClose (a .p) (a .figures) ≡ false
+closed p = rw (p .before .before .needs-close .ensures) at (p .if2 .left)
 
 qualified :
     (p : tie.Else3) → let a = start (tested (priced p)) .args in not (program (a .p) .qualifies (a .figures)) ≡ false
@@ -30,6 +34,9 @@ qualified p = rw (p .before .is-qualified .ensures) at (p .if3 .left)
 -- the facts that the claim is made over
 abbrev facts : tie.Start → Facts
 facts s = factsOf (s .args .run .now)
+
+needs-close-requires : tie.Need-needs-close-requires
+needs-close-requires c κs = search needs
 
 designation-requires : tie.Need-designation-requires
 designation-requires c κs = search needs
@@ -43,10 +50,11 @@ returns c =
 
 returns-2 : tie.Need-returns-2
 returns-2 c =
-    let p = c .before .before in
+    let asked = c .before .before in
+    let p = asked .before in
     let s = start p in
     let a = s .args in
-    claim-no-close (facts s) (a .figures) (a .p) (a .d) (s .pre .1) (new p) (c .if2 .taken)
+    claim-no-close (facts s) (a .figures) (a .p) (a .d) (new p) (rw (asked .needs-close .ensures) at (c .if2 .taken))
 
 is-qualified-requires : tie.Need-is-qualified-requires
 is-qualified-requires c κs = search needs
@@ -57,7 +65,7 @@ returns-3 c =
     let p = asked .before in
     let s = start (tested p) in
     let a = s .args in
-    claim-not-qualified (facts s) (a .figures) (a .p) (a .d) (s .pre .1) (new (tested p)) (p .if2 .left)
+    claim-not-qualified (facts s) (a .figures) (a .p) (a .d) (new (tested p)) (closed p)
     (rw (asked .is-qualified .ensures) at (c .if3 .taken))
 
 is-cap-reached-requires : tie.Need-is-cap-reached-requires
@@ -69,7 +77,7 @@ returns-4 c =
     let p = priced (asked .before) in
     let s = start (tested p) in
     let a = s .args in
-    claim-capped (facts s) (a .figures) (a .p) (a .d) (s .pre .1) (new (tested p)) (p .if2 .left)
+    claim-capped (facts s) (a .figures) (a .p) (a .d) (new (tested p)) (closed p)
     (qualified (asked .before)) (rw (asked .is-cap-reached .ensures) at (c .if4 .taken))
 
 returns-5 : tie.Need-returns-5
@@ -78,7 +86,7 @@ returns-5 c =
     let p = priced (asked .before) in
     let s = start (tested p) in
     let a = s .args in
-    claim-granted (facts s) (a .figures) (a .p) (a .d) (s .pre .1) (new (tested p)) (p .if2 .left)
+    claim-granted (facts s) (a .figures) (a .p) (a .d) (new (tested p)) (closed p)
     (qualified (asked .before)) (rw (asked .is-cap-reached .ensures) at (c .if4 .left))
 
 pub claim-of-spec : {M : Type 1} → statement M
@@ -87,6 +95,7 @@ claim-of-spec =
     (tie.spec
     designation-requires
     returns
+    needs-close-requires
     returns-2
     is-qualified-requires
     returns-3

@@ -21,10 +21,19 @@ is-full-requires-2 : tie.Need-is-full-requires-2
 is-full-requires-2 c κs = search needs
 
 returns-2 : tie.Need-returns-2
-returns-2 c =
+returns-2 c = rw (c .before .before .if2 .taken, ← c .before .own-halves .ensures, c .is-full2 .ensures)
+
+own-two-fifties-requires : tie.Need-own-two-fifties-requires
+own-two-fifties-requires c κs = search needs
+
+is-full-requires-3 : tie.Need-is-full-requires-3
+is-full-requires-3 c κs = search needs
+
+returns-3 : tie.Need-returns-3
+returns-3 c =
     let counted = c .before in
-    let e : counted .before .before .before .args .p ≡ 2 = omega arith in
-    rw (e, ← counted .own-halves .ensures, c .is-full2 .ensures)
+    let e : counted .before .before .before .before .args .p ≡ 3 = omega arith in
+    rw (e, ← counted .own-two-fifties .ensures, c .is-full3 .ensures)
 
 pub is-cap-reached-spec : {M : Type 1} → statement M
 is-cap-reached-spec =
@@ -35,4 +44,7 @@ is-cap-reached-spec =
     returns
     own-halves-requires
     is-full-requires-2
-    returns-2)
+    returns-2
+    own-two-fifties-requires
+    is-full-requires-3
+    returns-3)

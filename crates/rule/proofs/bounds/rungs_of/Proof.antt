@@ -15,11 +15,21 @@ is-long-requires c κs = search needs
 ladder-end-requires : tie.Need-ladder-end-requires
 ladder-end-requires c κs = search needs
 
+below-end-requires : tie.Need-below-end-requires
+below-end-requires c κs = search needs
+
+around-end-requires : tie.Need-around-end-requires
+around-end-requires c κs = search needs
+
 returns : tie.Need-returns
 returns c =
-    let long = c .before in
+    let below = c .before in
+    let ladder = below .before in
+    let long = ladder .before in
     rw (
-      c .ladder-end .ensures,
+      c .around-end .ensures,
+      below .below-end .ensures,
+      ladder .ladder-end .ensures,
       long .is-long .ensures,
       long .before .dollar-end .ensures,
       long .before .before .half-end .ensures,
@@ -28,4 +38,11 @@ returns c =
 pub rungs-of-spec : {M : Type 1} → statement M
 rungs-of-spec =
     tie.close
-    (tie.spec half-end-requires dollar-end-requires is-long-requires ladder-end-requires returns)
+    (tie.spec
+    half-end-requires
+    dollar-end-requires
+    is-long-requires
+    ladder-end-requires
+    below-end-requires
+    around-end-requires
+    returns)

@@ -6,11 +6,11 @@ use Rattle.rule.proofs.grids.on_standard.Tie as tie
 on-ladder-requires : tie.Need-on-ladder-requires
 on-ladder-requires c κs = search needs
 
-is-dollar-class-requires : tie.Need-is-dollar-class-requires
-is-dollar-class-requires c κs = search needs
+is-barred-requires : tie.Need-is-barred-requires
+is-barred-requires c κs = search needs
 
 returns : tie.Need-returns
-returns c = rw (c .is-dollar-class .ensures, c .before .on-ladder .ensures)
+returns c = rw (c .is-barred .ensures, c .before .on-ladder .ensures)
 
 pub on-standard-spec : {M : Type 1} → statement M
-on-standard-spec = tie.close (tie.spec on-ladder-requires is-dollar-class-requires returns)
+on-standard-spec = tie.close (tie.spec on-ladder-requires is-barred-requires returns)

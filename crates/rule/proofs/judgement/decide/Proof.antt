@@ -7,7 +7,8 @@ use mathlib.Core.Logic.{⊎-elim}
 use Prim.Native.Nat.{_-_}
 use native.Mathlib.Omega.{arith}
 use borrow.Author.Needs.{needs}
-use lib.ListN.{getD}
+use lib.ListN.{length, getD}
+use Rattle.rule.specs.Grids.{grounds}
 use Rattle.rule.proofs.Rows.{Seen, seen-none, seen-here, seen-step, seen-all}
 use Rattle.rule.proofs.judgement.decide.Statement.{statement}
 use Rattle.rule.proofs.judgement.decide.Tie as tie
@@ -16,7 +17,7 @@ abbrev Inv-loop : tie.InvT-loop
 Inv-loop rows some-grid₀ some-range₀ g₀ some-grid some-range g = Seen rows some-grid some-range g
 
 abbrev μ-loop : tie.MeasureT-loop
-μ-loop rows some-grid₀ some-range₀ g₀ some-grid some-range g = 4 - g
+μ-loop rows some-grid₀ some-range₀ g₀ some-grid some-range g = length grounds - g
 
 loop-holds : tie.Need-loop-holds Inv-loop μ-loop
 loop-holds c = seen-none

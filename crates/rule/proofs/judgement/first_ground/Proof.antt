@@ -15,6 +15,7 @@ use Rattle.logic.proofs.Walks.{Passed, passed-none, passed-here, passed-next, p
 use Rattle.logic.proofs.Walks.{Cleared, cleared-none, cleared-next, cleared-not, cleared-all}
 use Rattle.rule.specs.Spacing.{clears, standingOf}
 use Rattle.rule.specs.Judgement.{passes, passesRange, rowOf}
+use Rattle.rule.specs.Grids.{grounds}
 use Rattle.rule.proofs.Rows.{found-range}
 use Rattle.rule.proofs.judgement.first_ground.Statement.{statement}
 use Rattle.rule.proofs.judgement.first_ground.Tie as tie
@@ -26,10 +27,11 @@ abbrev μ-standing : tie.MeasureT-standing
 μ-standing s strike standing rows g i₀ i = length standing - i
 
 abbrev Inv-grounds : tie.InvT-grounds
-Inv-grounds s strike standing rows g₀ g = Passed (λ x. passes (rowOf s (map standingOf standing) (strike .0) x)) 0 4 g
+Inv-grounds s strike standing rows g₀ g =
+    Passed (λ x. passes (rowOf s (map standingOf standing) (strike .0) x)) 0 (length grounds) g
 
 abbrev μ-grounds : tie.MeasureT-grounds
-μ-grounds s strike standing rows g₀ g = 4 - g
+μ-grounds s strike standing rows g₀ g = length grounds - g
 
 -- whether the row of the ground passes, from its grid and range and the standing words
 row-at : (c : tie.Else1 Inv-standing μ-standing Inv-grounds μ-grounds) (t : Bool) →
@@ -49,7 +51,7 @@ row-at c t e =
     (every-mapped (clears (args .s) g (args .strike .0)) standingOf (args .standing .now))
 
 grounds-holds : tie.Need-grounds-holds Inv-standing μ-standing Inv-grounds μ-grounds
-grounds-holds c = passed-none _ 0 4 (omega arith)
+grounds-holds c = passed-none _ 0 (length grounds) (omega arith)
 
 cast-row : tie.Need-cast-row Inv-standing μ-standing Inv-grounds μ-grounds
 cast-row c = search needs
@@ -108,7 +110,7 @@ grounds-again c =
 
 returns : tie.Need-returns Inv-standing μ-standing Inv-grounds μ-grounds
 returns c =
-    let e : c .before .grounds .g ≡ 4 = c .if1 .taken in
+    let e : c .before .grounds .g ≡ length grounds = c .if1 .taken in
     sym e ∙ passed-all (c .before .grounds .inv) (omega arith)
 
 returns-2 : tie.Need-returns-2 Inv-standing μ-standing Inv-grounds μ-grounds

@@ -6,16 +6,17 @@ use mathlib.Core.List.{[], _∷_}
 use Prim.Native.Nat.{ℕ, _+_, _≤_}
 use native.Mathlib.Omega.{arith}
 use lib.Dec.{leb}
+use lib.ListN.{length}
 use borrow.Author.Needs.{needs}
 use Rattle.logic.proofs.Tests.{T-true, and-where}
 use Rattle.word.specs.Limits.{highestStrike, cents}
 use Rattle.rule.specs.declared.terms.Setting.{Setting}
 use Rattle.rule.specs.Terms.{inHalves, isLong, price}
-use Rattle.rule.specs.Grids.{gridOf, wingBase}
+use Rattle.rule.specs.Grids.{grounds, gridOf, wingBase}
 use Rattle.rule.specs.Ranges.{rangeOf}
 use Rattle.rule.specs.Ends.{halfEnd, lowEnd, highEnd}
 use Rattle.rule.specs.Judgement.{foundRows}
-use Rattle.rule.proofs.Bound.{standard-ends, dollar-ends, half-ends, wing-ends}
+use Rattle.rule.proofs.Bound.{standard-ends, dollar-ends, half-ends, wing-ends, two-fifty-ends}
 use Rattle.rule.proofs.judgement.rows_of.Statement.{statement}
 use Rattle.rule.proofs.judgement.rows_of.Tie as tie
 
@@ -41,12 +42,17 @@ module _ (s : Setting) (h : ℕ) where
       and-assoc (gridOf s 3 h) low high
       ∙ and-where (gridOf s 3 h) (low && high) (rangeOf s 3 h) (λ t. sym (wing-ends s h (T-true _ t) ∙ rw e))
 
-  -- where the expiration is long Dollar and Half are empty
+  two-fifty-row : h ≤ highestStrike → (gridOf s 4 h && between) ≡ (gridOf s 4 h && rangeOf s 4 h)
+  two-fifty-row most =
+      and-where (gridOf s 4 h) between (rangeOf s 4 h) (λ t. sym (two-fifty-ends s h (T-true _ t) most))
+
+  -- where the expiration is long Dollar, Half and ground 4 are empty
   long-rows : {base : ℕ} → isLong s ≡ true → h ≤ highestStrike → base ≡ inHalves (wingBase (cents h)) →
       (gridOf s 0 h ∷ (gridOf s 0 h && between) ∷ false ∷ []) ∷ (false ∷ false ∷ false ∷ [])
       ∷ (false ∷ false ∷ false ∷ [])
-      ∷ (gridOf s 3 h ∷ (gridOf s 3 h && leb (lowEnd (price s)) base && leb (base + 10) (highEnd s)) ∷ false ∷ []) ∷ []
-      ≡ foundRows s h 4
+      ∷ (gridOf s 3 h ∷ (gridOf s 3 h && leb (lowEnd (price s)) base && leb (base + 10) (highEnd s)) ∷ false ∷ [])
+      ∷ (false ∷ false ∷ false ∷ []) ∷ []
+      ≡ foundRows s h (length grounds)
   long-rows long most e = rw (standard-row most, wing-row e, long)
 
 cents-requires : tie.Need-cents-requires
@@ -70,8 +76,8 @@ on-wing-requires c κs = search needs
 mul-base : tie.Need-mul-base
 mul-base c = search needs
 
-add-t16 : tie.Need-add-t16
-add-t16 c = search needs
+add-t17 : tie.Need-add-t17
+add-t17 c = search needs
 
 returns : tie.Need-returns
 returns c =
@@ -98,12 +104,16 @@ on-dollar-requires c κs = search needs
 on-half-requires : tie.Need-on-half-requires
 on-half-requires c κs = search needs
 
+on-two-fifty-requires : tie.Need-on-two-fifty-requires
+on-two-fifty-requires c κs = search needs
+
 half-end-requires : tie.Need-half-end-requires
 half-end-requires c κs = search needs
 
 returns-2 : tie.Need-returns-2
 returns-2 c =
-    let half = c .before in
+    let two-fifty = c .before in
+    let half = two-fifty .before in
     let dollar = half .before in
     let long = dollar .before .before in
     let standard = long .before in
@@ -115,6 +125,7 @@ returns-2 c =
     let most = start .pre .strike in
     rw (
       c .half-end .ensures,
+      two-fifty .on-two-fifty .ensures,
       half .on-half .ensures,
       dollar .on-dollar .ensures,
       standard .on-standard .ensures,
@@ -124,6 +135,7 @@ returns-2 c =
       standard-row (args .s) (args .strike .0) most,
       dollar-row (args .s) (args .strike .0) most,
       half-row (args .s) (args .strike .0),
+      two-fifty-row (args .s) (args .strike .0) most,
       sym (long .is-long .ensures) ∙ dollar .before .if1 .left,
     )
 
@@ -138,9 +150,10 @@ rows-of-spec =
     is-long-requires
     on-wing-requires
     mul-base
-    add-t16
+    add-t17
     returns
     on-dollar-requires
     on-half-requires
+    on-two-fifty-requires
     half-end-requires
     returns-2)

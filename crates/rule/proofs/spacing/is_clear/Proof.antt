@@ -10,8 +10,14 @@ key-of-requires c κs = search needs
 field-of-requires : tie.Need-field-of-requires
 field-of-requires c κs = search needs
 
+counts-as-standard-requires : tie.Need-counts-as-standard-requires
+counts-as-standard-requires c κs = search needs
+
 is-crowded-requires : tie.Need-is-crowded-requires
 is-crowded-requires c κs = search needs
+
+counts-as-standard-requires-2 : tie.Need-counts-as-standard-requires-2
+counts-as-standard-requires-2 c κs = search needs
 
 is-crowded-requires-2 : tie.Need-is-crowded-requires-2
 is-crowded-requires-2 c κs = search needs
@@ -32,8 +38,8 @@ returns : tie.Need-returns
 returns c =
     let long = c .before .before .before in
     let standard = long .before in
-    let dollar = standard .before in
-    let ground = dollar .before in
+    let dollar = standard .before .before in
+    let ground = dollar .before .before in
     let strike = ground .before in
     rw (
       c .distance .ensures,
@@ -41,7 +47,9 @@ returns c =
       c .before .before .cents .ensures,
       long .is-long .ensures,
       standard .is-crowded2 .ensures,
+      standard .before .counts-as-standard2 .ensures,
       dollar .is-crowded .ensures,
+      dollar .before .counts-as-standard .ensures,
       ground .field-of .ensures,
       strike .key-of .ensures,
     )
@@ -52,7 +60,9 @@ is-clear-spec =
     (tie.spec
     key-of-requires
     field-of-requires
+    counts-as-standard-requires
     is-crowded-requires
+    counts-as-standard-requires-2
     is-crowded-requires-2
     is-long-requires
     cents-requires

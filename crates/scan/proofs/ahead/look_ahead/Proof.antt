@@ -14,10 +14,16 @@ returns c =
 others-from-requires : tie.Need-others-from-requires
 others-from-requires c κs = search needs
 
+looked-at-requires : tie.Need-looked-at-requires
+looked-at-requires c κs = search needs
+
 returns-2 : tie.Need-returns-2
 returns-2 c =
-    let a = c .before .before .before .args in
-    (rw (c .others-from .ensures) (tells-start (a .s .now) (a .at) (omega arith) (omega arith)), refl)
+    let a = c .before .before .before .before .args in (
+      rw (c .looked-at .ensures, c .before .others-from .ensures)
+          (tells-start (a .s .now) (a .at) (omega arith) (omega arith)),
+      refl,
+    )
 
 pub look-ahead-spec : {M : Type 1} → statement M
-look-ahead-spec = tie.close (tie.spec returns others-from-requires returns-2)
+look-ahead-spec = tie.close (tie.spec returns others-from-requires looked-at-requires returns-2)

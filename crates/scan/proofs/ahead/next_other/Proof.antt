@@ -6,7 +6,7 @@ use lib.ListN.{length, drop, getD}
 use lib.Count.{trailing-le}
 use borrow.Author.Needs.{needs}
 use Rattle.scan.specs.NextStrikes.{nextLength}
-use Rattle.scan.proofs.Others.{Searched, searched-start, searched-on, searched-all, searched-first, searched-found, expiration-some, tells-end}
+use Rattle.scan.proofs.Others.{Searched, searched-start, searched-on, searched-all, searched-first, searched-found, bits-some, tells-end}
 use Rattle.scan.proofs.ahead.next_other.Statement.{statement}
 use Rattle.scan.proofs.ahead.next_other.Tie as tie
 
@@ -25,12 +25,12 @@ searched :
     (c .loop .base) (c .loop .bits)
 searched c =
     let start = c .before .before .before .before in
-    c .loop .inv _ (searched-start (start .args .s .now) (start .pre .tells) (start .pre .inside) (start .pre .kind))
+    c .loop .inv _ (searched-start (start .args .s .now) (start .pre .0) (start .pre .1))
 
 sub-bits : tie.Need-sub-bits Inv-loop μ-loop
 sub-bits c =
     let start = c .before .before in
-    expiration-some (start .args .s .now) (start .pre .tells) (start .pre .inside) (start .pre .kind)
+    bits-some (start .args .s .now) (start .pre .0) (start .pre .1)
 
 loop-holds : tie.Need-loop-holds Inv-loop μ-loop
 loop-holds c = λ end searched. searched

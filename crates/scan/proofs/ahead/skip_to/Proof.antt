@@ -18,18 +18,33 @@ returns c = search needs
 sub-passed : tie.Need-sub-passed
 sub-passed c = search needs
 
-shr-t9 : tie.Need-shr-t9
-shr-t9 c = search needs
+shr-looked-at : tie.Need-shr-looked-at
+shr-looked-at c = search needs
 
-shl-t11 : tie.Need-shl-t11
-shl-t11 c = search needs
+looked-at-requires : tie.Need-looked-at-requires
+looked-at-requires c κs = search needs
+
+shl-t12 : tie.Need-shl-t12
+shl-t12 c = search needs
 
 returns-2 : tie.Need-returns-2
 returns-2 c =
-    let start = c .before .before .before in
-    let a = start .args in
-    (tells-later (a .s .now) (a .at) (start .pre .tells) (start .pre .later) (start .pre .inside) (omega arith), refl)
+    let start = c .before .before .before .before in
+    let a = start .args in (
+      rw (c .looked-at .ensures)
+          (tells-later (a .s .now) (a .at) (start .pre .tells) (start .pre .later) (start .pre .inside) (omega arith)),
+      refl,
+    )
 
 pub skip-to-spec : {M : Type 1} → statement M
 skip-to-spec =
-    tie.close (tie.spec add-if1 look-ahead-requires returns sub-passed shr-t9 shl-t11 returns-2)
+    tie.close
+    (tie.spec
+    add-if1
+    look-ahead-requires
+    returns
+    sub-passed
+    shr-looked-at
+    looked-at-requires
+    shl-t12
+    returns-2)

@@ -23,19 +23,37 @@ put-at-requires-2 c κs =
     let packed = class-packed (start .args .figures .number) (start .args .figures .designations) (start .pre) in
     omega (arith, packed .0, packed .1, start .pre .0)
 
-with-kind-requires : tie.Need-with-kind-requires
-with-kind-requires c κs =
+array-read-put-at-3 : tie.Need-array-read-put-at-3
+array-read-put-at-3 c = search needs
+
+put-at-requires-3 : tie.Need-put-at-requires-3
+put-at-requires-3 c κs =
     let start = c .before .before .before in
     let packed = class-packed (start .args .figures .number) (start .args .figures .designations) (start .pre) in
-    omega (arith, packed .0, packed .1, start .pre .0)
+    omega (arith, packed .0, packed .1, packed .2, start .pre .0)
+
+with-kind-requires : tie.Need-with-kind-requires
+with-kind-requires c κs =
+    let start = c .before .before .before .before in
+    let packed = class-packed (start .args .figures .number) (start .args .figures .designations) (start .pre) in
+    omega (arith, packed .0, packed .1, packed .2, start .pre .0)
 
 returns : tie.Need-returns
 returns c =
-    let start = c .before .before .before .before in
+    let designated = c .before in
+    let start = designated .before .before .before .before in
     let packed = class-packed (start .args .figures .number) (start .args .figures .designations) (start .pre) in
-    omega (arith, packed .2)
+    omega (arith, packed .3)
 
 pub class-word-spec : {M : Type 1} → statement M
 class-word-spec =
     tie.close
-    (tie.spec array-read-put-at put-at-requires array-read-put-at-2 put-at-requires-2 with-kind-requires returns)
+    (tie.spec
+    array-read-put-at
+    put-at-requires
+    array-read-put-at-2
+    put-at-requires-2
+    array-read-put-at-3
+    put-at-requires-3
+    with-kind-requires
+    returns)

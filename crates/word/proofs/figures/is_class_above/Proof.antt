@@ -10,29 +10,26 @@ is-bare-requires c κs = search needs
 key-of-requires : tie.Need-key-of-requires
 key-of-requires c κs = search needs
 
-field-of-requires : tie.Need-field-of-requires
-field-of-requires c κs = search needs
+is-designation-in-requires : tie.Need-is-designation-in-requires
+is-designation-in-requires c κs = search needs
 
-is-designation-requires : tie.Need-is-designation-requires
-is-designation-requires c κs = search needs
+is-designation-in-requires-2 : tie.Need-is-designation-in-requires-2
+is-designation-in-requires-2 c κs = search needs
 
-field-of-requires-2 : tie.Need-field-of-requires-2
-field-of-requires-2 c κs = search needs
-
-is-designation-requires-2 : tie.Need-is-designation-requires-2
-is-designation-requires-2 c κs = search needs
+is-designation-in-requires-3 : tie.Need-is-designation-in-requires-3
+is-designation-in-requires-3 c κs = search needs
 
 returns : tie.Need-returns
 returns c =
-    let dollar = c .before .before in
-    let number = dollar .before .before in
+    let half = c .before in
+    let dollar = half .before in
+    let number = dollar .before in
     simp (
       number .before .is-bare .ensures,
       number .key-of .ensures,
-      dollar .before .field-of .ensures,
-      dollar .is-designation .ensures,
-      c .before .field-of2 .ensures,
-      c .is-designation2 .ensures,
+      dollar .is-designation-in .ensures,
+      half .is-designation-in2 .ensures,
+      c .is-designation-in3 .ensures,
       and-true,
     )
 
@@ -42,8 +39,7 @@ is-class-above-spec =
     (tie.spec
     is-bare-requires
     key-of-requires
-    field-of-requires
-    is-designation-requires
-    field-of-requires-2
-    is-designation-requires-2
+    is-designation-in-requires
+    is-designation-in-requires-2
+    is-designation-in-requires-3
     returns)

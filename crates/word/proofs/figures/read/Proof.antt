@@ -22,6 +22,15 @@ shared-slice-read-field-of-2 c = search needs
 field-of-requires-2 : tie.Need-field-of-requires-2
 field-of-requires-2 c κs = search needs
 
+mul-field-of-3 : tie.Need-mul-field-of-3
+mul-field-of-3 c = search needs
+
+shared-slice-read-field-of-3 : tie.Need-shared-slice-read-field-of-3
+shared-slice-read-field-of-3 c = search needs
+
+field-of-requires-3 : tie.Need-field-of-requires-3
+field-of-requires-3 c κs = search needs
+
 mul-key-of : tie.Need-mul-key-of
 mul-key-of c = search needs
 
@@ -60,14 +69,15 @@ returns c =
     let volume = c in
     let close = volume .before .before in
     let number = close .before .before in
-    let half = number .before .before in
+    let twoFifty = number .before .before in
+    let half = twoFifty .before .before in
     let dollar = half .before .before in
     λ i.
     record {
       number = number .key-of .ensures i;
       close = close .key-of2 .ensures i;
       volume = volume .key-of3 .ensures i;
-      designations = dollar .field-of .ensures i ∷ half .field-of2 .ensures i ∷ [];
+      designations = dollar .field-of .ensures i ∷ half .field-of2 .ensures i ∷ twoFifty .field-of3 .ensures i ∷ [];
     }
 
 pub read-spec : {M : Type 1} → statement M
@@ -80,6 +90,9 @@ read-spec =
     mul-field-of-2
     shared-slice-read-field-of-2
     field-of-requires-2
+    mul-field-of-3
+    shared-slice-read-field-of-3
+    field-of-requires-3
     mul-key-of
     shared-slice-read-key-of
     key-of-requires

@@ -8,7 +8,10 @@ returns : tie.Need-returns
 returns c = rw (c .before .if1 .taken)
 
 returns-2 : tie.Need-returns-2
-returns-2 c = let e : c .before .before .before .args .p ≡ 2 = omega arith in rw e
+returns-2 c = rw (c .before .before .if2 .taken)
+
+returns-3 : tie.Need-returns-3
+returns-3 c = let e : c .before .before .args .p ≡ 3 = omega arith in rw e
 
 pub is-qualified-spec : {M : Type 1} → statement M
-is-qualified-spec = tie.close (tie.spec returns returns-2)
+is-qualified-spec = tie.close (tie.spec returns returns-2 returns-3)
