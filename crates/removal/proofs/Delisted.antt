@@ -1,13 +1,12 @@
 -- Words taken out of the run of a book: those after them move down, and the run is the layout of the facts whose words
 -- are left. On the run's parts. Assumes nothing.
-use Prim.Native.Nat.{ℕ, _+_, _-_, _≤_, _<_}
+use Prim.Native.Nat.{ℕ, _-_, _≤_, _<_}
 use mathlib.Core.Path.{_≡_, refl, sym, ap, _∙_}
 use mathlib.Core.Bool.{Bool, true, false, cond, not}
 use mathlib.Core.List.{List, [], _∷_, _++_, map, append-assoc}
 use native.Mathlib.Omega.{arith}
 use lib.Dec.{T}
 use lib.ListN.{length, set, replicate, length-append, length-map}
-use lib.Seq.{drop-at}
 use borrow.Rule.Slice.PartMut.{midOf, putMid}
 use Rattle.word.specs.Limits.{lastMonth, longestRun}
 use Rattle.word.specs.Head.{firstPlace}
@@ -21,9 +20,10 @@ use Rattle.book.proofs.Splices.{Spliced, used-spliced, place-inside, delisting}
 use Rattle.book.proofs.SplicedRuns.{front, back, zeros, place-is, run-was, run-is}
 use Rattle.book.proofs.Runs.{standing-within}
 use Rattle.place.proofs.Heads.{book-good, book-room, book-long, book-month}
-use Rattle.removal.specs.Rewriting.{closed}
+use Rattle.gap.specs.Gaps.{closed}
 use Rattle.removal.specs.RemovalsAsked.{Delistable}
-use Rattle.logic.proofs.Slices.{zeros-joined, part-is, put-part}
+use Rattle.gap.proofs.GapsInside.{closed-inside}
+use Rattle.logic.proofs.Slices.{zeros-joined}
 
 -- ---- k words less from `at` on
 
@@ -69,22 +69,16 @@ module _
         length-append old (s .back),
       )
 
-  moved : closed k (midOf at (used f - at) ws) ≡ c ++ freed
-  moved =
-      (λ i. closed k (midOf at (used f - at) (was i)))
-      ∙ ap (closed k) (part-is a (b ++ c) d at (used f - at) place long)
-      ∙ ap (λ (l : List ℕ). l ++ freed) (drop-at b c k (length-map old packed ∙ e))
-
   past : freed ++ d ≡ replicate (length ws - (used f - k)) 0
   past = zeros-joined k (length ws - used f) (length ws - (used f - k)) (omega (arith, book-room ws t, place-inside s))
 
   taken-out :
       set (putMid at (used f - at) ws (closed k (midOf at (used f - at) ws))) 0 head ≡ layout (length ws) g
   taken-out =
-      (λ i. set (putMid at (used f - at) (was i) (moved i)) 0 head)
-      ∙ ap (λ (l : List ℕ). set l 0 head) (put-part a (b ++ c) d at (used f - at) place long (c ++ freed))
-      ∙ ap (λ (l : List ℕ). head ∷ (map packed (s .front) ++ l))
-      (append-assoc c freed d ∙ ap (λ (l : List ℕ). c ++ l) past)
+      (λ i. set (putMid at (used f - at) (was i) (closed k (midOf at (used f - at) (was i)))) 0 head)
+      ∙ ap (λ (l : List ℕ). set l 0 head)
+      (closed-inside a b c d at (used f - at) k place long (length-map old packed ∙ e))
+      ∙ ap (λ (l : List ℕ). head ∷ (map packed (s .front) ++ (c ++ l))) past
       ∙ run-is ws t s (used f - k) (omega (arith, used-spliced s))
 
 -- the numbers that delisting reckons with: `end` of a run's `long` words are used, and the strike's is one of them

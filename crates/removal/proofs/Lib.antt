@@ -3,7 +3,6 @@ pub mod Said
 pub mod Moving
 pub mod CompactionSteps
 pub mod MovedStretches
-pub mod Shifts
 pub mod Marked
 pub mod StayingSeries
 pub mod Kept

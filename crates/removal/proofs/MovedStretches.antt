@@ -6,7 +6,7 @@ use native.Mathlib.Omega.{arith}
 use lib.ListN.{length, take, drop, length-append, length-drop}
 use lib.Seq.{take-add, drop-drop, take-at, drop-at, take-append-add, length-take-le}
 use borrow.Rule.Slice.PartMut.{putMid, mid-len}
-use Rattle.removal.specs.Rewriting.{movedDown}
+use Rattle.gap.specs.Gaps.{movedDown}
 use Rattle.removal.specs.Expiry.{MovedTo}
 use Rattle.logic.proofs.Slices.{stretch, stretch-parts}
 

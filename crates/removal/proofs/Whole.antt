@@ -9,7 +9,7 @@ use lib.Seq.{drop-at}
 use borrow.Rule.Slice.PartMut.{midOf, putMid}
 use Rattle.word.specs.Head.{firstPlace}
 use Rattle.word.specs.Codec.{Head, packed}
-use Rattle.removal.specs.Rewriting.{closed}
+use Rattle.gap.specs.Gaps.{closed}
 use Rattle.removal.specs.Compaction.{compacted, Compacted, Parted, Removed}
 use Rattle.logic.proofs.Slices.{part-is, put-part}
 

@@ -1,7 +1,7 @@
--- Inner: words rewritten in place, a pass over them and a gap that is closed. Assumes nothing.
+-- Inner: words rewritten in place, by a pass over them. Assumes nothing.
 use Prim.Native.Nat.{ℕ, _-_}
 use mathlib.Core.List.{List, [], _∷_, _++_}
-use lib.ListN.{length, drop, replicate}
+use lib.ListN.{length, replicate}
 
 -- what a pass gives: the words that it writes, and the state that it ends in
 pub record Pass (S : Type 0) : Type 0 where
@@ -21,15 +21,3 @@ module _ {S : Type 0} where
 -- with zeros up to n words
 abbrev pub padded : ℕ → List ℕ → List ℕ
 padded n ws = ws ++ replicate (n - length ws) 0
-
--- how many words are moved at a time where the gap is no constant
-abbrev pub movedAtOnce : ℕ
-movedAtOnce = 8
-
--- the words after a gap of n moved to its front; the last n stand as they were
-abbrev pub movedDown : ℕ → List ℕ → List ℕ
-movedDown n ws = drop n ws ++ drop (length ws - n) ws
-
--- all moved, and the last n zeroed
-abbrev pub closed : ℕ → List ℕ → List ℕ
-closed n ws = drop n ws ++ replicate n 0

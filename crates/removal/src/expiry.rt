@@ -8,7 +8,7 @@ ghost use Rattle.book.specs.Layout.{layout, factsOf};
 ghost use Rattle.book.specs.Books.{isBook};
 ghost use Rattle.book.specs.Changes.{monthSet};
 ghost use Rattle.removal.specs.Expiry.{Movable, MovedTo};
-use crate::gap::move_down_by;
+use gap::move_down_by;
 use place::head;
 use place::search::first;
 use word::figures;

@@ -7,12 +7,11 @@ ghost use Rattle.book.specs.Changes.{classReviewed, reviewedCount, strikeRemove
 ghost use Rattle.removal.specs.RemovalsAsked.{Delistable, Removable, Reviewable};
 ghost use Rattle.removal.specs.Compaction.{RemovedFrom};
 use crate::compaction::compact;
-use crate::gap::close_gap;
+use gap::close_gap;
 use place::head;
 
 pub mod compaction;
 pub mod expiry;
-pub mod gap;
 pub mod marks;
 
 // Compacts the words from `from` to `to` by the review at a close, moves those after them down, up to `end`, and writes

@@ -1,22 +1,22 @@
--- `move_each` moves the words down by the gap: the loop's law of shifting. Assumes nothing.
+-- `move_down_two` moves the words down by two: the loop's law of shifting. Assumes nothing.
 use Prim.Native.Nat.{_-_}
 use native.Mathlib.Omega.{arith}
 use lib.ListN.{length}
-use Rattle.removal.proofs.Shifts.{Shifting, shift-start, shift-more, shift-done}
-use Rattle.removal.proofs.gap.move_each.Statement.{statement}
-use Rattle.removal.proofs.gap.move_each.Tie as tie
+use Rattle.gap.proofs.Shifts.{Shifting, shift-start, shift-more, shift-done}
+use Rattle.gap.proofs.move_down_two.Statement.{statement}
+use Rattle.gap.proofs.move_down_two.Tie as tie
 
 abbrev Inv-loop : tie.InvT-loop
-Inv-loop words₀ gap count i₀ words i = Shifting gap words₀ words i
+Inv-loop words₀ count i₀ words i = Shifting 2 words₀ words i
 
 abbrev μ-loop : tie.MeasureT-loop
-μ-loop words₀ gap count i₀ words i = length words₀ - i
+μ-loop words₀ count i₀ words i = length words₀ - i
 
 sub-count : tie.Need-sub-count Inv-loop μ-loop
 sub-count c = omega arith
 
 loop-holds : tie.Need-loop-holds Inv-loop μ-loop
-loop-holds c = shift-start (c .args .gap) (c .args .words .now) (c .pre)
+loop-holds c = shift-start 2 (c .args .words .now) (c .pre)
 
 add-words : tie.Need-add-words Inv-loop μ-loop
 add-words c = omega arith
@@ -48,8 +48,8 @@ same-length c = c .before .loop .inv .long
 returns : tie.Need-returns Inv-loop μ-loop
 returns c = shift-done (c .before .loop .inv) (c .loop-test .left)
 
-pub move-each-spec : {M : Type 1} → statement M
-move-each-spec =
+pub move-down-two-spec : {M : Type 1} → statement M
+move-down-two-spec =
     tie.close
     (tie.spec
     Inv-loop

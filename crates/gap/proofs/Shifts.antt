@@ -9,7 +9,7 @@ use lib.Seq.{take-all, take-add, take-suc, take-append-le, take-take, take-at, d
 use borrow.Rule.Slice.PartMut.{midOf, putMid}
 use Rattle.logic.proofs.Stores.{sets-append}
 use Rattle.logic.proofs.Slices.{tail-all, tail-zeroed, drop-later}
-use Rattle.removal.specs.Rewriting.{movedDown, closed}
+use Rattle.gap.specs.Gaps.{movedDown, closed}
 
 -- the words xs became s: the first i after a gap moved to its front, the others as they were
 pub record Shifting (gap : ℕ) (xs s : List ℕ) (i : ℕ) : Type 0 where

@@ -2,9 +2,9 @@
 use Prim.Native.Nat.{_-_}
 use native.Mathlib.Omega.{arith}
 use lib.ListN.{length}
-use Rattle.removal.proofs.Shifts.{Shifting, shift-start, shift-more, shift-done}
-use Rattle.removal.proofs.gap.move_down_one.Statement.{statement}
-use Rattle.removal.proofs.gap.move_down_one.Tie as tie
+use Rattle.gap.proofs.Shifts.{Shifting, shift-start, shift-more, shift-done}
+use Rattle.gap.proofs.move_down_one.Statement.{statement}
+use Rattle.gap.proofs.move_down_one.Tie as tie
 
 abbrev Inv-loop : tie.InvT-loop
 Inv-loop words₀ count i₀ words i = Shifting 1 words₀ words i

@@ -1,7 +1,7 @@
 -- `move_down` moves the words down by the gap: by the loop of its distance. Assumes nothing.
 use borrow.Author.Needs.{needs}
-use Rattle.removal.proofs.gap.move_down.Statement.{statement}
-use Rattle.removal.proofs.gap.move_down.Tie as tie
+use Rattle.gap.proofs.move_down.Statement.{statement}
+use Rattle.gap.proofs.move_down.Tie as tie
 
 move-down-one-requires : tie.Need-move-down-one-requires
 move-down-one-requires c κs = search needs

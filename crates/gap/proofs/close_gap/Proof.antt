@@ -1,8 +1,8 @@
 -- `close_gap` closes the gap: the words are moved down, and the part that is freed is zeroed. Assumes nothing.
 use borrow.Author.Needs.{needs}
-use Rattle.removal.proofs.Shifts.{gap-closed}
-use Rattle.removal.proofs.gap.close_gap.Statement.{statement}
-use Rattle.removal.proofs.gap.close_gap.Tie as tie
+use Rattle.gap.proofs.Shifts.{gap-closed}
+use Rattle.gap.proofs.close_gap.Statement.{statement}
+use Rattle.gap.proofs.close_gap.Tie as tie
 
 sub-count : tie.Need-sub-count
 sub-count c = search needs

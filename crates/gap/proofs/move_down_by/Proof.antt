@@ -8,10 +8,10 @@ use lib.ListN.{length}
 use lib.Dec.{T, leb, leb→le}
 use borrow.Author.Needs.{needs}
 use Rattle.logic.proofs.Tests.{ands, true-T}
-use Rattle.removal.specs.Rewriting.{movedAtOnce}
-use Rattle.removal.proofs.Shifts.{Shifting, shift-start, shift-on, shift-done, shift-rest}
-use Rattle.removal.proofs.gap.move_down_by.Statement.{statement}
-use Rattle.removal.proofs.gap.move_down_by.Tie as tie
+use Rattle.gap.specs.Gaps.{movedAtOnce}
+use Rattle.gap.proofs.Shifts.{Shifting, shift-start, shift-on, shift-done, shift-rest}
+use Rattle.gap.proofs.move_down_by.Statement.{statement}
+use Rattle.gap.proofs.move_down_by.Tie as tie
 
 abbrev Inv-loop : tie.InvT-loop
 Inv-loop words₀ gap count i₀ words i = Shifting gap words₀ words i

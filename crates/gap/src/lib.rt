@@ -3,7 +3,7 @@ ghost use mathlib.Core.Path.{_≡_};
 ghost use Prim.Native.Nat.{_+_, _≤_};
 ghost use lib.ListN.{drop, length, take};
 ghost use lib.Seq.{sets};
-ghost use Rattle.removal.specs.Rewriting.{movedAtOnce, movedDown, closed};
+ghost use Rattle.gap.specs.Gaps.{movedAtOnce, movedDown, closed};
 use word::zeros::zero_all;
 
 // How many words are moved at a time over a distance that is no constant.

@@ -2,9 +2,9 @@
 -- stored is what stood there. Assumes nothing.
 use native.Mathlib.Omega.{arith}
 use lib.ListN.{length-set}
-use Rattle.removal.proofs.Shifts.{stored-all}
-use Rattle.removal.proofs.gap.move_block.Statement.{statement}
-use Rattle.removal.proofs.gap.move_block.Tie as tie
+use Rattle.gap.proofs.Shifts.{stored-all}
+use Rattle.gap.proofs.move_block.Statement.{statement}
+use Rattle.gap.proofs.move_block.Tie as tie
 
 mul-a : tie.Need-mul-a
 mul-a c = omega arith
