@@ -85,6 +85,9 @@ module _ (ws : List ℕ) where
   pub bits-whole : (i k : ℕ) → length ws ≤ i + k → bitsAt ws i k ≡ otherBits (getD ws (i - 1) 0) (drop i ws)
   bits-whole i k h = rw (take-all k (drop i ws) (omega (arith, length-drop i ws)))
 
+  pub bits-none : (i k : ℕ) → length ws ≤ i → bitsAt ws i k ≡ 0
+  bits-none i k h = rw (bits-whole i k (omega arith), drop-of-length-le ws h)
+
   pub bits-lt : (i k : ℕ) → bitsAt ws i k < 2 ^ k
   bits-lt i k = rw (bits-digits i k) (binary-small k (digits i))
 

@@ -26,14 +26,14 @@ blockLength = 64
 abbrev pub halfBlock : ℕ
 halfBlock = 32
 
--- from `base` on there are words, and no more than a block in all
+-- `base` is no index past the end of ws, which has no more words than a block
 pub record Fewer (ws : List ℕ) (base : ℕ) : Type 0 where
   pub after : 1 ≤ base
-  pub inside : base < length ws
+  pub inside : base ≤ length ws
   pub few : length ws ≤ blockLength
 
 -- the bits are those of the words after `at`, as far as the block from `base` on reaches; the word at `at` is looked at
--- by itself, and its bit is 1
+-- by itself, and its bit is 1. `more` are those of the next block.
 pub record Tells (ws : List ℕ) (ahead : Ahead) : Type 0 where
   pub first : 1 ≤ ahead .base
   pub onward : ahead .base ≤ ahead .at
@@ -45,6 +45,9 @@ pub record Tells (ws : List ℕ) (ahead : Ahead) : Type 0 where
       ≡ 2 ^ (ahead .at - ahead .base)
       * (1 + 2 * otherBits (getD ws (ahead .at) 0)
       (take (ahead .base + blockLength - suc (ahead .at)) (drop (suc (ahead .at)) ws)))
+  pub further :
+      ahead .more
+      ≡ otherBits (getD ws (ahead .base + blockLength - 1) 0) (take blockLength (drop (ahead .base + blockLength) ws))
 
 -- the same, and `to` is a later index
 pub record Passable (ws : List ℕ) (ahead : Ahead) (to : ℕ) : Type 0 where

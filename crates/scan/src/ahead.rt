@@ -13,10 +13,12 @@ const BLOCK: usize = 64;
 const HALF_BLOCK: usize = 32;
 
 // The others, words that are no next strikes, after `at`: `bits` has one bit for each word of the block from `base` on,
-// lowest first, which is 1 for an other, and for the word at `at`.
+// lowest first, which is 1 for an other, and for the word at `at`. `more` has those of the next block, which are told
+// of before they are asked for: so that the work goes on while it is not yet known where the block ends.
 pub struct Ahead {
     pub base: usize,
     pub bits: u64,
+    pub more: u64,
     pub at: usize,
 }
 
@@ -88,15 +90,16 @@ fn others_of_rest(s: &[u32], base: usize) -> u64
     others_of_32(&s[before..middle]) as u64 | rest << HALF_BLOCK
 }
 
-// The others among the words of the block from `base` on. Where fewer are left, they are the last of a block.
+// The others among the words of the block from `base` on, none where no word is left. Where fewer are left, they are
+// the last of a block.
 fn others_from(s: &[u32], base: usize) -> u64
-    requires { ⌜ (1 ≤ base) × (base < length (now s)) ⌝ }
+    requires { ⌜ (1 ≤ base) × (blockLength < length (now s)) ⌝ }
     ensures { λ r. ⌜ r
         ≡ otherBits (getD (now (s .entry)) (base - 1) 0) (take blockLength (drop base (now (s .entry)))) ⌝ }
 {
     let n = s.len();
-    if n <= BLOCK {
-        return others_of_rest(s, base);
+    if n <= base {
+        return 0;
     }
     let start = if n - base < BLOCK { n - BLOCK } else { base };
     others_of_64(s, start) >> (base - start)
@@ -114,16 +117,18 @@ pub fn look_ahead(s: &[u32], at: usize) -> Ahead
     requires { ⌜ (1 ≤ at) × (at ≤ length (now s)) ⌝ }
     ensures { λ r. ⌜ Tells (now (s .entry)) r × (r .at ≡ at) ⌝ }
 {
-    if at == s.len() {
+    if s.len() <= BLOCK {
         return Ahead {
             base: at,
-            bits: 0,
+            bits: looked_at(others_of_rest(s, at)),
+            more: 0,
             at,
         };
     }
     Ahead {
         base: at,
         bits: looked_at(others_from(s, at)),
+        more: others_from(s, at + BLOCK),
         at,
     }
 }
@@ -133,14 +138,19 @@ pub fn skip_to(s: &[u32], ahead: Ahead, at: usize) -> Ahead
     requires { ⌜ Passable (now s) ahead at ⌝ }
     ensures { λ r. ⌜ Tells (now (s .entry)) r × (r .at ≡ at) ⌝ }
 {
-    let base = ahead.base;
-    if base + BLOCK <= at {
-        return look_ahead(s, at);
+    let mut base = ahead.base;
+    let mut bits = ahead.bits;
+    let mut more = ahead.more;
+    while base + BLOCK <= at {
+        base += BLOCK;
+        bits = more;
+        more = others_from(s, base + BLOCK);
     }
     let passed = at - base;
     Ahead {
         base,
-        bits: looked_at(ahead.bits >> passed) << passed,
+        bits: looked_at(bits >> passed) << passed,
+        more,
         at,
     }
 }
@@ -156,20 +166,24 @@ pub fn next_other(s: &[u32], ahead: Ahead) -> Ahead
     let n = s.len();
     let mut base = ahead.base;
     let mut bits = ahead.bits & (ahead.bits - 1);
+    let mut more = ahead.more;
     while bits == 0 {
         base += BLOCK;
         if n <= base {
             return Ahead {
                 base: n,
                 bits: 0,
+                more: 0,
                 at: n,
             };
         }
-        bits = others_from(s, base);
+        bits = more;
+        more = others_from(s, base + BLOCK);
     }
     Ahead {
         base,
         bits,
+        more,
         at: base + u64::trailing_zeros(bits) as usize,
     }
 }
