@@ -4,7 +4,9 @@ ghost use Prim.Native.Nat.{_+_, _≤_};
 ghost use lib.ListN.{drop, length, take};
 ghost use lib.Seq.{sets};
 ghost use Rattle.gap.specs.Gaps.{movedAtOnce, movedDown, closed};
-use word::zeros::zero_all;
+use crate::zeros::zero_all;
+
+pub mod zeros;
 
 // How many words are moved at a time over a distance that is no constant.
 const MOVED_AT_ONCE: usize = 8;

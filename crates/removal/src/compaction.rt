@@ -11,6 +11,7 @@ ghost use Rattle.removal.specs.Compaction.{stays, settled, strikeStep, s
 use crate::marks::Bounds;
 use crate::marks::bounds_in;
 use crate::marks::none_marked;
+use gap::zeros::zero_all;
 use rule::grids::DOLLAR_GROUND;
 use rule::grids::WING_GROUND;
 use rule::spacing::distance;
@@ -22,7 +23,6 @@ use word::kind::key_of;
 use word::strike::GROUND;
 use word::strike::Strike;
 use word::strike::is_marked;
-use word::zeros::zero_all;
 
 // In cents: a strike no farther from the close stays in its review.
 const REVIEW_DISTANCE: u32 = 500;

@@ -9,13 +9,13 @@ ghost use Rattle.book.specs.Books.{isBook};
 ghost use Rattle.book.specs.Changes.{monthSet};
 ghost use Rattle.removal.specs.Expiry.{Movable, MovedTo};
 use gap::move_down_by;
+use gap::zeros::zero_all;
 use place::head;
 use place::search::first;
 use word::figures;
 use word::head::FIRST;
 use word::kind::CLASS;
 use word::kind::EXPIRATION;
-use word::zeros::zero_all;
 
 // Moves the words from `from` to `end` down to `to`, and returns the index after them.
 fn move_to(run: &mut [u32], to: usize, from: usize, end: usize) -> usize

@@ -15,6 +15,7 @@ use crate::ahead::Ahead;
 use crate::ahead::look_ahead;
 use crate::ahead::next_other;
 use crate::ahead::skip_to;
+use gap::zeros::zero_all;
 use word::answer::Answer;
 use word::answer::Refusal;
 use word::caps::DollarCount;
@@ -36,7 +37,6 @@ use word::programs::HALF_BITS;
 use word::programs::TWO_FIFTY_BITS;
 use word::strike::Strike;
 use word::strike::is_first_strike;
-use word::zeros::zero_all;
 
 mod ahead;
 

@@ -11,4 +11,3 @@ pub mod kind;
 pub mod limits;
 pub mod programs;
 pub mod strike;
-pub mod zeros;

@@ -5,8 +5,8 @@ use mathlib.Core.Path.{_≡_, refl, _∙_}
 use native.Mathlib.Omega.{arith}
 use lib.ListN.{length, drop, set, replicate, length-set, drop-of-length-le}
 use borrow.Author.Fill.{fill-more}
-use Rattle.word.proofs.zeros.zero_all.Statement.{statement}
-use Rattle.word.proofs.zeros.zero_all.Tie as tie
+use Rattle.gap.proofs.zeros.zero_all.Statement.{statement}
+use Rattle.gap.proofs.zeros.zero_all.Tie as tie
 
 record Zeroing (xs s : List ℕ) (i : ℕ) : Type 0 where
   within : i ≤ length xs
