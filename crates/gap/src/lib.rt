@@ -112,6 +112,9 @@ pub fn close_gap(words: &mut [u32], gap: usize)
     requires { ⌜ gap ≤ length (now words) ⌝ }
     ensures { λ _. ⌜ now (words .exit) ≡ closed gap (now (words .entry)) ⌝ }
 {
+    if gap == 0 {
+        return;
+    }
     let count = words.len() - gap;
     move_down(words, gap);
     zero_all(&mut words[count..]);

@@ -1,8 +1,14 @@
--- `close_gap` closes the gap: the words are moved down, and the part that is freed is zeroed. Assumes nothing.
+-- `close_gap` closes the gap: the words are moved down, and the part that is freed is zeroed; a gap of no words is
+-- closed. Assumes nothing.
+use mathlib.Core.List.{append-nil}
+use mathlib.Core.Path.{sym}
 use borrow.Author.Needs.{needs}
 use Rattle.gap.proofs.Shifts.{gap-closed}
 use Rattle.gap.proofs.close_gap.Statement.{statement}
 use Rattle.gap.proofs.close_gap.Tie as tie
+
+returns : tie.Need-returns
+returns c = rw (c .if1 .taken) (sym (append-nil (c .before .before .args .words .now)))
 
 sub-count : tie.Need-sub-count
 sub-count c = search needs
@@ -28,11 +34,11 @@ zero-all-requires c κs = search needs
 same-length : tie.Need-same-length
 same-length c = search needs
 
-returns : tie.Need-returns
-returns c =
+returns-2 : tie.Need-returns-2
+returns-2 c =
     let zeroed = c .before .before in
     let moved = zeroed .before .before .before .before in
-    let s = moved .before .before .before in
+    let s = moved .before .before .before .before in
     gap-closed (s .args .gap) (s .args .words .now) _ _ (s .pre) (moved .move-down .ensures)
     (zeroed .zero-all .ensures)
 
@@ -40,6 +46,7 @@ pub close-gap-spec : {M : Type 1} → statement M
 close-gap-spec =
     tie.close
     (tie.spec
+    returns
     sub-count
     move-down-requires
     mul-zero-all
@@ -48,4 +55,4 @@ close-gap-spec =
     part-zero-all-end
     zero-all-requires
     same-length
-    returns)
+    returns-2)
