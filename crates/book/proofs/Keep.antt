@@ -146,7 +146,7 @@ module _
       → wordsTaken (update (withSeries ss (class f c)) f) ≤ n
   fewer-words ss l = omega (arith, sum-after wordsOf (withSeries ss (class f c)) class-number, w .room)
 
-  keep-only : (keep : Series → Bool) → Well n (update (withSeries (only keep (class f c .series)) (class f c)) f)
+  pub keep-only : (keep : Series → Bool) → Well n (update (withSeries (only keep (class f c .series)) (class f c)) f)
   keep-only keep =
       let ss = class f c .series in
       keep-series (only keep ss) (series-only (f .now) (f .now) keep (λ s k t. t) ss (series-good n f c good is-open))

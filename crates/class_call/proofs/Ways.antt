@@ -36,7 +36,7 @@ use Rattle.place.specs.Search.{isFrom}
 use Rattle.place.proofs.Heads.{book-good, book-form, book-is, book-room, book-long}
 use Rattle.place.proofs.Found.{begins-room, figures-found, class-ended}
 use Rattle.edit.specs.EditsAsked.{Openable}
-use Rattle.removal.specs.RemovalsAsked.{Reviewable}
+use Rattle.review.specs.ReviewsAsked.{Reviewable}
 
 -- ---- an open class
 

@@ -15,7 +15,7 @@ use place::lookup::is_open_at;
 use place::lookup::next_class;
 use place::lookup::open_at;
 use removal::expiry::expire;
-use removal::review;
+use review::review_all;
 use word::answer::Answer;
 use word::answer::Refusal;
 use word::figures;
@@ -139,5 +139,5 @@ pub fn review_class(run: &mut [u32], c: u32, places: &mut [u32]) -> Answer
     }
     let from = at + figures::LENGTH;
     let to = next_class(run, from);
-    Answer::Removed(review(run, from, to, figures.close) as u32)
+    Answer::Removed(review_all(run, from, to, figures.close) as u32)
 }

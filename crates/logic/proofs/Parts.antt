@@ -59,6 +59,16 @@ module _ {A : Type 0} where
   some-all p [] t = refl
   some-all p (x ∷ xs) t = rw (T-true (p x) (search ands)) (sym (lt-ltb 0 (suc (length xs)) (omega arith)))
 
+  pub only-append : (p : A → Bool) (xs ys : List A) → only p (xs ++ ys) ≡ only p xs ++ only p ys
+  only-append p [] ys = refl
+  only-append p (x ∷ xs) ys = go (p x) (only-append p xs ys)
+    where
+      go :
+          (b : Bool) → only p (xs ++ ys) ≡ only p xs ++ only p ys
+          → cond b (x ∷ only p (xs ++ ys)) (only p (xs ++ ys)) ≡ cond b (x ∷ only p xs) (only p xs) ++ only p ys
+      go true r = ap (λ (l : List A). x ∷ l) r
+      go false r = r
+
   pub only-both : (p q : A → Bool) (xs : List A) → only q (only p xs) ≡ only (λ x. p x && q x) xs
   only-both p q [] = refl
   only-both p q (x ∷ xs) = go (p x) (only-both p q xs)

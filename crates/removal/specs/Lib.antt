@@ -1,5 +1,2 @@
-pub mod Rewriting
-pub mod Marks
-pub mod Compaction
 pub mod Expiry
 pub mod RemovalsAsked

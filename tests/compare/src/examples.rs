@@ -1,5 +1,5 @@
-//! Document 01's examples and those of #101, with the answers that the papers give, asserted of both
-//! sides.
+//! Document 01's examples and those of the change requests, with the answers that the papers give,
+//! asserted of both sides.
 
 use crate::pair::{same, same_words, Pair};
 use calls::Tally;
@@ -247,6 +247,15 @@ pub fn compare(tally: &mut Tally) -> Result<(), String> {
              I 7 5 105 0 1 / R 7 / I 7 5 105 0 0 / R 7 / I 7 5 55 0 0 / R 7 / J 7 5 55"
                 .to_string(),
             "0 / 0 / 0 / 0 / 0 4 / 0 4 / 0 / 0 1 / 0 / 0 / 0 0 / 0 / 0 1 / 0 / 0 0 / 6".to_string(),
+        ),
+        (
+            "#102 over three expirations: none marked, $7 marked, and one that loses its only strike",
+            4_096,
+            format!(
+                "{reviewed} / L 7 6 14 / L 7 6 38 / I 7 6 14 1 0 / L 7 8 38 / R 7 / J 7 5 14 / L 7 5 16 / J 7 5 38 / \
+                 L 7 5 40 / L 7 6 14 / J 7 6 38 / J 7 8 38 / R 7"
+            ),
+            format!("{stood} / 0 1 / 0 1 / 0 / 0 1 / 0 4 / 0 1 / 6 / 0 1 / 6 / 6 / 0 1 / 0 1 / 0 0"),
         ),
         (
             "malformed lines",

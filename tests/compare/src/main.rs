@@ -1,6 +1,7 @@
 //! Compares the static library and the sheet program with `second`, document 01 written a second time:
-//! document 01's examples and #101's, sheets of several pieces, pairs of lists, and more than a million
-//! generated calls from fixed seeds. It fails at the first difference, with its seed and its call.
+//! document 01's examples and those of the requests, sheets of several pieces, pairs of lists, and more
+//! than a million generated calls from fixed seeds. It fails at the first difference, with its seed and
+//! its call.
 
 mod examples;
 mod lists;
@@ -20,7 +21,7 @@ const LEAST_CALLS: u64 = 1_000_000;
 
 fn compare(tally: &mut Tally) -> Result<(), String> {
     examples::compare(tally)?;
-    println!("document 01's examples and #101's agree");
+    println!("document 01's examples and those of the requests agree");
     program::compare()?;
     two_lists::compare()?;
     let parts: [(&str, Part); 3] = [

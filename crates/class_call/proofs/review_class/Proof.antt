@@ -12,7 +12,7 @@ use Rattle.book.specs.Calls.{on, callR, effectOn}
 use Rattle.book.proofs.Answered.{made-beyond, made-not-open}
 use Rattle.book.proofs.OpenPlaces.{place-none}
 use Rattle.place.proofs.Heads.{book-long}
-use Rattle.removal.specs.RemovalsAsked.{Reviewable}
+use Rattle.review.specs.ReviewsAsked.{Reviewable}
 use Rattle.class_call.proofs.Ways.{open-within, open-room, Found, review-no-close, class-reviewable, review-count, review-made}
 use Rattle.class_call.proofs.review_class.Statement.{statement}
 use Rattle.class_call.proofs.review_class.Tie as tie
@@ -118,8 +118,8 @@ next-class-requires c κs =
       within = open-within _ book _ _ (sought p .open-at .ensures) (p .if2 .left);
     }
 
-review-requires : tie.Need-review-requires
-review-requires c κs = reviewable (c .before)
+review-all-requires : tie.Need-review-all-requires
+review-all-requires c κs = reviewable (c .before)
 
 cast-t24 : tie.Need-cast-t24
 cast-t24 c =
@@ -129,7 +129,7 @@ cast-t24 c =
     omega (
       arith,
       review-count _ _ (start q .pre) (within q) _ _ (found (reading p)) _
-          (reviewed .review .ensures (reviewable p) .0),
+          (reviewed .review-all .ensures (reviewable p) .0),
     )
 
 same-length-5 : tie.Need-same-length-5
@@ -144,7 +144,7 @@ returns-4 c =
     let p = reviewed .before .before in
     let closed = p .before .before in
     let q = limited (reading p .before .before) in
-    review-made _ _ (start q .pre) (within q) _ _ (found (reading p)) _ _ (reviewed .review .ensures (reviewable p))
+    review-made _ _ (start q .pre) (within q) _ _ (found (reading p)) _ _ (reviewed .review-all .ensures (reviewable p))
     (closed .if3 .left)
 
 pub review-class-spec : {M : Type 1} → statement M
@@ -163,7 +163,7 @@ review-class-spec =
     returns-3
     add-from
     next-class-requires
-    review-requires
+    review-all-requires
     cast-t24
     same-length-5
     same-length-6
