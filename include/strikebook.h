@@ -7,6 +7,7 @@
  *   class         a stock with options: its class number, 1 to 16,383
  *   month         a count of months, 0 to 1,023; the book holds the current one, 0 at first
  *   close         the stock's closing price in cents, 1 to 999,999
+ *   low, high     the day's lowest and highest price in cents, 1 to 999,999
  *   volume        the national average of contracts a day, 0 to 9,999,999
  *   strike        in half dollars, 1 to 19,999: 25 is $12.50
  *   program       an enum strike_book_program
@@ -35,8 +36,9 @@
  * threads at once, and a run that is lent as const may be lent to several calls at once.
  *
  * ANSWERS
- * Each call answers a number and a value. Number 0 is acceptance; 1 to 15 are refusals, the lowest
- * that applies. A refusal changes no word of any run, and its value is 0, except where
+ * Each call answers a number and a value. Number 0 is acceptance; the others are refusals. Of those
+ * that apply the first is given, in the order of enum strike_book_number, which is not everywhere
+ * that of the numbers. A refusal changes no word of any run, and its value is 0, except where
  * strike_book_list_permitted is refused with STRIKE_BOOK_OUT_OF_WORDS. The value of an accepted
  * call is said with the call, and is 0 where nothing is said.
  *
@@ -44,16 +46,18 @@
  * Bits 28 to 31 are a word's kind, bit 0 is the lowest, and bits that are not named are 0.
  *   1 head         current month in bits 0 to 9, words used (this one too) in 10 to 25
  *   2 class        number in bits 0 to 13, designation in the $1 program in 14 to 15, in the $0.50
- *                  program in 16 to 17 and in the $2.50 program in 18 to 19; followed by its close
- *                  and its volume
+ *                  program in 16 to 17 and in the $2.50 program in 18 to 19; followed by its close,
+ *                  its volume, its low and its high
  *   3 close        bits 0 to 19, 0 where none has come
  *   4 volume       bits 0 to 23
  *   5 expiration   month in bits 0 to 9; followed by its strikes, at least one
  *   6 strike       half dollars in bits 0 to 14, ground in 15 to 17, put mark in 18, call mark
  *                  in 19
+ *   7 low or high  bits 0 to 19, 0 where no close has come
  * The head comes first. Classes rise by number, the expirations of a class by month, the strikes of
- * an expiration by height, none twice. Expirations lie from the current month to 39 months after
- * it. Words past those used are 0.
+ * an expiration by height, none twice. Where a class has a close, its low is at least 1 and at most
+ * the close, and its high at least the close. Expirations lie from the current month to 39 months
+ * after it. Words past those used are 0.
  */
 #ifndef STRIKEBOOK_H
 #define STRIKEBOOK_H
@@ -66,7 +70,7 @@
 extern "C" {
 #endif
 
-/* The number of an answer. */
+/* The number of an answer. Refusals stand in the order in which they are tested. */
 enum strike_book_number {
     STRIKE_BOOK_ACCEPTED = 0,
     /* The run is no book; or strike_book_fresh or strike_book_compare_lists was lent a run of no
@@ -87,6 +91,8 @@ enum strike_book_number {
     STRIKE_BOOK_NOT_STANDING = 7,
     /* The class has no close yet. */
     STRIKE_BOOK_NO_CLOSE = 8,
+    /* The low is above the close, or the high is below it. */
+    STRIKE_BOOK_CLOSE_OUTSIDE = 16,
     /* Close or volume of the class does not qualify for the program. */
     STRIKE_BOOK_NOT_QUALIFIED = 9,
     /* The program has as many classes of our own as it may have: 150 ($1), 20 ($0.50), 60
@@ -94,12 +100,13 @@ enum strike_book_number {
     STRIKE_BOOK_CAP_REACHED = 10,
     /* The strike is on no ground's grid. */
     STRIKE_BOOK_OFF_GRID = 11,
-    /* The strike is on some ground's grid, and out of range of the close for each of these. In
-     * range is, at a close above $20, from half the close to one and a half times it; at $20 or
-     * less, up to twice the close, and the five lowest strikes above it: of whole dollars for
-     * STANDARD and DOLLAR in a near expiration of the $1 program, else of the ground's own grid.
-     * A WING is in range when the multiples of $5 below and above it are, as STANDARD. TWO_FIFTY
-     * has the range of STANDARD, and its own strikes are not among the five. */
+    /* The strike is on some ground's grid, and for each of these out of range at the low and at the
+     * high. In range is, at a price above $20, from half the price to one and a half times it; at
+     * $20 or less, up to twice the price, and the five lowest strikes above it: of whole dollars
+     * for STANDARD and DOLLAR in a near expiration of the $1 program, else of the ground's own
+     * grid. A WING is in range at a price for which its grid has it, and at which the multiples of
+     * $5 below and above it are in range as STANDARD. TWO_FIFTY has the range of STANDARD, and its
+     * own strikes are not among the five. */
     STRIKE_BOOK_OUT_OF_RANGE = 12,
     /* The strike is on a grid and in range, and too near to one that stands: within $1 in a long
      * expiration; within $0.50 where one is on the ground DOLLAR and the other is on the ground
@@ -123,8 +130,9 @@ enum strike_book_ground {
     /* Half dollars to $5.50: near expirations, $0.50 program, close at most $5, volume at least
      * 1,000. */
     STRIKE_BOOK_HALF = 2,
-    /* Strikes $2 or $3 above a multiple of $5, below $50: long expirations, $1 program, close
-     * below $50. */
+    /* Between two neighbouring multiples of $5, from $5 to $50: $2 above the lower one where the
+     * upper one is at or above the low or the high, $3 above it where the upper one is at or below
+     * the low or the high. Long expirations, $1 program, close below $50. */
     STRIKE_BOOK_WING = 3,
     /* Multiples of $2.50 above $25 and below $50, and from $50 to $100 those at most $10 from the
      * close: near expirations, $2.50 program. A class that is in the $1 program too has only
@@ -165,13 +173,21 @@ strike_book_reply strike_book_fresh(uint32_t *run, size_t run_length);
  * accepted. Refuses NOT_A_BOOK, BEYOND_LIMITS, MONTH_OUTSIDE. */
 strike_book_reply strike_book_set_month(uint32_t *run, size_t run_length, uint32_t month);
 
-/* Opens a class with no close, volume 0, in no program, with no strike. It takes 3 words. Refuses
+/* Opens a class with no close, volume 0, in no program, with no strike. It takes 5 words. Refuses
  * NOT_A_BOOK, BEYOND_LIMITS, ALREADY_OPEN, OUT_OF_WORDS. */
 strike_book_reply strike_book_open_class(uint32_t *run, size_t run_length, uint32_t class_number);
 
-/* Sets the close of a class. Its strikes stay. Refuses NOT_A_BOOK, BEYOND_LIMITS, NOT_OPEN. */
+/* Sets the close of a class, and its low and its high to the same price. Its strikes stay. Refuses
+ * NOT_A_BOOK, BEYOND_LIMITS, NOT_OPEN. */
 strike_book_reply strike_book_set_close(uint32_t *run, size_t run_length, uint32_t class_number,
                                         uint32_t close);
+
+/* Sets the low and the high of a class, until its next close. Ranges and the places of wings go by
+ * them, a strike being in range where it is at the low or at the high; all else that goes by a
+ * price goes by the close. The strikes of the class stay. Refuses NOT_A_BOOK, BEYOND_LIMITS,
+ * NOT_OPEN, NO_CLOSE, CLOSE_OUTSIDE. */
+strike_book_reply strike_book_set_low_high(uint32_t *run, size_t run_length, uint32_t class_number,
+                                           uint32_t low, uint32_t high);
 
 /* Sets the volume of a class. Its strikes stay. Refuses NOT_A_BOOK, BEYOND_LIMITS, NOT_OPEN. */
 strike_book_reply strike_book_set_volume(uint32_t *run, size_t run_length, uint32_t class_number,
@@ -229,12 +245,12 @@ strike_book_reply strike_book_list_permitted(const uint32_t *run, size_t run_len
 /* Reads a whole sheet, bytes of text with one call a line, makes the calls in turn, and returns how
  * many lines there are. A line is a letter and its numbers in base ten without leading zeros, with
  * single spaces between, and ends in the byte 10, which the last line may lack:
- *   M month                       set_month        J class month strike             judge_strike
- *   O class                       open_class       X class month strike             delist_strike
- *   C class close                 set_close        I class month strike put call    mark_strike
+ *   M month                       set_month        L class month strike             list_strike
+ *   O class                       open_class       J class month strike             judge_strike
+ *   C class close                 set_close        X class month strike             delist_strike
+ *   H class low high              set_low_high     I class month strike put call    mark_strike
  *   V class volume                set_volume       R class                          review_class
  *   D class program designation   designate        A class month                    list_permitted
- *   L class month strike          list_strike
  * Any other line, an empty one too, is malformed and refused with BEYOND_LIMITS, and the sheet goes
  * on. Each A writes to the second run from its front. The number and the value of each line's
  * answer are written to `answers`, two words a line, as far as it has places; every line is read
@@ -246,18 +262,18 @@ size_t strike_book_run_sheet(uint32_t *run, size_t run_length, uint32_t *second,
 
 /* Makes a fresh book of each of two runs, whatever they hold, makes one list of calls on each, and
  * says whether the two books are equal: the value is 1 where every word is, and that is so exactly
- * when the same facts stand in both (the current month; each open class with its close, its volume,
- * its designations and its strikes), and 0 where the books differ. `left` is then the book that
- * `calls` leaves, and `right` the book that `others` leaves. The answers of the calls in the lists
- * are not told. Refuses NOT_A_BOOK where a length is 0 or above 65,535, or the two runs have not
- * the same length; then nothing is written.
+ * when the same facts stand in both (the current month; each open class with its close, its low,
+ * its high, its volume, its designations and its strikes), and 0 where the books differ. `left` is
+ * then the book that `calls` leaves, and `right` the book that `others` leaves. The answers of the
+ * calls in the lists are not told. Refuses NOT_A_BOOK where a length is 0 or above 65,535, or the
+ * two runs have not the same length; then nothing is written.
  *
  * A list of calls is words, eight a call, for any number of calls:
  *   word 0        the letter of the call, as a sheet writes it, in ASCII: 77 is M
  *   word 1        how many numbers it has
  *   words 2 to 6  the numbers, in the order of a sheet's line; those past their count are ignored
  *   word 7        for A the length of the second run that it is lent; else it is ignored
- * Words left over after the last eight are no call. A letter that is none of the eleven, or one
+ * Words left over after the last eight are no call. A letter that is none of the twelve, or one
  * with another count of numbers than its line has, counts as a malformed line: it is refused and
  * changes nothing. A count above 5 is taken for 5.
  *

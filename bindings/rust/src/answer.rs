@@ -12,14 +12,15 @@ pub enum Ground {
     Dollar = 1,
     /// Half dollars to $5.50: near expirations, $0.50 program, close at most $5, volume at least 1,000.
     Half = 2,
-    /// $2 or $3 above a multiple of $5, below $50: long expirations, $1 program, close below $50.
+    /// $2 or $3 above a multiple of $5, below $50, by its place beside the low or the high: long expirations,
+    /// $1 program, close below $50.
     Wing = 3,
     /// Multiples of $2.50 above $25 and below $50 (in the $1 program only of $5), and from $50 to $100 those
     /// at most $10 from the close: near expirations, $2.50 program.
     TwoFifty = 4,
 }
 
-/// Why a call was refused. Of several reasons it is the one with the lowest number.
+/// Why a call was refused. Of several reasons it is the one that stands first here.
 #[derive(Clone, Copy, Debug, PartialEq, Eq)]
 pub enum Refusal {
     /// 1: the run is no book.
@@ -39,13 +40,15 @@ pub enum Refusal {
     NotStanding,
     /// 8: the class has no close yet.
     NoClose,
+    /// 16: the low is above the close, or the high is below it.
+    CloseOutside,
     /// 9: close or volume does not qualify for the program.
     NotQualified,
     /// 10: the program has as many classes of our own as it may have.
     CapReached,
     /// 11: the strike is on no ground's grid.
     OffGrid,
-    /// 12: the strike is on a grid, and out of range of the close.
+    /// 12: the strike is on a grid, and out of range at the low and at the high.
     OutOfRange,
     /// 13: the strike is on a grid and in range, and too near to one that stands.
     TooClose,
@@ -60,7 +63,7 @@ pub enum Refusal {
 }
 
 impl Refusal {
-    /// The number of the refusal, 1 to 15.
+    /// The number of the refusal, 1 to 16.
     pub fn number(self) -> u32 {
         match self {
             Refusal::NotABook => 1,
@@ -71,6 +74,7 @@ impl Refusal {
             Refusal::AlreadyStanding => 6,
             Refusal::NotStanding => 7,
             Refusal::NoClose => 8,
+            Refusal::CloseOutside => 16,
             Refusal::NotQualified => 9,
             Refusal::CapReached => 10,
             Refusal::OffGrid => 11,
@@ -91,6 +95,7 @@ impl Refusal {
             6 => Refusal::AlreadyStanding,
             7 => Refusal::NotStanding,
             8 => Refusal::NoClose,
+            16 => Refusal::CloseOutside,
             9 => Refusal::NotQualified,
             10 => Refusal::CapReached,
             11 => Refusal::OffGrid,
@@ -116,10 +121,11 @@ impl fmt::Display for Refusal {
             Refusal::AlreadyStanding => "the strike stands already",
             Refusal::NotStanding => "the strike does not stand",
             Refusal::NoClose => "the class has no close yet",
+            Refusal::CloseOutside => "the low is above the close, or the high is below it",
             Refusal::NotQualified => "close or volume does not qualify for the program",
             Refusal::CapReached => "the cap of the program is reached",
             Refusal::OffGrid => "the strike is on no grid",
-            Refusal::OutOfRange => "the strike is out of range of the close",
+            Refusal::OutOfRange => "the strike is out of range at the low and at the high",
             Refusal::TooClose => "the strike is too near to one that stands",
             Refusal::OpenInterest => "the strike has open interest",
             Refusal::OutOfWords { .. } => "the run has too few words",

@@ -2,7 +2,7 @@
 //! proved for every input (`include/strikebook.h` says what each means).
 //!
 //! A book lives in a run of 1 to 65,535 words that the caller lends. Classes are numbered 1 to
-//! 16,383, months 0 to 1,023, closes are in cents (1 to 999,999), volumes in contracts a day (0 to
+//! 16,383, months 0 to 1,023, prices are in cents (1 to 999,999), volumes in contracts a day (0 to
 //! 9,999,999) and strikes in half dollars (1 to 19,999: 25 is $12.50). Any other number is refused
 //! with [`Refusal::BeyondLimits`]. A refused call changes nothing.
 //!
@@ -70,7 +70,7 @@ pub type CallRecord = [u32; 8];
 ///
 /// A call is eight words: the ASCII code of its letter, how many numbers it has, five numbers of
 /// which the first so many count, and for `A` the length of the second run. A letter that is none
-/// of the eleven, or another count of numbers, is a malformed line, which changes nothing. Each `A`
+/// of the twelve, or another count of numbers, is a malformed line, which changes nothing. Each `A`
 /// writes to the front of the pool, and is lent as many of its words as it asks for, or all.
 ///
 /// [`Refusal::NotABook`] where the runs have no word, more than 65,535, or not the same length;
@@ -136,9 +136,15 @@ impl<'a> Book<'a> {
         done(library::open_class(self.run, class))
     }
 
-    /// Sets the close of a class, in cents.
+    /// Sets the close of a class, in cents, and its low and its high to the same price.
     pub fn set_close(&mut self, class: u32, close: u32) -> Result<(), Refusal> {
         done(library::set_close(self.run, class, close))
+    }
+
+    /// Sets the day's low and high of a class, in cents, until its next close. The low is at most the
+    /// close, the high at least the close. A strike is in range where it is at the low or at the high.
+    pub fn set_low_high(&mut self, class: u32, low: u32, high: u32) -> Result<(), Refusal> {
+        done(library::set_low_high(self.run, class, low, high))
     }
 
     /// Sets the volume of a class, in contracts a day.

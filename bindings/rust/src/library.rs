@@ -24,6 +24,13 @@ mod raw {
         pub fn strike_book_set_month(run: *mut u32, length: usize, m: u32) -> Reply;
         pub fn strike_book_open_class(run: *mut u32, length: usize, c: u32) -> Reply;
         pub fn strike_book_set_close(run: *mut u32, length: usize, c: u32, p: u32) -> Reply;
+        pub fn strike_book_set_low_high(
+            run: *mut u32,
+            length: usize,
+            c: u32,
+            low: u32,
+            high: u32,
+        ) -> Reply;
         pub fn strike_book_set_volume(run: *mut u32, length: usize, c: u32, n: u32) -> Reply;
         pub fn strike_book_designate(run: *mut u32, length: usize, c: u32, p: u32, d: u32)
             -> Reply;
@@ -119,11 +126,18 @@ pub fn open_class(run: &mut [u32], c: u32) -> Reply {
     unsafe { raw::strike_book_open_class(run.as_mut_ptr(), run.len(), c) }
 }
 
-/// `C`: sets the close.
+/// `C`: sets the close, and low and high to it.
 #[inline]
 pub fn set_close(run: &mut [u32], c: u32, p: u32) -> Reply {
     // SAFETY: the slice is valid for reading and writing its length, and borrowed by us alone.
     unsafe { raw::strike_book_set_close(run.as_mut_ptr(), run.len(), c, p) }
+}
+
+/// `H`: sets the day's low and high.
+#[inline]
+pub fn set_low_high(run: &mut [u32], c: u32, low: u32, high: u32) -> Reply {
+    // SAFETY: the slice is valid for reading and writing its length, and borrowed by us alone.
+    unsafe { raw::strike_book_set_low_high(run.as_mut_ptr(), run.len(), c, low, high) }
 }
 
 /// `V`: sets the volume.

@@ -163,9 +163,149 @@ fn strikes_of_the_two_fifty_program() {
     assert_eq!(book.judge_strike(7, 5, 115), Ok(Ground::TwoFifty));
 }
 
+/// The words of `at_close`, whose class has no strike.
+fn words_of(close: u32, low: u32, high: u32) -> [u32; 6] {
+    let head = 1 << 28 | 6 << 10 | 4;
+    let (class, close, volume) = (2 << 28 | 7, 3 << 28 | close, 4 << 28);
+    [head, class, close, volume, 7 << 28 | low, 7 << 28 | high]
+}
+
+#[test]
+fn a_close_sets_low_and_high() {
+    let mut run = [0; 6];
+    let mut book = at_close(&mut run, 1_950);
+    assert_eq!(book.words(), words_of(1_950, 1_950, 1_950));
+    book.set_low_high(7, 1_900, 2_100).unwrap();
+    assert_eq!(book.words(), words_of(1_950, 1_900, 2_100));
+    book.set_low_high(7, 1_950, 1_950).unwrap();
+    assert_eq!(book.words(), words_of(1_950, 1_950, 1_950));
+    book.set_low_high(7, 1, 999_999).unwrap();
+    assert_eq!(book.words(), words_of(1_950, 1, 999_999));
+    book.set_close(7, 2_000).unwrap();
+    assert_eq!(book.words(), words_of(2_000, 2_000, 2_000));
+}
+
+#[test]
+fn lows_and_highs_that_are_refused() {
+    let mut run = [0; 64];
+    let mut book = at_close(&mut run, 1_950);
+    book.set_low_high(7, 1_900, 2_100).unwrap();
+    book.open_class(8).unwrap();
+    let words = book.words().to_vec();
+    for (class, low, high, refusal) in [
+        (7, 0, 1_950, Refusal::BeyondLimits),
+        (7, 1_950, 1_000_000, Refusal::BeyondLimits),
+        (0, 1_950, 1_950, Refusal::BeyondLimits),
+        (9, 0, 1_950, Refusal::BeyondLimits),
+        (9, 1_950, 1_950, Refusal::NotOpen),
+        (8, 1_950, 1_950, Refusal::NoClose),
+        (7, 1_951, 2_100, Refusal::CloseOutside),
+        (7, 1_900, 1_949, Refusal::CloseOutside),
+        (7, 2_100, 1_900, Refusal::CloseOutside),
+    ] {
+        let answer = book.set_low_high(class, low, high);
+        assert_eq!(answer, Err(refusal), "{class} {low} {high}");
+    }
+    assert_eq!(book.words(), words);
+    assert_eq!(Refusal::CloseOutside.number(), 16);
+}
+
+#[test]
+fn lows_and_highs_that_no_book_has() {
+    for (close, low, high, is) in [
+        (0, 0, 0, true),
+        (1_950, 1_950, 1_950, true),
+        (1_950, 1, 999_999, true),
+        (1_950, 1_951, 1_951, false),
+        (1_950, 1_949, 1_949, false),
+        (1_950, 0, 1_950, false),
+        (1_950, 1_950, 1_000_000, false),
+        (1_950, 0, 0, false),
+        (0, 1, 0, false),
+        (0, 0, 1, false),
+    ] {
+        let words = words_of(close, low, high);
+        assert_eq!(is_book(&words), is, "{close} {low} {high}");
+    }
+    let mut swapped = words_of(1_950, 1_950, 1_950);
+    swapped.swap(3, 4);
+    assert!(!is_book(&swapped));
+}
+
+#[test]
+fn ranges_at_the_low_and_at_the_high() {
+    let (mut run, mut second) = ([0; 64], [0; 64]);
+    let mut book = at_close(&mut run, 2_100);
+    let mut permitted = |book: &Book| book.list_permitted(7, 5, &mut second).unwrap().to_vec();
+    // At $21, from $10.50 to $31.50.
+    assert_eq!(permitted(&book), [25, 30, 35, 40, 45, 50, 60]);
+    // At $19, up to $38; the fifth strike above $19 is $35.
+    book.set_low_high(7, 1_900, 2_100).unwrap();
+    let wanted = [5, 10, 15, 20, 25, 30, 35, 40, 45, 50, 60, 70];
+    assert_eq!(permitted(&book), wanted);
+    // At $2 up to $12.50, the fifth above it; at $100 from $50 to $150.
+    book.set_close(7, 2_400).unwrap();
+    book.set_low_high(7, 200, 10_000).unwrap();
+    let wanted = [5, 10, 15, 20, 25].into_iter();
+    let wanted: Vec<u32> = wanted.chain((100..=300).step_by(10)).collect();
+    assert_eq!(permitted(&book), wanted);
+    assert_eq!(book.judge_strike(7, 5, 50), Err(Refusal::OutOfRange));
+}
+
+#[test]
+fn wings_at_the_low_and_at_the_high() {
+    let (mut run, mut second) = ([0; 64], [0; 64]);
+    let mut book = at_close(&mut run, 2_475);
+    book.designate(7, Program::Dollar, Designation::Ours)
+        .unwrap();
+    assert_eq!(book.judge_strike(7, 13, 46), Err(Refusal::OffGrid));
+    book.set_low_high(7, 2_450, 2_500).unwrap();
+    assert_eq!(
+        book.list_permitted(7, 13, &mut second).unwrap(),
+        [30, 36, 40, 44, 46, 50, 54, 60, 64, 70]
+    );
+    assert_eq!(book.list_strike(7, 13, 44), Ok(Ground::Wing));
+    assert_eq!(book.judge_strike(7, 13, 46), Err(Refusal::TooClose));
+    // $37 has its place at $21 alone, where $35 is out of range; $38 has it at $45.
+    book.set_close(7, 3_000).unwrap();
+    assert_eq!(book.judge_strike(7, 13, 74), Ok(Ground::Wing));
+    book.set_low_high(7, 2_100, 4_500).unwrap();
+    assert_eq!(book.judge_strike(7, 13, 74), Err(Refusal::OutOfRange));
+    assert_eq!(book.judge_strike(7, 13, 76), Ok(Ground::Wing));
+}
+
+#[test]
+fn what_goes_by_the_close() {
+    let mut run = [0; 64];
+    let mut book = at_close(&mut run, 5_000);
+    let designate = |book: &mut Book, program, d| book.designate(7, program, d);
+    book.set_low_high(7, 2_000, 9_000).unwrap();
+    let refused = designate(&mut book, Program::Dollar, Designation::Ours);
+    assert_eq!(refused, Err(Refusal::NotQualified));
+    designate(&mut book, Program::Dollar, Designation::Another).unwrap();
+    assert_eq!(book.judge_strike(7, 5, 52), Err(Refusal::OffGrid));
+    book.set_close(7, 4_999).unwrap();
+    book.set_low_high(7, 2_000, 9_000).unwrap();
+    assert_eq!(book.judge_strike(7, 5, 52), Ok(Ground::Dollar));
+    // $62.50 is $10 from the high, and more from the close.
+    designate(&mut book, Program::TwoFifty, Designation::Ours).unwrap();
+    book.set_close(7, 4_850).unwrap();
+    book.set_low_high(7, 4_850, 5_250).unwrap();
+    assert_eq!(book.judge_strike(7, 5, 125), Err(Refusal::OffGrid));
+    assert_eq!(book.judge_strike(7, 5, 115), Ok(Ground::TwoFifty));
+    // $7 and $19 are $6 from the close; $8 is $5 from it.
+    book.set_close(7, 1_300).unwrap();
+    book.set_low_high(7, 700, 1_900).unwrap();
+    for strike in [14, 16, 38] {
+        assert_eq!(book.list_strike(7, 5, strike), Ok(Ground::Dollar));
+    }
+    assert_eq!(book.review_class(7), Ok(2));
+    assert_eq!(book.judge_strike(7, 5, 16), Err(Refusal::AlreadyStanding));
+}
+
 #[test]
 fn words_that_are_needed() {
-    let mut run = [0; 5];
+    let mut run = [0; 7];
     let mut book = at_close(&mut run, 200);
     assert_eq!(book.open_class(8), Err(Refusal::OutOfWords { needed: 0 }));
     assert_eq!(
@@ -273,6 +413,28 @@ fn lists_that_leave_two_designations() {
     for (d, equal) in [(0, true), (1, false), (2, false)] {
         let answer = compare_lists(&mut left, &mut right, &mut [], &designated(d), &opened);
         assert_eq!(answer, Ok(equal), "{d}");
+    }
+}
+
+#[test]
+fn lists_that_leave_two_lows_or_highs() {
+    let (mut left, mut right) = ([0; 64], [0; 64]);
+    let mut same = |calls: &[CallRecord], others: &[CallRecord]| {
+        compare_lists(&mut left, &mut right, &mut [], calls, others).unwrap()
+    };
+    let closed = [call(b'O', &[7], 0), call(b'C', &[7, 1_950], 0)];
+    for (low, high, equal) in [
+        (1_950, 1_950, true),
+        (1_949, 1_950, false),
+        (1_950, 1_951, false),
+        // Refused.
+        (1_951, 1_951, true),
+    ] {
+        let mut calls = closed.to_vec();
+        calls.push(call(b'H', &[7, low, high], 0));
+        assert_eq!(same(&calls, &closed), equal, "{low} {high}");
+        calls.push(call(b'C', &[7, 1_950], 0));
+        assert!(same(&calls, &closed), "{low} {high}");
     }
 }
 

@@ -13,7 +13,7 @@ use Rattle.book.specs.Facts.{Series, OpenClass, Facts, fresh, isOpen, wi
 use Rattle.book.specs.Books.{isWellFormed}
 use Rattle.book.specs.Views.{View, viewOf, class, isNotOpen, groundOf, isReviewed}
 use Rattle.book.specs.Changes.{newSeries, monthSet, factsAfter}
-use Rattle.book.specs.Calls.{ClassCall, Call, callM, on, callO, callC, callV, callD, callL, callJ, callX, callI, callR, callA, malformed, isGranted, step, steps, after, effectOn, acceptedFacts}
+use Rattle.book.specs.Calls.{ClassCall, Call, callM, on, callO, callC, callH, callV, callD, callL, callJ, callX, callI, callR, callA, malformed, isGranted, step, steps, after, effectOn, acceptedFacts}
 use Rattle.book.specs.Permission.{isPermitted, areWordsLeft}
 use Rattle.book.specs.Added.{standsOn, takesFrom, takesAway, removes, staysThrough, Added}
 use Rattle.logic.proofs.Tests.{and-left, and-right, and-intro, ands, T-true, true-T, equal-either-way, not-not, at-most}
@@ -107,6 +107,7 @@ module _ (n g c m h : ℕ) (f : Facts) (w : T (isWellFormed n f)) where
   unfolding effectOn takesFrom
   call-stands callO t = inr unchanged
   call-stands (callC p) t = inr (ap standsIn (made (search ands) _) ∙ unchanged)
+  call-stands (callH low high) t = inr (ap standsIn (made (search ands) _) ∙ unchanged)
   call-stands (callV v) t = inr (ap standsIn (made (search ands) _) ∙ unchanged)
   call-stands (callD p d) t = inr (ap standsIn (made (search ands) _) ∙ unchanged)
   call-stands (callL k i) t = go (eqb k m && eqb i h) refl (ap standsIn (made (search ands) _) ∙ listing-stands s)

@@ -1,4 +1,5 @@
--- Document 01's examples of calls, and a few that its own leave open, computed over the plain book. Assumes nothing.
+-- Document 01's examples of calls, a few that its own leave open, and those of request #103, computed over the plain
+-- book. Assumes nothing.
 use Prim.Native.Nat.{ℕ, zero, suc}
 use mathlib.Core.Path.{_≡_, refl, ap}
 use mathlib.Core.Bool.{cond, not}
@@ -12,9 +13,9 @@ use Rattle.word.specs.declared.answer.Refusal.the-variants.{BeyondLimits, OutOf
 use Rattle.word.specs.Answers.{answerNumber, answerValue, isAccepted}
 use Rattle.rule.specs.Ranges.{lowest, amongFive}
 use Rattle.book.specs.Facts.{OpenClass, Facts, fresh}
-use Rattle.book.specs.Views.{viewOf}
+use Rattle.book.specs.Views.{class, viewOf}
 use Rattle.book.specs.Changes.{monthSet, classOpened, reviewedCount, classGrown}
-use Rattle.book.specs.Calls.{Call, callM, on, callO, callC, callV, callD, callL, callJ, callX, callI, callR, callA, malformed, Condition, draws, firstOr, permittedIn, effect, answerTo, written, step, steps, after, effectOn}
+use Rattle.book.specs.Calls.{Call, callM, on, callO, callC, callH, callV, callD, callL, callJ, callX, callI, callR, callA, malformed, Condition, draws, firstOr, permittedIn, effect, answerTo, written, step, steps, after, effectOn}
 use Rattle.book.proofs.Permits.{permitted-short}
 
 -- the answer to each call of a list: its number, its value, and the words that it writes
@@ -45,7 +46,15 @@ openedFacts =
       now = 4;
       classes =
           record {
-            figures = record { number = 7; close = 200; volume = 0; designations = 1 ∷ 0 ∷ 0 ∷ [] };
+            figures =
+                record {
+                  number = 7;
+                  close = 200;
+                  volume = 0;
+                  low = 200;
+                  high = 200;
+                  designations = 1 ∷ 0 ∷ 0 ∷ [];
+                };
             series = [];
           }
           ∷ [];
@@ -142,20 +151,25 @@ review-between = refl
 
 -- ---- "The 151st class draws 10, and passes after a release."
 
+-- the class c with no close, volume or strike
+classDesignated : ℕ → List ℕ → OpenClass
+classDesignated c ds =
+    record {
+      figures = record { number = c; close = 0; volume = 0; low = 0; high = 0; designations = ds };
+      series = [];
+    }
+
 -- n classes from number c on with the designations `ours`, then one with none
 classesOwned : List ℕ → ℕ → ℕ → List OpenClass
-classesOwned ours zero c =
-    record { figures = record { number = c; close = 0; volume = 0; designations = 0 ∷ 0 ∷ 0 ∷ [] }; series = [] } ∷ []
-classesOwned ours (suc n) c =
-    record { figures = record { number = c; close = 0; volume = 0; designations = ours }; series = [] }
-    ∷ classesOwned ours n (suc c)
+classesOwned ours zero c = classDesignated c (0 ∷ 0 ∷ 0 ∷ []) ∷ []
+classesOwned ours (suc n) c = classDesignated c ours ∷ classesOwned ours n (suc c)
 
 cap-dollar :
     let owned : ℕ → Facts = λ n. record { now = 0; classes = classesOwned (1 ∷ 0 ∷ 0 ∷ []) n 1 } in
     numbers 4096 (on 150 (callC 4999) ∷ on 150 (callD 1 1) ∷ []) (owned 149)
     ++ numbers 4096 (on 151 (callC 4999) ∷ on 151 (callD 1 1) ∷ on 3 (callD 1 2) ∷ on 151 (callD 1 1) ∷ []) (owned 150)
     ≡ 0 ∷ 0 ∷ 0 ∷ 10 ∷ 0 ∷ 0 ∷ []
-unfolding numbers classesOwned
+unfolding numbers classDesignated classesOwned
 cap-dollar = refl
 
 -- #101: "up to 60 classes of our own"; "a new 1 needs the cap only, not a close"
@@ -164,7 +178,7 @@ cap-two-fifty :
     numbers 4096 (on 60 (callD 3 1) ∷ []) (owned 59)
     ++ numbers 4096 (on 61 (callD 3 1) ∷ on 3 (callD 3 2) ∷ on 61 (callD 3 1) ∷ on 61 (callD 3 1) ∷ []) (owned 60)
     ≡ 0 ∷ 10 ∷ 0 ∷ 0 ∷ 0 ∷ []
-unfolding numbers classesOwned
+unfolding numbers classDesignated classesOwned
 cap-two-fifty = refl
 
 -- n classes from number c on, openedFacts and made ours in the $0.50 program
@@ -214,10 +228,10 @@ qualification :
 unfolding numbers
 qualification = refl
 
--- ---- words: a class takes three, a strike one, and the first of its expiration one more
+-- ---- words: a class takes five (#103), a strike one, and the first of its expiration one more
 
 words-left :
-    numbers 6
+    numbers 8
     (on 1 callO
     ∷ on 1 (callC 200)
     ∷ on 1 (callL 5 5)
@@ -287,3 +301,51 @@ mistakes :
     ≡ 0 ∷ 5 ∷ 0 ∷ 0 ∷ 3 ∷ 4 ∷ 4 ∷ 4 ∷ 4 ∷ 5 ∷ 5 ∷ 5 ∷ 7 ∷ 7 ∷ 8 ∷ 8 ∷ 8 ∷ 8 ∷ 0 ∷ 0 ∷ []
 unfolding numbers
 mistakes = refl
+
+-- ---- #103, `H c low high`: 8 before a close; then 16 with the close outside, 2 beyond the limits, 4 with no class
+
+day-prices :
+    numbers 4096
+    (on 7 callO
+    ∷ on 7 (callH 190 210)
+    ∷ on 7 (callC 200)
+    ∷ on 7 (callH 201 210)
+    ∷ on 7 (callH 190 199)
+    ∷ on 7 (callH 0 210)
+    ∷ on 7 (callH 190 1000000)
+    ∷ on 8 (callH 190 210)
+    ∷ on 7 (callH 200 200)
+    ∷ on 7 (callH 1 999999)
+    ∷ on 7 (callC 220)
+    ∷ on 7 (callH 190 210)
+    ∷ [])
+    fresh
+    ≡ 0 ∷ 8 ∷ 0 ∷ 16 ∷ 16 ∷ 2 ∷ 2 ∷ 4 ∷ 0 ∷ 0 ∷ 0 ∷ 16 ∷ []
+unfolding numbers
+day-prices = refl
+
+-- what stands after a close of $2 and the calls xs
+quoted : List Call → Facts
+quoted xs = after 4096 (on 7 callO ∷ on 7 (callC 200) ∷ xs)
+
+lowAndHigh : Facts → List ℕ
+lowAndHigh f = class f 7 .figures .low ∷ class f 7 .figures .high ∷ []
+
+-- a close sets both, `H` sets them, and the next close sets both again
+close-resets :
+    lowAndHigh (quoted [])
+    ++ lowAndHigh (quoted (on 7 (callH 190 210) ∷ []))
+    ++ lowAndHigh (quoted (on 7 (callH 190 210) ∷ on 7 (callC 205) ∷ []))
+    ≡ 200 ∷ 200 ∷ 190 ∷ 210 ∷ 205 ∷ 205 ∷ []
+unfolding answers steps quoted lowAndHigh
+close-resets = refl
+
+-- two lists that differ in one `H` leave different books, and with a `C` after it equal ones
+low-high-differs : quoted (on 7 (callH 190 210) ∷ []) ≡ quoted (on 7 (callH 190 211) ∷ []) → ⊥
+unfolding answers steps quoted
+low-high-differs e = let high : _≡_ {A = ℕ} 210 211 = ap (λ f. class f 7 .figures .high) e in omega arith
+
+low-high-forgotten :
+    quoted (on 7 (callH 190 210) ∷ on 7 (callC 205) ∷ []) ≡ quoted (on 7 (callH 190 211) ∷ on 7 (callC 205) ∷ [])
+unfolding answers steps quoted
+low-high-forgotten = refl

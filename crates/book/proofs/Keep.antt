@@ -3,24 +3,25 @@
 -- nothing.
 use Prim.Native.Nat.{ℕ, _+_, _-_, _≤_, _<_, zero-le}
 use mathlib.Core.Path.{_≡_, refl, sym, ap, _∙_, subst}
-use mathlib.Core.Bool.{Bool, true, false, cond, not, _&&_}
+use mathlib.Core.Bool.{Bool, true, false, cond, not, _&&_, _||_}
 use mathlib.Core.List.{List, [], _∷_, map, map-map}
 use mathlib.Core.Logic.{_⊎_, inl, inr}
 use native.Mathlib.Omega.{arith}
 use lib.ListN.{length, getD, set, length-map, getD-replicate}
 use lib.Seq.{getD-set-same, getD-set-other}
 use lib.Dec.{T, eqb, leb, ltb, leb→le, nleb→lt, nltb→le}
-use borrow.Author.Tests.{eqb-true, eqb-false}
+use borrow.Author.Tests.{eqb-true, eqb-false, le-ltb}
 use Rattle.logic.specs.Lists.{sum, every, some, only}
 use Rattle.word.specs.declared.class.ClassRecord.{ClassRecord}
 use Rattle.word.specs.declared.answer.Answer.{Answer}
-use Rattle.word.specs.Limits.{isClassNumber, isStrike, isMonth, isLength, isDesignation, isGround, isMark, isClose, isVolume}
+use Rattle.word.specs.Limits.{isClassNumber, isStrike, isMonth, isLength, isDesignation, isGround, isMark, isPrice, isVolume, areDayPrices}
 use Rattle.word.specs.Caps.{own}
-use Rattle.word.specs.Class.{withClose, withVolume, designation, withDesignation}
+use Rattle.word.specs.Class.{withClose, withLowHigh, withVolume, designation, withDesignation}
 use Rattle.word.specs.declared.answer.Answer.the-variants.{Ground, Refused}
 use Rattle.word.specs.declared.answer.Refusal.the-variants.{OffGrid, OutOfRange, TooClose}
 use Rattle.word.specs.Answers.{answerValue, refusalValue}
 use Rattle.word.proofs.Counts.{own-at-most-one}
+use Rattle.word.proofs.RangeTests.{noneYet, rising}
 use Rattle.rule.specs.declared.terms.Setting.{Setting}
 use Rattle.rule.specs.Terms.{isOutside}
 use Rattle.rule.specs.Spacing.{Standing}
@@ -29,11 +30,11 @@ use Rattle.word.specs.Programs.{programs, programCount, isProgram, program, are
 use Rattle.book.specs.Facts.{Series, OpenClass, Facts, fresh, isBelow, number, newClass, isOpen, classOf, putClass, insertClass, withFigures, withSeries, isAt, insertSeries, owned, expirations, wordsOf, wordsTaken}
 use Rattle.word.specs.Figures.{areFigures}
 use Rattle.book.specs.Books.{isListed, isSeries, isClass, isWellFormed}
-use Rattle.book.specs.Views.{viewOf, class, isNotOpen, isStanding, setting, standingIn, rows, groundOf, isNew, isReviewed}
+use Rattle.book.specs.Views.{viewOf, class, isNotOpen, isStanding, isCloseOutside, setting, standingIn, rows, groundOf, isNew, isReviewed}
 use Rattle.book.specs.Changes.{update, monthSet, classOpened, classGrown}
-use Rattle.book.specs.Calls.{Call, callM, on, callO, callC, callV, callD, callL, callJ, callX, callI, callR, callA, malformed, effectOn, isCapReached, isGranted, step, steps, after, acceptedFacts}
+use Rattle.book.specs.Calls.{Call, callM, on, callO, callC, callH, callV, callD, callL, callJ, callX, callI, callR, callA, malformed, effectOn, isCapReached, isGranted, step, steps, after, acceptedFacts}
 use Rattle.book.specs.Permission.{factsWithStrike}
-use Rattle.logic.proofs.Tests.{and-intro, ands, true-T, nor-left, nor-right, not-not, not-leb, not-ltb, leb-shifted}
+use Rattle.logic.proofs.Tests.{and-intro, ands, true-T, or-right, nor-left, nor-right, not-not, not-leb, not-ltb, leb-shifted}
 use Rattle.logic.proofs.Lists.{every-imply, every-map, length-only, sum-map, same-keys, every-inserted, rises-inserted, sum-inserted}
 use Rattle.logic.proofs.Parts.{only-all, map-same}
 use Rattle.book.proofs.ClassWords.{class-good, series-good}
@@ -83,6 +84,21 @@ newly-cases d old reached t = go (eqb d 1) (eqb old 1) reached t
     go false b x u = inl zero-le
     go true true x u = inl (omega arith)
     go true false x u = inr u
+
+-- ---- prices
+
+-- a close with a low and a high that it is not outside of
+pub close-between :
+    (low close high : ℕ) → T (isPrice low) → T (isPrice high) → T (not (ltb close low || ltb high close))
+    → T (areDayPrices low close high)
+close-between low close high a b inside =
+    let under : T (leb low close) = not-ltb close low (search nor-left) in
+    let over : T (leb close high) = not-ltb high close (search nor-right) in
+    or-right (noneYet low close high) (rising low close high) (search (ands, and-intro))
+
+-- .. and one that is both
+pub close-alone : (p : ℕ) → T (isPrice p) → T (areDayPrices p p p)
+close-alone p t = close-between p p p t t (rw (le-ltb p p (omega arith)) tt)
 
 -- ---- one class put in its place
 
@@ -161,11 +177,22 @@ module _
       (fewer-words (map (markedAt m h a b) ss)
       (omega (arith, expirations-marked m h a b ss, length-map ss (markedAt m h a b))))
 
-  keep-close : (p : ℕ) → T (isClose p) → Well n (update (withFigures (withClose p (class f c .figures)) (class f c)) f)
+  keep-close : (p : ℕ) → T (isPrice p) → Well n (update (withFigures (withClose p (class f c .figures)) (class f c)) f)
   keep-close p t =
       let l = class-good n f c good is-open in
+      let prices = close-alone p t in
       keep-figures (withClose p (class f c .figures)) class-number (search (ands, and-intro) depth 12)
       (λ q k. cap-kept (withFigures (withClose p (class f c .figures)) (class f c)) class-number q k (omega arith))
+
+  keep-low-high :
+      (low high : ℕ) → T (isPrice low) → T (isPrice high) → T (not (isCloseOutside (viewOf c f) low high))
+      → Well n (update (withFigures (withLowHigh low high (class f c .figures)) (class f c)) f)
+  keep-low-high low high a b o =
+      let l = class-good n f c good is-open in
+      let prices = close-between low (class f c .figures .close) high a b o in
+      keep-figures (withLowHigh low high (class f c .figures)) class-number (search (ands, and-intro) depth 12)
+      (λ q k.
+      cap-kept (withFigures (withLowHigh low high (class f c .figures)) (class f c)) class-number q k (omega arith))
 
   keep-volume :
       (v : ℕ) → T (isVolume v) → Well n (update (withFigures (withVolume v (class f c .figures)) (class f c)) f)
@@ -349,6 +376,8 @@ effect-well n (callM m) f w t = keep-month n f m w (nltb→le m (f .now) (search
 effect-well n (on c callO) f w t =
     keep-open n c f w (search ands) (search ands) (nltb→le n (wordsTaken (classOpened c f)) (search ands))
 effect-well n (on c (callC p)) f w t = keep-close n f c w (search ands) (search ands) p (search ands)
+effect-well n (on c (callH low high)) f w t =
+    keep-low-high n f c w (search ands) (search ands) low high (search ands) (search ands) (search ands)
 effect-well n (on c (callV v)) f w t = keep-volume n f c w (search ands) (search ands) v (search ands)
 effect-well n (on c (callD p d)) f w t =
     keep-designation n f c w (search ands) (search ands) p d (search ands) (search ands) (search ands)

@@ -3,8 +3,8 @@
 use Prim.Native.Nat.{ℕ, _+_, _*_, _^_}
 use mathlib.Core.Path.{_≡_, refl}
 use mathlib.Core.Bool.{true, false}
-use mathlib.Core.List.{List, [], _∷_}
-use lib.ListN.{set}
+use mathlib.Core.List.{List, [], _∷_, map}
+use lib.ListN.{length, set}
 use Rattle.word.specs.Codec.{reading}
 use Rattle.book.specs.Facts.{Series, Facts}
 use Rattle.book.specs.Layout.{layout, factsOf}
@@ -13,15 +13,23 @@ use Rattle.book.specs.Books.{isWellFormed, isBook}
 series : (month strike ground put call : ℕ) → Series
 series m h g a b = record { month = m; strike = h; ground = g; put = a; call = b }
 
--- month 5; class 7, designations 1, 2 and 1, close $25, volume 1,200; in month 6 the strikes $25 and $26, in month 9
--- the strikes $22.50 and $27.50
+-- month 5; class 7, designations 1, 2 and 1, close $25, volume 1,200, low $24.50, high $26; in month 6 the strikes $25
+-- and $26, in month 9 the strikes $22.50 and $27.50
 facts : Facts
 facts =
     record {
       now = 5;
       classes =
           record {
-            figures = record { number = 7; close = 2500; volume = 1200; designations = 1 ∷ 2 ∷ 1 ∷ [] };
+            figures =
+                record {
+                  number = 7;
+                  close = 2500;
+                  volume = 1200;
+                  low = 2450;
+                  high = 2600;
+                  designations = 1 ∷ 2 ∷ 1 ∷ [];
+                };
             series = series 6 50 1 1 0 ∷ series 6 52 0 0 0 ∷ series 9 45 3 1 1 ∷ series 9 55 4 0 0 ∷ [];
           }
           ∷ [];
@@ -35,6 +43,8 @@ run count rest =
     ∷ (2 ^ 29 + 2 ^ 18 + 2 ^ 17 + 2 ^ 14 + 7)
     ∷ (2 ^ 29 + 2 ^ 28 + 2500)
     ∷ (2 ^ 30 + 1200)
+    ∷ (2 ^ 30 + 2 ^ 29 + 2 ^ 28 + 2450)
+    ∷ (2 ^ 30 + 2 ^ 29 + 2 ^ 28 + 2600)
     ∷ (2 ^ 30 + 2 ^ 28 + 6)
     ∷ (2 ^ 30 + 2 ^ 29 + 2 ^ 18 + 2 ^ 15 + 50)
     ∷ (2 ^ 30 + 2 ^ 29 + 52)
@@ -51,63 +61,101 @@ expiration : List ℕ
 expiration = (2 ^ 30 + 2 ^ 28 + 10) ∷ 0 ∷ 0 ∷ []
 
 bareClass : ℕ → List ℕ
-bareClass c = (2 ^ 29 + c) ∷ (2 ^ 29 + 2 ^ 28) ∷ 2 ^ 30 ∷ []
+bareClass c = (2 ^ 29 + c) ∷ (2 ^ 29 + 2 ^ 28) ∷ 2 ^ 30 ∷ (2 ^ 30 + 2 ^ 29 + 2 ^ 28) ∷ (2 ^ 30 + 2 ^ 29 + 2 ^ 28) ∷ []
 
 -- ---- books
 
-layout-words : layout 13 facts ≡ run 10 (0 ∷ 0 ∷ 0 ∷ [])
+layout-words : layout 15 facts ≡ run 12 (0 ∷ 0 ∷ 0 ∷ [])
 unfolding layout facts series run
 layout-words = refl
 
-is-book : isBook (run 10 (0 ∷ 0 ∷ 0 ∷ [])) ≡ true
+is-book : isBook (run 12 (0 ∷ 0 ∷ 0 ∷ [])) ≡ true
 unfolding isBook isWellFormed factsOf layout reading run
 is-book = refl
 
-strike-more : isBook (run 11 strike) ≡ true
+strike-more : isBook (run 13 strike) ≡ true
 unfolding isBook isWellFormed factsOf layout reading run strike
 strike-more = refl
 
-class-more : isBook (run 13 (bareClass 8)) ≡ true
+class-more : isBook (run 17 (bareClass 8)) ≡ true
 unfolding isBook isWellFormed factsOf layout reading run bareClass
 class-more = refl
 
 -- ---- no books
 
 -- bit 20 of a class word has no name
-stray-bit : isBook (set (run 10 (0 ∷ 0 ∷ 0 ∷ [])) 1 (2 ^ 29 + 2 ^ 20 + 2 ^ 18 + 2 ^ 17 + 2 ^ 14 + 7)) ≡ false
+stray-bit : isBook (set (run 12 (0 ∷ 0 ∷ 0 ∷ [])) 1 (2 ^ 29 + 2 ^ 20 + 2 ^ 18 + 2 ^ 17 + 2 ^ 14 + 7)) ≡ false
 unfolding isBook isWellFormed factsOf layout reading run
 stray-bit = refl
 
 -- no designation is 3, and no ground is 5
-third-designation : isBook (set (run 10 (0 ∷ 0 ∷ 0 ∷ [])) 1 (2 ^ 29 + 2 ^ 19 + 2 ^ 18 + 2 ^ 17 + 2 ^ 14 + 7)) ≡ false
+third-designation : isBook (set (run 12 (0 ∷ 0 ∷ 0 ∷ [])) 1 (2 ^ 29 + 2 ^ 19 + 2 ^ 18 + 2 ^ 17 + 2 ^ 14 + 7)) ≡ false
 unfolding isBook isWellFormed factsOf layout reading run
 third-designation = refl
 
-fifth-ground : isBook (set (run 10 (0 ∷ 0 ∷ 0 ∷ [])) 9 (2 ^ 30 + 2 ^ 29 + 2 ^ 17 + 2 ^ 15 + 55)) ≡ false
+fifth-ground : isBook (set (run 12 (0 ∷ 0 ∷ 0 ∷ [])) 11 (2 ^ 30 + 2 ^ 29 + 2 ^ 17 + 2 ^ 15 + 55)) ≡ false
 unfolding isBook isWellFormed factsOf layout reading run
 fifth-ground = refl
 
-no-strikes : isBook (run 11 expiration) ≡ false
+no-strikes : isBook (run 13 expiration) ≡ false
 unfolding isBook isWellFormed factsOf layout reading run expiration
 no-strikes = refl
 
-count-above : isBook (run 11 (0 ∷ 0 ∷ 0 ∷ [])) ≡ false
+count-above : isBook (run 13 (0 ∷ 0 ∷ 0 ∷ [])) ≡ false
 unfolding isBook isWellFormed factsOf layout reading run
 count-above = refl
 
 -- a legal word past those that the head counts
-count-below : isBook (run 10 strike) ≡ false
+count-below : isBook (run 12 strike) ≡ false
 unfolding isBook isWellFormed factsOf layout reading run strike
 count-below = refl
 
-word-past : isBook (run 10 (0 ∷ 0 ∷ 1 ∷ [])) ≡ false
+word-past : isBook (run 12 (0 ∷ 0 ∷ 1 ∷ [])) ≡ false
 unfolding isBook isWellFormed factsOf layout reading run
 word-past = refl
 
-classes-falling : isBook (run 13 (bareClass 6)) ≡ false
+classes-falling : isBook (run 17 (bareClass 6)) ≡ false
 unfolding isBook isWellFormed factsOf layout reading run bareClass
 classes-falling = refl
 
-class-twice : isBook (run 13 (bareClass 7)) ≡ false
+class-twice : isBook (run 17 (bareClass 7)) ≡ false
 unfolding isBook isWellFormed factsOf layout reading run bareClass
 class-twice = refl
+
+-- ---- #103: "In every book all three are 0, or 1 ≤ low ≤ close ≤ high.", "two kind 7 words .. after the volume word"
+
+dayPrice : ℕ → ℕ
+dayPrice p = 2 ^ 30 + 2 ^ 29 + 2 ^ 28 + p
+
+-- no close with a low and a high, a low above the close, a high below it
+prices-apart :
+    isBook (set (run 12 (0 ∷ [])) 2 (2 ^ 29 + 2 ^ 28))
+    ∷ isBook (set (run 12 (0 ∷ [])) 4 (dayPrice 2501))
+    ∷ isBook (set (run 12 (0 ∷ [])) 5 (dayPrice 2499))
+    ∷ []
+    ≡ false ∷ false ∷ false ∷ []
+unfolding isBook isWellFormed factsOf layout reading run dayPrice
+prices-apart = refl
+
+-- class 7 with the close $25, then the words `rest`, where the head counts them all
+closed : List ℕ → List ℕ
+closed rest = (2 ^ 28 + (3 + length rest) * 2 ^ 10 + 5) ∷ (2 ^ 29 + 7) ∷ (2 ^ 29 + 2 ^ 28 + 2500) ∷ rest
+
+-- the low and the high after the volume; then one of them missing, the high twice, both before the volume, both after
+-- the expiration
+prices-placed :
+    let volume = 2 ^ 30 + 1200 in
+    let low = dayPrice 2450 in
+    let high = dayPrice 2600 in
+    let expiration = 2 ^ 30 + 2 ^ 28 + 6 in
+    let strike = 2 ^ 30 + 2 ^ 29 + 50 in
+    map (λ rest. isBook (closed rest))
+    ((volume ∷ low ∷ high ∷ expiration ∷ strike ∷ [])
+    ∷ (volume ∷ low ∷ expiration ∷ strike ∷ [])
+    ∷ (volume ∷ low ∷ high ∷ high ∷ expiration ∷ strike ∷ [])
+    ∷ (low ∷ high ∷ volume ∷ expiration ∷ strike ∷ [])
+    ∷ (volume ∷ expiration ∷ low ∷ high ∷ strike ∷ [])
+    ∷ [])
+    ≡ true ∷ false ∷ false ∷ false ∷ false ∷ []
+unfolding isBook isWellFormed factsOf layout reading closed dayPrice
+prices-placed = refl

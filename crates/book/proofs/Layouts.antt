@@ -14,9 +14,10 @@ use Rattle.word.specs.Codec.{Word, Head, Invalid, isLegal, packed, reading}
 use Rattle.word.specs.Limits.{isLength, isMonth, longestRun}
 use Rattle.logic.proofs.Tests.{and-intro, ands, parts, T-true}
 use Rattle.word.proofs.Words.{reading-packed}
+use Rattle.word.proofs.RawWords.{figures-legal}
 use Rattle.book.specs.Facts.{Series, OpenClass, Facts, fresh, expirations, wordsTaken, wordsOf}
-use Rattle.word.specs.Figures.{figuresWords, areFigures}
-use Rattle.book.specs.Layout.{strikeWord, expirationUnless, seriesWords, classesWords, used, layout, Tail, tailOf, addClass, addSeries, setClose, setVolume, readFrom, factsIn, factsOf}
+use Rattle.word.specs.Figures.{figuresWords}
+use Rattle.book.specs.Layout.{strikeWord, expirationUnless, seriesWords, classesWords, used, layout, Tail, tailOf, addClass, addSeries, setClose, setVolume, addDayPrice, readFrom, factsIn, factsOf}
 use Rattle.book.specs.Books.{isSeries, isClass, isWellFormed, sameWords, isBook}
 use Rattle.book.proofs.LegalWords.{strike-legal, month-legal}
 
@@ -45,7 +46,10 @@ read-classes :
 read-classes [] rest ends q = ends q
 read-classes (x ∷ xs) rest ends q =
     let r = x .figures in
-    ap (λ (t : Tail). addClass (r .number) (r .designations) (setClose (r .close) (setVolume (r .volume) t)))
+    ap
+    (λ (t : Tail).
+    addClass (r .number) (r .designations)
+    (setClose (r .close) (setVolume (r .volume) (addDayPrice (r .low) (addDayPrice (r .high) t)))))
     (read-series 0 (x .series) (classesWords xs rest) xs (read-classes xs rest ends))
 
 -- reading the words of any facts, before words that add none, gives the facts back
@@ -141,9 +145,9 @@ module _ (now : ℕ) where
   classes-legal : (xs : List OpenClass) → T (every (isClass now) xs) → T (every isLegal (classesWords xs []))
   classes-legal [] good = tt
   classes-legal (x ∷ xs) good =
-      let f : T (areFigures (x .figures)) = search ands in
+      let f = figures-legal (x .figures) (search ands) in
       let l = series-legal 0 (x .series) (classesWords xs []) (search ands) (classes-legal xs (search ands)) in
-      search (ands, and-intro) depth 8
+      search and-intro
 
 -- every word of well-formed classes is legal
 pub words-legal :

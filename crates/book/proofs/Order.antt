@@ -19,12 +19,17 @@ use Rattle.logic.proofs.Tests.{and-intro, ands, parts, T-true, equal-test, or-l
 use Rattle.book.specs.Facts.{Facts, number}
 use Rattle.book.specs.Views.{View, viewOf}
 use Rattle.book.specs.Changes.{Deed, monthBecomes, opens, becomes, grows, designates, writes, nothing, factsAfter, listOf}
-use Rattle.book.specs.Calls.{ClassCall, Call, callM, on, callO, callC, callV, callD, callL, callJ, callX, callI, callR, callA, malformed, named, Condition, draws, firstOr, noneApplies, Effect, effectOn, effect, asked, conditions, answerTo, written, isGranted, step, acceptedFacts}
+use Rattle.book.specs.Calls.{ClassCall, Call, callM, on, callO, callC, callH, callV, callD, callL, callJ, callX, callI, callR, callA, malformed, named, Condition, draws, firstOr, noneApplies, Effect, effectOn, effect, asked, conditions, answerTo, written, isGranted, step, acceptedFacts}
 
 -- the number k applies
 abbrev pub applies : ℕ → List Condition → Bool
 applies k [] = false
 applies k (draws why b ∷ cs) = (eqb (refusalNumber why) k && b) || applies k cs
+
+-- no condition draws the number k
+abbrev neverDraws : ℕ → List Condition → Bool
+neverDraws k [] = true
+neverDraws k (draws why b ∷ cs) = not (eqb (refusalNumber why) k) && neverDraws k cs
 
 -- no condition of a rank below k applies
 abbrev pub noneBelow : ℕ → List Condition → Bool
@@ -67,17 +72,6 @@ first-lowest k a (draws why false ∷ cs) r = go (first-lowest (rank why) a cs (
         (or-right (eqb (refusalNumber why) (refusalNumber other) && false) (applies (refusalNumber other) cs) t)
         least
 
--- the numbers that are drawn rise with the ranks
-first-above :
-    (k : ℕ) (a : Answer) (cs : List Condition) → answerNumber a ≡ 0 → T (risesFrom k cs)
-    → (answerNumber (firstOr a cs) ≡ 0) ⊎ (k ≤ answerNumber (firstOr a cs))
-first-above k a [] zero r = inl zero
-first-above k a (draws why true ∷ cs) zero r = inr (leb→le k (rank why) (search ands))
-first-above k a (draws why false ∷ cs) zero r = elim (first-above (rank why) a cs zero (search ands)) [
-  | inl e ↦ inl e
-  | inr l ↦ let up = leb→le k (rank why) (search ands) in inr (omega arith)
-]
-
 -- a number that is drawn applies
 pub drawn-applies :
     (a : Answer) (cs : List Condition) (k : ℕ) → answerNumber a ≡ 0 → answerNumber (firstOr a cs) ≡ suc k
@@ -88,6 +82,16 @@ drawn-applies a (draws why true ∷ cs) k zero e =
     (and-intro (eqb (refusalNumber why) (suc k)) true (equal-test (refusalNumber why) (suc k) e) tt)
 drawn-applies a (draws why false ∷ cs) k zero e =
     or-right (eqb (refusalNumber why) (suc k) && false) (applies (suc k) cs) (drawn-applies a cs k zero e)
+
+-- a number that no condition draws does not apply
+never-applies : (k : ℕ) (cs : List Condition) → T (neverDraws k cs) → T (applies k cs) → ⊥
+never-applies k [] never t = t
+never-applies k (draws why b ∷ cs) never t = go (eqb (refusalNumber why) k) never t (never-applies k cs)
+  where
+    go : (e : Bool) → T (not e && neverDraws k cs) → T ((e && b) || applies k cs)
+        → (T (neverDraws k cs) → T (applies k cs) → ⊥) → ⊥
+    go true n u rest = n
+    go false n u rest = rest n u
 
 pub granted-answer : (a : Answer) (cs : List Condition) → isAccepted (firstOr a cs) ≡ true → firstOr a cs ≡ a
 granted-answer a [] e = refl
@@ -135,9 +139,12 @@ Sound v asks (designates p d) = T true
 Sound v asks (writes ws) = T true
 Sound v asks nothing = T true
 
--- the conditions rise by rank, and the answer for a call that is granted accepts
+-- the conditions rise by rank and never draw 1, and the answer for a call that is granted accepts
 abbrev Ranked : (n room : ℕ) → Call → Facts → Type 0
-Ranked n room x f = T (risesFrom 2 (conditions n room x f) && isAccepted (effect x f .answer))
+Ranked n room x f =
+    T
+    (risesFrom 0 (conditions n room x f)
+    && (neverDraws 1 (conditions n room x f) && isAccepted (effect x f .answer)))
 
 -- the answer for a call that is granted tells how many words it writes
 abbrev Told : Effect → Type 0
@@ -151,6 +158,7 @@ pub effect-sound :
 unfolding effectOn
 effect-sound n room c callO f = (tt, λ t. search ands, refl)
 effect-sound n room c (callC p) f = (tt, refl, refl)
+effect-sound n room c (callH low high) f = (tt, refl, refl)
 effect-sound n room c (callV v) f = (tt, refl, refl)
 effect-sound n room c (callD p d) f = (tt, tt, refl)
 effect-sound n room c (callL m h) f = (tt, refl, refl)
@@ -177,15 +185,13 @@ effect-zero n x f =
     let t : T (isAccepted (effect x f .answer)) = search ands in
     eqb→eq (answerNumber (effect x f .answer)) 0 (rw accepted-zero at t)
 
--- "1 is never drawn": the ranks begin above it
+-- "1 is never drawn": no condition draws it
 pub never-one : (n room : ℕ) (x : Call) (f : Facts) → answerNumber (answerTo n room x f) ≡ 1 → ⊥
 unfolding answerTo
 never-one n room x f e =
     let s = ranked n room x f in
-    elim (first-above 2 (effect x f .answer) (conditions n room x f) (effect-zero n x f) (search ands)) [
-      | inl zero ↦ omega (arith, zero, e)
-      | inr above ↦ omega (arith, above, e)
-    ]
+    never-applies 1 (conditions n room x f) (search ands)
+    (drawn-applies (effect x f .answer) (conditions n room x f) 0 (effect-zero n x f) e)
 
 -- a call that writes to the second run changes no fact
 writes-alone : (c : ℕ) (d : Deed) (f : Facts) → (listOf d ≡ []) ⊎ (factsAfter c d f ≡ f)
@@ -203,7 +209,7 @@ module _ (n room : ℕ) (x : Call) (f : Facts) where
 
   pub lowest : Lowest (conditions n room x f) (effect x f .answer) (answerTo n room x f)
   unfolding answerTo
-  lowest = let s = ranked n room x f in first-lowest 2 (effect x f .answer) (conditions n room x f) (search ands)
+  lowest = let s = ranked n room x f in first-lowest 0 (effect x f .answer) (conditions n room x f) (search ands)
 
   -- an accepted call answers what its effect says
   pub accepted-answer : isAccepted (answerTo n room x f) ≡ true → answerTo n room x f ≡ effect x f .answer

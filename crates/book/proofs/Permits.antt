@@ -13,7 +13,7 @@ use Rattle.word.specs.Answers.{answerValue, isAccepted}
 use Rattle.word.specs.declared.answer.Refusal.the-variants.{NotOpen, MonthOutside, AlreadyStanding, NoClose, OffGrid, OutOfRange, TooClose}
 use Rattle.logic.specs.Lists.{some, only, upFrom}
 use Rattle.rule.specs.Terms.{isOutside}
-use Rattle.rule.specs.Ends.{highEnd}
+use Rattle.rule.specs.Ends.{topEnd}
 use Rattle.rule.specs.Spacing.{Standing}
 use Rattle.rule.specs.Judgement.{passesGrid, passesRange, passes, refusalOf, groundFrom, decided, judgement, isPermittedBeside, permitted}
 use Rattle.rule.proofs.Most.{refused-above}
@@ -133,7 +133,7 @@ module _ (m : ℕ) (v : View) where
       go false false false true = refl
       go false false false false = refl
 
-  beyond : (h : ℕ) → highEnd (setting v m) < h → h ≤ highestStrike → noneApplies (judging m h v) ≡ false
+  beyond : (h : ℕ) → topEnd (setting v m) < h → h ≤ highestStrike → noneApplies (judging m h v) ≡ false
   beyond h l most =
       judged-none h
       ∙ go (isNotOpen v) (isOutside (setting v m)) (isStanding v m h) (hasNoClose v)
@@ -147,7 +147,7 @@ module _ (m : ℕ) (v : View) where
 
   -- the permitted strikes are found among those up to the bound of the rules
   pub permitted-short :
-      (b : ℕ) → highEnd (setting v m) ≤ b → b ≤ highestStrike
+      (b : ℕ) → topEnd (setting v m) ≤ b → b ≤ highestStrike
       → permittedIn m v ≡ only (λ h. noneApplies (judging m h v)) (upFrom b 1)
   unfolding permittedIn
   permitted-short b l k =

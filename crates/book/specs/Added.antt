@@ -8,7 +8,7 @@ use lib.Dec.{T, eqb, ltb}
 use Rattle.logic.specs.Lists.{some}
 use Rattle.book.specs.Facts.{OpenClass, Facts, isAt}
 use Rattle.book.specs.Views.{viewOf, class, groundOf, isReviewed}
-use Rattle.book.specs.Calls.{ClassCall, Call, callM, on, callO, callC, callV, callD, callL, callJ, callX, callI, callR, callA, malformed, isGranted, step, after}
+use Rattle.book.specs.Calls.{ClassCall, Call, callM, on, callO, callC, callH, callV, callD, callL, callJ, callX, callI, callR, callA, malformed, isGranted, step, after}
 use Rattle.book.specs.Permission.{isPermitted, areWordsLeft}
 
 -- the strike h of the class c and the month m stands on the ground g
@@ -19,6 +19,7 @@ standsOn g c m h f = some (λ s. isAt m h s && eqb (s .ground) g) (class f c .se
 unfoldable pub takesFrom : ClassCall → ℕ → ℕ → OpenClass → Bool
 takesFrom callO m h x = false
 takesFrom (callC p) m h x = false
+takesFrom (callH low high) m h x = false
 takesFrom (callV n) m h x = false
 takesFrom (callD p d) m h x = false
 takesFrom (callL k i) m h x = false

@@ -1,6 +1,6 @@
 -- Document 01, the lines of the eleven calls, "`M m`: sets `now`, removes strikes of earlier months." to "`A c m`:
--- writes all strikes that `J` would accept", and "Who draws which number": what each call asks, does and answers over
--- the plain book. Assumes nothing.
+-- writes all strikes that `J` would accept", and "Who draws which number"; request #103, "A new line `H c low high`":
+-- what each call asks, does and answers over the plain book. Assumes nothing.
 use Prim.Native.Nat.{ℕ}
 use mathlib.Core.Bool.{Bool, true, false, cond, not, _&&_}
 use mathlib.Core.List.{List, [], _∷_, _++_}
@@ -9,7 +9,7 @@ use lib.Dec.{leb, ltb}
 use Rattle.word.specs.declared.answer.Answer.{Answer}
 use Rattle.word.specs.declared.answer.Answer.the-variants.{Done, Ground, Removed, Listed, Refused}
 use Rattle.word.specs.declared.answer.Refusal.{Refusal}
-use Rattle.word.specs.declared.answer.Refusal.the-variants.{BeyondLimits, AlreadyOpen, NotOpen, MonthOutside, AlreadyStanding, NotStanding, NoClose, NotQualified, CapReached, OffGrid, OutOfRange, TooClose, OpenInterest, OutOfWords}
+use Rattle.word.specs.declared.answer.Refusal.the-variants.{BeyondLimits, AlreadyOpen, NotOpen, MonthOutside, AlreadyStanding, NotStanding, NoClose, NotQualified, CapReached, OffGrid, OutOfRange, TooClose, OpenInterest, OutOfWords, CloseOutside}
 use Rattle.word.specs.declared.class.ClassRecord.{ClassRecord}
 use Rattle.word.specs.Limits.{highestStrike, isPrice, isStrike, isMonth, isClassNumber, isVolume, isDesignation, isMark}
 use Rattle.word.specs.Answers.{isAccepted}
@@ -18,13 +18,14 @@ use Rattle.rule.specs.Terms.{isOutside}
 use Rattle.rule.specs.Judgement.{passesGrid, passesRange, passes}
 use Rattle.word.specs.Programs.{isProgram, program}
 use Rattle.book.specs.Facts.{Facts, fresh, owned, wordsTaken}
-use Rattle.book.specs.Views.{View, class, viewOf, isNotOpen, isStanding, hasOpenInterest, hasNoClose, setting, rows, groundOf, isNew, lacksClose}
-use Rattle.book.specs.Changes.{Deed, monthBecomes, opens, becomes, grows, designates, writes, nothing, factsAfter, listOf, closeSet, volumeSet, newSeries, strikeAdded, strikeRemoved, marksSet, classReviewed, reviewedCount}
+use Rattle.book.specs.Views.{View, class, viewOf, isNotOpen, isStanding, hasOpenInterest, hasNoClose, isCloseOutside, setting, rows, groundOf, isNew, lacksClose}
+use Rattle.book.specs.Changes.{Deed, monthBecomes, opens, becomes, grows, designates, writes, nothing, factsAfter, listOf, closeSet, lowHighSet, volumeSet, newSeries, strikeAdded, strikeRemoved, marksSet, classReviewed, reviewedCount}
 
 -- "each call's letter and numbers", any numbers: the calls that name a class, but for its number
 pub data ClassCall : Type 0 where
   callO : ClassCall
   callC : (p : ℕ) → ClassCall
+  callH : (low high : ℕ) → ClassCall
   callV : (n : ℕ) → ClassCall
   callD : (p d : ℕ) → ClassCall
   callL : (m h : ℕ) → ClassCall
@@ -118,6 +119,19 @@ effectOn c (callC p) v =
       limits = isClassNumber c && isPrice p;
       asks = draws NotOpen (isNotOpen v) ∷ [];
       does = becomes (closeSet p (v .class));
+      answer = Done;
+    }
+-- `H c low high`, #103: "It refuses with 8 before any close, and with 16, tested straight after 8, a low above the
+-- close or a high below it."
+effectOn c (callH low high) v =
+    record {
+      limits = isClassNumber c && (isPrice low && isPrice high);
+      asks =
+          draws NotOpen (isNotOpen v)
+          ∷ draws NoClose (hasNoClose v)
+          ∷ draws CloseOutside (isCloseOutside v low high)
+          ∷ [];
+      does = becomes (lowHighSet low high (v .class));
       answer = Done;
     }
 -- `V c n`: "volume"

@@ -5,7 +5,7 @@ use mathlib.Core.Bool.{cond, not}
 use mathlib.Core.List.{List, [], map}
 use lib.ListN.{length}
 use lib.Dec.{leb}
-use Rattle.word.specs.Class.{withClose, withVolume, withDesignation}
+use Rattle.word.specs.Class.{withClose, withLowHigh, withVolume, withDesignation}
 use Rattle.logic.specs.Lists.{only}
 use Rattle.book.specs.Facts.{Series, OpenClass, Facts, newClass, putClass, insertClass, withFigures, withSeries, insertSeries, isAt, withMarks}
 use Rattle.book.specs.Views.{class, isReviewed}
@@ -15,6 +15,10 @@ use Rattle.book.specs.Views.{class, isReviewed}
 -- "`C`, `V` and `D` set their figures"
 abbrev pub closeSet : ℕ → OpenClass → OpenClass
 closeSet p x = withFigures (withClose p (x .figures)) x
+
+-- #103: `H`: "low and high being facts"
+abbrev pub lowHighSet : ℕ → ℕ → OpenClass → OpenClass
+lowHighSet low high x = withFigures (withLowHigh low high (x .figures)) x
 
 abbrev pub volumeSet : ℕ → OpenClass → OpenClass
 volumeSet n x = withFigures (withVolume n (x .figures)) x
@@ -51,7 +55,7 @@ pub data Deed : Type 0 where
   monthBecomes : (m : ℕ) → Deed
   -- "`O` adds a class with close, volume and designations 0 and no strike."
   opens : Deed
-  -- `C`, `V`, `X`, `I` and `R`: the class becomes this one, in no more words
+  -- `C`, `H`, `V`, `X`, `I` and `R`: the class becomes this one, in no more words
   becomes : OpenClass → Deed
   -- `L`: the class becomes this one, in more words
   grows : OpenClass → Deed
@@ -70,7 +74,7 @@ unfoldable pub monthSet : ℕ → Facts → Facts
 monthSet m f =
     record { now = m; classes = map (λ x. withSeries (only (λ s. leb m (s .month)) (x .series)) x) (f .classes) }
 
--- "`O` adds a class with close, volume and designations 0 and no strike."
+-- "`O` adds a class with close, volume and designations 0 and no strike."; #103: low and high are 0 too
 unfoldable pub classOpened : ℕ → Facts → Facts
 classOpened c f = record { now = f .now; classes = insertClass (newClass c) (f .classes) }
 

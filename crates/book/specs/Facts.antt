@@ -21,7 +21,7 @@ pub record Series : Type 0 where
   pub call : ℕ
 
 -- "for each open class its close, volume, two designations and a set of" series, which rise by month and then by
--- strike; #101: "equality of books now reads the third designation too"
+-- strike; #101: "equality of books now reads the third designation too"; #103: "low and high being facts"
 pub record OpenClass : Type 0 where
   pub figures : ClassRecord
   pub series : List Series
@@ -116,6 +116,7 @@ expirations (s ∷ t ∷ ts) = cond {A = ℕ} (eqb (s .month) (t .month)) 0 1 + 
 abbrev pub wordsOf : OpenClass → ℕ
 wordsOf x = figuresLength + expirations (x .series) + length (x .series)
 
--- "The words the facts take are 1 + 3 × classes + expirations that have strikes + strikes."
+-- "The words the facts take are 1 + 3 × classes + expirations that have strikes + strikes."; #103: "A class then takes
+-- five words"
 abbrev pub wordsTaken : Facts → ℕ
 wordsTaken f = firstPlace + sum wordsOf (f .classes)

@@ -1,5 +1,6 @@
 -- Document 01, "the head, first", "One of each follows its class word, close first.", "Words past those used are
--- zero.": the words that the layout gives to facts, and the facts that it reads in words. Assumes nothing.
+-- zero.", and request #103, "after the volume word, low first": the words that the layout gives to facts, and the facts
+-- that it reads in words. Assumes nothing.
 use Prim.Native.Nat.{ℕ, zero, suc, _+_, _-_}
 use mathlib.Core.Bool.{Bool, true, false}
 use mathlib.Core.List.{List, [], _∷_, _++_, map}
@@ -7,7 +8,7 @@ use lib.ListN.{length, replicate}
 use lib.Dec.{eqb}
 use Rattle.word.specs.Head.{firstPlace}
 use Rattle.word.specs.Figures.{figuresWords}
-use Rattle.word.specs.Codec.{Word, Head, Class, Close, Volume, Expiration, Strike, Invalid, packed, reading}
+use Rattle.word.specs.Codec.{Word, Head, Class, Close, Volume, Expiration, Strike, DayPrice, Invalid, packed, reading}
 use Rattle.book.specs.Facts.{Series, OpenClass, Facts}
 
 -- ---- from facts to words
@@ -45,29 +46,75 @@ layout n f = map packed (Head (f .now) (used f) ∷ classesWords (f .classes) []
 pub record Tail : Type 0 where
   pub close : ℕ
   pub volume : ℕ
+  pub low : ℕ
+  pub high : ℕ
   pub series : List Series
   pub classes : List OpenClass
 
 abbrev pub tailOf : List Series → List OpenClass → Tail
-tailOf ss xs = record { close = 0; volume = 0; series = ss; classes = xs }
+tailOf ss xs = record { close = 0; volume = 0; low = 0; high = 0; series = ss; classes = xs }
 
 abbrev pub addClass : ℕ → List ℕ → Tail → Tail
 addClass n ds t =
     tailOf []
     (record {
-      figures = record { number = n; close = t .close; volume = t .volume; designations = ds };
+      figures =
+          record {
+            number = n;
+            close = t .close;
+            volume = t .volume;
+            low = t .low;
+            high = t .high;
+            designations = ds;
+          };
       series = t .series;
     }
     ∷ t .classes)
 
 abbrev pub addSeries : Series → Tail → Tail
-addSeries s t = record { close = t .close; volume = t .volume; series = s ∷ t .series; classes = t .classes }
+addSeries s t =
+    record {
+      close = t .close;
+      volume = t .volume;
+      low = t .low;
+      high = t .high;
+      series = s ∷ t .series;
+      classes = t .classes;
+    }
 
 abbrev pub setClose : ℕ → Tail → Tail
-setClose p t = record { close = p; volume = t .volume; series = t .series; classes = t .classes }
+setClose p t =
+    record {
+      close = p;
+      volume = t .volume;
+      low = t .low;
+      high = t .high;
+      series = t .series;
+      classes = t .classes;
+    }
 
 abbrev pub setVolume : ℕ → Tail → Tail
-setVolume v t = record { close = t .close; volume = v; series = t .series; classes = t .classes }
+setVolume v t =
+    record {
+      close = t .close;
+      volume = v;
+      low = t .low;
+      high = t .high;
+      series = t .series;
+      classes = t .classes;
+    }
+
+-- #103: "low first": of two such words the first is the low, and the one after it the high
+abbrev pub addDayPrice : ℕ → Tail → Tail
+addDayPrice p t =
+    record {
+      close = t .close;
+      volume = t .volume;
+      low = p;
+      high = t .low;
+      series = t .series;
+      classes = t .classes;
+    }
 
 -- the month that p stands for
 abbrev pub monthBefore : ℕ → ℕ
@@ -84,6 +131,7 @@ readFrom p (Volume v ∷ ws) = setVolume v (readFrom p ws)
 readFrom p (Expiration m ∷ ws) = readFrom (suc m) ws
 readFrom p (Strike h g a b ∷ ws) =
     addSeries (record { month = monthBefore p; strike = h; ground = g; put = a; call = b }) (readFrom p ws)
+readFrom p (DayPrice price ∷ ws) = addDayPrice price (readFrom p ws)
 readFrom p (Invalid ∷ ws) = tailOf [] []
 
 abbrev pub headMonth : Word → ℕ
@@ -93,6 +141,7 @@ headMonth (Close price) = 0
 headMonth (Volume v) = 0
 headMonth (Expiration m) = 0
 headMonth (Strike h g a b) = 0
+headMonth (DayPrice price) = 0
 headMonth Invalid = 0
 
 abbrev pub factsIn : List Word → Facts

@@ -4,7 +4,7 @@ use Prim.Native.Nat.{ℕ}
 use mathlib.Core.Bool.{cond}
 use mathlib.Core.List.{List, [], _∷_}
 use lib.Dec.{eqb}
-use Rattle.book.specs.Calls.{ClassCall, Call, callM, on, callO, callC, callV, callD, callL, callJ, callX, callI, callR, callA, malformed}
+use Rattle.book.specs.Calls.{ClassCall, Call, callM, on, callO, callC, callH, callV, callD, callL, callJ, callX, callI, callR, callA, malformed}
 
 -- the letters of the calls, in ASCII
 abbrev pub letterM : ℕ
@@ -15,6 +15,9 @@ letterO = 79
 
 abbrev pub letterC : ℕ
 letterC = 67
+
+abbrev pub letterH : ℕ
+letterH = 72
 
 abbrev pub letterV : ℕ
 letterV = 86
@@ -52,12 +55,13 @@ callOfTwo c a b =
     cond (eqb c letterC) (on a (callC b))
     (cond (eqb c letterV) (on a (callV b)) (cond (eqb c letterA) (on a (callA b)) malformed))
 
--- `D c p d`, `L c m h`, `J c m h`, `X c m h`
+-- `D c p d`, `L c m h`, `J c m h`, `X c m h`, `H c low high`
 abbrev pub callOfThree : ℕ → ℕ → ℕ → ℕ → Call
 callOfThree c a b d =
     cond (eqb c letterD) (on a (callD b d))
     (cond (eqb c letterL) (on a (callL b d))
-    (cond (eqb c letterJ) (on a (callJ b d)) (cond (eqb c letterX) (on a (callX b d)) malformed)))
+    (cond (eqb c letterJ) (on a (callJ b d))
+    (cond (eqb c letterX) (on a (callX b d)) (cond (eqb c letterH) (on a (callH b d)) malformed))))
 
 -- `I c m h a b`
 abbrev pub callOfFive : ℕ → ℕ → ℕ → ℕ → ℕ → ℕ → Call
@@ -84,6 +88,7 @@ pub record Spelling : Type 0 where
 abbrev pub spelledOn : ℕ → ClassCall → Spelling
 spelledOn c callO = record { letter = letterO; numbers = c ∷ [] }
 spelledOn c (callC p) = record { letter = letterC; numbers = c ∷ p ∷ [] }
+spelledOn c (callH low high) = record { letter = letterH; numbers = c ∷ low ∷ high ∷ [] }
 spelledOn c (callV n) = record { letter = letterV; numbers = c ∷ n ∷ [] }
 spelledOn c (callD p d) = record { letter = letterD; numbers = c ∷ p ∷ d ∷ [] }
 spelledOn c (callL m h) = record { letter = letterL; numbers = c ∷ m ∷ h ∷ [] }

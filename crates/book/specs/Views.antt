@@ -49,6 +49,10 @@ module _ (v : View) where
   abbrev pub hasNoClose : Bool
   hasNoClose = eqb (v .class .figures .close) 0
 
+  -- #103: "a low above the close or a high below it"
+  abbrev pub isCloseOutside : ℕ → ℕ → Bool
+  isCloseOutside low high = ltb (v .class .figures .close) low || ltb high (v .class .figures .close)
+
   abbrev pub setting : ℕ → Setting
   setting m = record { class = v .class .figures; current = v .now; month = m }
 

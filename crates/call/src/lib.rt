@@ -1,7 +1,7 @@
 // The calls over any lent words. Each tests the run once and then makes the call as `class_call` or `strike_call` does
 // on a book; a single call remembers no places.
 ghost use mathlib.Core.List.{[]};
-ghost use Rattle.book.specs.Calls.{callM, on, callO, callC, callV, callD, callL, callJ, callX, callI, callR, callA};
+ghost use Rattle.book.specs.Calls.{callM, on, callO, callC, callH, callV, callD, callL, callJ, callX, callI, callR, callA};
 ghost use Rattle.book.specs.Made.{Made};
 use scan::is_book;
 use word::answer::Answer;
@@ -28,7 +28,7 @@ pub fn open_class(run: &mut [u32], c: u32) -> Answer
     class_call::open_class(run, c, &mut [])
 }
 
-// `C`: sets the close of a class.
+// `C`: sets the close of a class, and the day's low and high to it.
 pub fn set_close(run: &mut [u32], c: u32, p: u32) -> Answer
     ensures { λ r. ⌜ Made (on c (callC p)) (now (run .entry)) [] r (now (run .exit)) [] ⌝ }
 {
@@ -36,6 +36,16 @@ pub fn set_close(run: &mut [u32], c: u32, p: u32) -> Answer
         return Answer::Refused(Refusal::NotABook);
     }
     class_call::set_close(run, c, p, &mut [])
+}
+
+// `H`: sets the day's low and high of a class.
+pub fn set_low_high(run: &mut [u32], c: u32, low: u32, high: u32) -> Answer
+    ensures { λ r. ⌜ Made (on c (callH low high)) (now (run .entry)) [] r (now (run .exit)) [] ⌝ }
+{
+    if !is_book(run) {
+        return Answer::Refused(Refusal::NotABook);
+    }
+    class_call::set_low_high(run, c, low, high, &mut [])
 }
 
 // `V`: sets the volume of a class.

@@ -1,26 +1,29 @@
--- The ways out of `C` and `V`, over plain variables: by one law of calls that store the figures of an open class.
+-- The ways out of `C`, `H` and `V`, over plain variables: by one law of calls that store the figures of an open class.
 -- Assumes nothing.
 use Prim.Native.Nat.{ℕ}
 use mathlib.Core.Path.{_≡_, refl, sym, ap, _∙_}
-use mathlib.Core.Bool.{false, not, _&&_}
-use mathlib.Core.List.{List, []}
+use mathlib.Core.Bool.{true, false, not, _&&_, _||_}
+use mathlib.Core.List.{List, [], _∷_}
 use lib.ListN.{length}
-use lib.Dec.{T}
+use lib.Dec.{T, eqb, ltb}
+use borrow.Author.Tests.{eq-eqb, ne-eqb}
 use Rattle.word.specs.declared.class.ClassRecord.{ClassRecord}
-use Rattle.word.specs.declared.answer.Answer.the-variants.{Done}
+use Rattle.word.specs.declared.answer.Answer.the-variants.{Done, Refused}
+use Rattle.word.specs.declared.answer.Refusal.the-variants.{NoClose, CloseOutside}
 use Rattle.word.specs.Limits.{isClassNumber, isPrice, isVolume}
-use Rattle.word.specs.Class.{withClose, withVolume}
+use Rattle.word.specs.Class.{withClose, withLowHigh, withVolume}
 use Rattle.book.specs.Facts.{withFigures}
 use Rattle.book.specs.Layout.{layout, factsOf}
 use Rattle.word.specs.Figures.{areFigures}
 use Rattle.book.specs.Books.{isBook}
 use Rattle.book.specs.Views.{class}
 use Rattle.book.specs.Changes.{update, listOf}
-use Rattle.book.specs.Calls.{Call, on, callC, callV, effectOn, effect, answerTo, acceptedFacts}
+use Rattle.book.specs.Calls.{Call, on, callC, callH, callV, draws, firstOr, effectOn, effect, answerTo, acceptedFacts}
 use Rattle.book.specs.Places.{classPlace}
 use Rattle.book.specs.Made.{over, Made}
-use Rattle.logic.proofs.Tests.{ands, and-intro, passed}
-use Rattle.book.proofs.Answered.{made-accepted}
+use Rattle.logic.proofs.Tests.{ands, and-intro, false-T, passed}
+use Rattle.book.proofs.Keep.{close-between, close-alone}
+use Rattle.book.proofs.Answered.{made-refused, made-accepted}
 use Rattle.edit.specs.EditsAsked.{Storable}
 use Rattle.class_call.proofs.Ways.{Found, found-open, found-seen, found-place, found-figures, found-number, found-limits}
 
@@ -68,6 +71,7 @@ module _
   close-storable =
       let old = found-limits w book c at r found in
       let given = passed (isClassNumber c && isPrice p) within in
+      let prices = close-alone p (search ands) in
       storable w book c at r found (withClose p) refl new e (search (ands, and-intro) depth 12)
 
   pub close-set : (w′ : List ℕ) → Stored w new w′ → Made (on c (callC p)) w [] Done w′ []
@@ -75,6 +79,49 @@ module _
   close-set w′ stored =
       figures-set w book c at r found (withClose p) refl new e (on c (callC p)) refl w′
       (rw (within, found-seen w c at r found)) stored
+
+-- ---- `H`
+
+module _
+    (c low high : ℕ) (w : List ℕ) (book : T (isBook w))
+    (within : not (isClassNumber c && (isPrice low && isPrice high)) ≡ false) (at : ℕ) (r : ClassRecord)
+    (found : Found w c at r) where
+  -- the first of what it asks of an open class
+  low-high-answer :
+      answerTo (length w) 0 (on c (callH low high)) (factsOf w)
+      ≡ firstOr Done
+      (draws NoClose (eqb (r .close) 0) ∷ draws CloseOutside (ltb (r .close) low || ltb high (r .close)) ∷ [])
+  unfolding answerTo effectOn
+  low-high-answer = rw (within, found-seen w c at r found, ← found-figures w book c at r found)
+
+  pub low-high-no-close : r .close ≡ 0 → Made (on c (callH low high)) w [] (Refused NoClose) w []
+  low-high-no-close none =
+      made-refused (on c (callH low high)) w [] book (Refused NoClose) refl
+      (low-high-answer ∙ rw (eq-eqb (r .close) 0 none))
+
+  module _ (closed : r .close ≡ 0 → ⊥) where
+    pub low-high-outside :
+        (ltb (r .close) low || ltb high (r .close)) ≡ true
+        → Made (on c (callH low high)) w [] (Refused CloseOutside) w []
+    low-high-outside outside =
+        made-refused (on c (callH low high)) w [] book (Refused CloseOutside) refl
+        (low-high-answer ∙ rw (ne-eqb (r .close) 0 closed, outside))
+
+    module _
+        (inside : (ltb (r .close) low || ltb high (r .close)) ≡ false) (new : ClassRecord)
+        (e : new ≡ withLowHigh low high r) where
+      pub low-high-storable : Storable w at new
+      low-high-storable =
+          let old = found-limits w book c at r found in
+          let given = passed (isClassNumber c && (isPrice low && isPrice high)) within in
+          let prices = close-between low (r .close) high (search ands) (search ands) (false-T _ inside) in
+          storable w book c at r found (withLowHigh low high) refl new e (search (ands, and-intro) depth 12)
+
+      pub low-high-set : (w′ : List ℕ) → Stored w new w′ → Made (on c (callH low high)) w [] Done w′ []
+      unfolding effectOn
+      low-high-set w′ stored =
+          figures-set w book c at r found (withLowHigh low high) refl new e (on c (callH low high)) refl w′
+          (low-high-answer ∙ rw (ne-eqb (r .close) 0 closed, inside)) stored
 
 -- ---- `V`
 

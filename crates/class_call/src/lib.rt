@@ -1,9 +1,10 @@
-// The calls on months and classes, over a run that is known to be a book: `M`, `O`, `C`, `V`, `D` and `R`. `places` is
-// what `place::lookup::class_at` remembers of where classes stand: any numbers will do, and any count of them.
+// The calls on months and classes, over a run that is known to be a book: `M`, `O`, `C`, `H`, `V`, `D` and `R`.
+// `places` is what `place::lookup::class_at` remembers of where classes stand: any numbers will do, and any count of
+// them.
 ghost use mathlib.Core.List.{[]};
 ghost use lib.Dec.{T};
 ghost use Rattle.book.specs.Books.{isBook};
-ghost use Rattle.book.specs.Calls.{callM, on, callO, callC, callV, callD, callR};
+ghost use Rattle.book.specs.Calls.{callM, on, callO, callC, callH, callV, callD, callR};
 ghost use Rattle.book.specs.Made.{Made};
 use crate::programs::claim_of;
 use edit::insert_class;
@@ -66,7 +67,7 @@ pub fn open_class(run: &mut [u32], c: u32, places: &mut [u32]) -> Answer
     Answer::Done
 }
 
-// `C`: sets the close.
+// `C`: sets the close, and the day's low and high to it.
 pub fn set_close(run: &mut [u32], c: u32, p: u32, places: &mut [u32]) -> Answer
     requires { ⌜ T (isBook (now run)) ⌝ }
     ensures { λ r. ⌜ Made (on c (callC p)) (now (run .entry)) [] r (now (run .exit)) [] ⌝ }
@@ -80,6 +81,29 @@ pub fn set_close(run: &mut [u32], c: u32, p: u32, places: &mut [u32]) -> Answer
     }
     let figures = figures::read(run, at);
     store_figures(run, at, figures.with_close(p));
+    Answer::Done
+}
+
+// `H`: sets the day's low and high, with the close between them.
+pub fn set_low_high(run: &mut [u32], c: u32, low: u32, high: u32, places: &mut [u32]) -> Answer
+    requires { ⌜ T (isBook (now run)) ⌝ }
+    ensures { λ r. ⌜ Made (on c (callH low high)) (now (run .entry)) [] r (now (run .exit)) [] ⌝ }
+{
+    if !(is_class_number(c) & (is_price(low) & is_price(high))) {
+        return Answer::Refused(Refusal::BeyondLimits);
+    }
+    let at = open_at(run, places, c);
+    if at == 0 {
+        return Answer::Refused(Refusal::NotOpen);
+    }
+    let figures = figures::read(run, at);
+    if figures.close == 0 {
+        return Answer::Refused(Refusal::NoClose);
+    }
+    if (figures.close < low) | (high < figures.close) {
+        return Answer::Refused(Refusal::CloseOutside);
+    }
+    store_figures(run, at, figures.with_low_high(low, high));
     Answer::Done
 }
 

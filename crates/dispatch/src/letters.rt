@@ -30,5 +30,8 @@ pub const JUDGE_STRIKE: u32 = 74;
 // `X`
 pub const DELIST_STRIKE: u32 = 88;
 
+// `H`
+pub const SET_LOW_HIGH: u32 = 72;
+
 // `I`
 pub const MARK_STRIKE: u32 = 73;

@@ -12,6 +12,7 @@ use class_call::designate;
 use class_call::open_class;
 use class_call::review_class;
 use class_call::set_close;
+use class_call::set_low_high;
 use class_call::set_month;
 use class_call::set_volume;
 use strike_call::delist_strike;
@@ -59,7 +60,7 @@ fn make_of_two(
     }
 }
 
-// `D`, `L`, `J` and `X`, which leave any second run as it is.
+// `D`, `L`, `J`, `X` and `H`, which leave any second run as it is.
 fn make_of_three(run: &mut [u32], places: &mut [u32], letter: u32, a: u32, b: u32, c: u32) -> Answer
     requires { ⌜ T (isBook (now run)) ⌝ }
     ensures { λ r. ⌜ ((v : List ℕ) → Made (callOfThree letter a b c) (now (run .entry)) v r (now (run .exit)) v) ⌝ }
@@ -69,6 +70,7 @@ fn make_of_three(run: &mut [u32], places: &mut [u32], letter: u32, a: u32, b: u3
         letters::LIST_STRIKE => list_strike(run, a, b, c, places),
         letters::JUDGE_STRIKE => judge_strike(run, a, b, c, places),
         letters::DELIST_STRIKE => delist_strike(run, a, b, c, places),
+        letters::SET_LOW_HIGH => set_low_high(run, a, b, c, places),
         _ => Answer::Refused(Refusal::BeyondLimits),
     }
 }

@@ -3,7 +3,7 @@
 ghost use mathlib.Core.List.{[]};
 ghost use mathlib.Core.Path.{_≡_};
 ghost use Rattle.book.specs.Books.{isBook};
-ghost use Rattle.book.specs.Calls.{callM, on, callO, callC, callV, callD, callL, callJ, callX, callI, callR, callA};
+ghost use Rattle.book.specs.Calls.{callM, on, callO, callC, callH, callV, callD, callL, callJ, callX, callI, callR, callA};
 ghost use Rattle.sheet_calls.specs.Sheets.{SheetRun};
 ghost use Rattle.export.specs.CallReplies.{Answered, Carries, Started};
 use word::answer::Answer;
@@ -62,6 +62,14 @@ pub extern "C" fn strike_book_set_close(run: &mut [u32], c: u32, p: u32) -> Repl
     ensures { λ r. ⌜ Answered (on c (callC p)) (now (run .entry)) [] r (now (run .exit)) [] ⌝ }
 {
     reply_of(call::set_close(run, c, p))
+}
+
+// `H`.
+#[no_mangle]
+pub extern "C" fn strike_book_set_low_high(run: &mut [u32], c: u32, low: u32, high: u32) -> Reply
+    ensures { λ r. ⌜ Answered (on c (callH low high)) (now (run .entry)) [] r (now (run .exit)) [] ⌝ }
+{
+    reply_of(call::set_low_high(run, c, low, high))
 }
 
 // `V`.

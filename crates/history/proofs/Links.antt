@@ -2,12 +2,13 @@
 -- built from: the same type, so that nothing is left to show. Assumes nothing.
 use mathlib.Core.List.{[]}
 use denote.Ref.{now}
-use Rattle.book.specs.Calls.{callM, on, callO, callC, callV, callD, callL, callJ, callX, callI, callR, callA}
+use Rattle.book.specs.Calls.{callM, on, callO, callC, callH, callV, callD, callL, callJ, callX, callI, callR, callA}
 use Rattle.book.specs.Made.{Made, Begun}
 use Rattle.scan.proofs.fresh.Reads as fresh-reads
 use Rattle.call.proofs.set_month.Reads as set-month-reads
 use Rattle.call.proofs.open_class.Reads as open-class-reads
 use Rattle.call.proofs.set_close.Reads as set-close-reads
+use Rattle.call.proofs.set_low_high.Reads as set-low-high-reads
 use Rattle.call.proofs.set_volume.Reads as set-volume-reads
 use Rattle.call.proofs.designate.Reads as designate-reads
 use Rattle.call.proofs.list_strike.Reads as list-strike-reads
@@ -35,6 +36,11 @@ pub set-close-learnt :
     (κs : _) (a : _) (r : _) (x : _) → set-close-reads.Learnt κs a r x
     → Made (on (a .1 .0) (callC (a .1 .1 .0))) (now (a .0)) [] r (now (x .0)) []
 set-close-learnt κs a r x p = p
+
+pub set-low-high-learnt :
+    (κs : _) (a : _) (r : _) (x : _) → set-low-high-reads.Learnt κs a r x
+    → Made (on (a .1 .0) (callH (a .1 .1 .0) (a .1 .1 .1 .0))) (now (a .0)) [] r (now (x .0)) []
+set-low-high-learnt κs a r x p = p
 
 pub set-volume-learnt :
     (κs : _) (a : _) (r : _) (x : _) → set-volume-reads.Learnt κs a r x

@@ -2,7 +2,7 @@
 use Prim.Native.Nat.{ℕ}
 use mathlib.Core.Path.{_≡_, refl}
 use mathlib.Core.List.{[], _∷_}
-use Rattle.book.specs.Calls.{Call, callM, on, callO, callC, callV, callD, callL, callJ, callX, callI, callR, callA, malformed}
+use Rattle.book.specs.Calls.{Call, callM, on, callO, callC, callH, callV, callD, callL, callJ, callX, callI, callR, callA, malformed}
 use Rattle.book.specs.Letters.{callOf}
 use Rattle.book.specs.CallLists.{LentCall}
 use Rattle.history.specs.Records.{callsOf}
@@ -39,12 +39,14 @@ other-letters :
     (86 ∷ 2 ∷ 1 ∷ 2 ∷ 3 ∷ 4 ∷ 5 ∷ 6
     ∷ 74 ∷ 3 ∷ 1 ∷ 2 ∷ 3 ∷ 4 ∷ 5 ∷ 6
     ∷ 88 ∷ 3 ∷ 1 ∷ 2 ∷ 3 ∷ 4 ∷ 5 ∷ 6
+    ∷ 72 ∷ 3 ∷ 1 ∷ 2 ∷ 3 ∷ 4 ∷ 5 ∷ 6
     ∷ 73 ∷ 5 ∷ 1 ∷ 2 ∷ 3 ∷ 4 ∷ 5 ∷ 6
     ∷ 82 ∷ 1 ∷ 1 ∷ 2 ∷ 3 ∷ 4 ∷ 5 ∷ 6
     ∷ [])
     ≡ lent (on 1 (callV 2)) 6
     ∷ lent (on 1 (callJ 2 3)) 6
     ∷ lent (on 1 (callX 2 3)) 6
+    ∷ lent (on 1 (callH 2 3)) 6
     ∷ lent (on 1 (callI 2 3 4 5)) 6
     ∷ lent (on 1 callR) 6
     ∷ []

@@ -8,7 +8,7 @@ use mathlib.Core.Logic.{_↔_}
 use lib.ListN.{length}
 use lib.Dec.{T}
 use Rattle.logic.specs.Lists.{every}
-use Rattle.book.specs.Calls.{Call, callM, on, callO, callC, callV, callD, callL, callJ, callX, callI, callR, callA, malformed, after}
+use Rattle.book.specs.Calls.{Call, callM, on, callO, callC, callH, callV, callD, callL, callJ, callX, callI, callR, callA, malformed, after}
 use Rattle.book.specs.CallLists.{LentCall, callsAlone}
 use Rattle.book.specs.Letters.{callOf}
 use Rattle.book.specs.Points.{SameFacts}
@@ -29,6 +29,7 @@ unfolding callOf callsOf
 record-sound (callM m) room = (λ rest. refl, λ t. t)
 record-sound (on c callO) room = (λ rest. refl, λ t. t)
 record-sound (on c (callC p)) room = (λ rest. refl, λ t. t)
+record-sound (on c (callH low high)) room = (λ rest. refl, λ t. t)
 record-sound (on c (callV n)) room = (λ rest. refl, λ t. t)
 record-sound (on c (callD p d)) room = (λ rest. refl, λ t. t)
 record-sound (on c (callL m h)) room = (λ rest. refl, λ t. t)

@@ -1,6 +1,6 @@
 -- Document 01, "For demand 3 a list holds any number of these eleven calls, none too, in any order and with any
--- numbers.", "Its first call gets the fresh book ..": the calls of a list made in turn, from the contract of each.
--- Assumes nothing.
+-- numbers.", and request #103, `H`, the twelfth; "Its first call gets the fresh book ..": the calls of a list made in
+-- turn, from the contract of each. Assumes nothing.
 use Prim.Native.Nat.{ℕ}
 use mathlib.Core.Path.{_≡_}
 use mathlib.Core.Bool.{Bool, not}

@@ -4,7 +4,7 @@ use Prim.Native.Nat.{ℕ, zero, suc, _+_, _-_, _≤_, _<_, zero-le}
 use mathlib.Core.Path.{_≡_, refl, sym, ap, _∙_, subst}
 use mathlib.Core.Bool.{Bool, true, false, cond, not, _&&_, _||_, or-true}
 use mathlib.Core.List.{List, [], _∷_, map}
-use mathlib.Core.Logic.{inl, inr, ⊎-elim}
+use mathlib.Core.Logic.{_⊎_, inl, inr, ⊎-elim}
 use native.Mathlib.Omega.{arith}
 use lib.ListN.{length, getD}
 use lib.Dec.{T, T-not, ltb, ltb→lt}
@@ -85,6 +85,16 @@ module _ {A : Type 0} where
       (λ u. or-left (q x) (some q xs) (f x u))
       (λ u. or-right (q x) (some q xs) (some-imply p q f xs u))
       (or-cases (p x) (some p xs) t)
+
+  pub some-either : (p q : A → Bool) (xs : List A) → T (some (λ x. p x || q x) xs) → T (some p xs) ⊎ T (some q xs)
+  some-either p q [] t = absurd t
+  some-either p q (x ∷ xs) t =
+      ⊎-elim
+      (λ u.
+      ⊎-elim (λ a. inl (or-left (p x) (some p xs) a)) (λ a. inr (or-left (q x) (some q xs) a)) (or-cases (p x) (q x) u))
+      (λ u.
+      ⊎-elim (λ a. inl (or-right (p x) (some p xs) a)) (λ a. inr (or-right (q x) (some q xs) a)) (some-either p q xs u))
+      (or-cases (p x || q x) (some (λ x. p x || q x) xs) t)
 
   pub some-map :
       {B : Type 0} (p : B → Bool) (q : A → Bool) (g : A → B) → ((x : A) → p (g x) ≡ q x) → (xs : List A)

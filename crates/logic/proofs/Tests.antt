@@ -186,13 +186,6 @@ pub and-implied : (a b c d : Bool) → (T c → T a) → (a && b && (c && d)) �
 and-implied a b true d e = rw (T-true a (e tt))
 and-implied a b false d e = and-false (a && b)
 
--- four tests pass where none fails
-pub none-fails : (a b c d : Bool) → (not a && b && not c && not d) ≡ not (a || not b || c || d)
-none-fails true b c d = refl
-none-fails false true true d = refl
-none-fails false true false d = refl
-none-fails false false c d = refl
-
 pub same-leb : (a b c d : ℕ) → (a ≤ b → c ≤ d) → (c ≤ d → a ≤ b) → leb a b ≡ leb c d
 same-leb a b c d to from =
     same-bool (leb a b) (leb c d) (λ t. le→leb c d (to (leb→le a b t))) (λ t. le→leb a b (from (leb→le c d t)))

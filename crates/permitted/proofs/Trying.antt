@@ -112,7 +112,9 @@ module _ {s : Setting} {ws : List ℕ} {r : Rung} {range : Range} {done : Progre
   pub trying-here : {from h : ℕ} → h ≤ high → Behind s ws from h → Triable s ws from h
   trying-here l behind =
       record {
-        judged = record { close = p .listable .close; current = p .listable .current; strike = omega (arith, p .last) };
+        judged =
+            let m = p .listable .measurable in
+            record { low = m .low; high = m .high; current = m .current; strike = omega (arith, p .last) };
         rising = p .listable .rising;
         behind = behind;
       }

@@ -15,11 +15,12 @@ use Rattle.word.specs.Kinds.{keyOf, strikeKind}
 use Rattle.rule.specs.declared.terms.Setting.{Setting}
 use Rattle.logic.specs.Lists.{Rising, only, upFrom, firstFrom}
 use Rattle.rule.specs.declared.bounds.Rung.{Rung}
-use Rattle.rule.specs.Ends.{rungAt, reachOf, isOpenStrike, Multiples, Fit, Climbs}
+use Rattle.rule.specs.Ends.{lowEnd, highEnd, rungAt, reachOf, isOpenStrike, Multiples, Fit, Climbs}
 use Rattle.rule.specs.Spacing.{standingOf}
 use Rattle.rule.specs.Judgement.{Judged, isPermittedBeside, permitted}
 use Rattle.permitted.specs.declared.Progress.{Progress}
 use Rattle.permitted.specs.declared.Range.{Range}
+use Rattle.permitted.specs.declared.Ranges.{Ranges}
 
 -- the strike of a strike word: "h in bits 0–14"
 abbrev pub strikeIn : ℕ → ℕ
@@ -45,10 +46,17 @@ strikeFrom ws at low = firstFrom (λ i. leb low (strikeIn (getD ws i 0))) (lengt
 abbrev pub permittedBeside : Setting → List ℕ → List ℕ
 permittedBeside s ws = permitted s (map standingOf ws)
 
--- the close and `now` of a book, and the strikes of an expiration: they rise
-pub record Listable (s : Setting) (ws : List ℕ) : Type 0 where
-  pub close : s .class .close ≤ highestPrice
+-- the low, the high and `now` of a book
+pub record Measurable (s : Setting) : Type 0 where
+  pub low : s .class .low ≤ highestPrice
+  pub high : s .class .high ≤ highestPrice
   pub current : s .current ≤ lastMonth
+
+-- these and its close, and the strikes of an expiration: they rise
+pub record Listable (s : Setting) (ws : List ℕ) : Type 0 where
+  pub measurable : Measurable s
+  pub close : s .class .close ≤ highestPrice
+  pub order : s .class .low ≤ s .class .high
   pub rising : Rising (map strikeIn ws)
 
 -- the strikes before the index `from` stand too far below h to bear on it
@@ -96,6 +104,20 @@ pub record Climbable (s : Setting) (ws : List ℕ) (rungs : List Rung) (range : 
 -- the first height above a range, or where it begins where it holds none
 abbrev pub above : Range → ℕ
 above range = max (range .low) (range .high + 1)
+
+-- the strikes in range at the price p, from `least` on
+abbrev pub rangeAt : Setting → ℕ → ℕ → Range
+rangeAt s p least = record { low = max (lowEnd p) least; high = highEnd s p }
+
+-- those in range at the low, and above them those in range at the high
+abbrev pub firstRange : Setting → Range
+firstRange s = rangeAt s (s .class .low) 1
+
+abbrev pub secondRange : Setting → Range
+secondRange s = rangeAt s (s .class .high) (above (firstRange s))
+
+abbrev pub rangesOf : Setting → Ranges
+rangesOf s = record { first = firstRange s; second = secondRange s }
 
 -- it went on from the run o: r says how far the list is for the strikes above the range
 pub record Continued (s : Setting) (ws : List ℕ) (range : Range) (done : Progress) (o : List ℕ) (r : Progress)

@@ -8,11 +8,11 @@ ghost use lib.Dec.{eqb};
 ghost use lib.ListN.{length, set};
 ghost use lib.Seq.{sets};
 ghost use Rattle.logic.specs.Lists.{some};
-ghost use Rattle.rule.specs.Ends.{highEnd};
+ghost use Rattle.word.specs.Limits.{lastMonth, highestPrice};
 ghost use Rattle.rule.specs.Spacing.{standingOf};
 ghost use Rattle.rule.specs.Judgement.{isPermittedBeside};
-ghost use Rattle.permitted.specs.Listing.{Listable, Triable, OpenTriable, Continuable, Climbable, Continued};
-ghost use Rattle.permitted.specs.Listing.{standingStrike, strikeFrom, permittedBeside, Filled};
+ghost use Rattle.permitted.specs.Listing.{Measurable, Listable, Triable, OpenTriable, Continuable, Climbable, Continued};
+ghost use Rattle.permitted.specs.Listing.{standingStrike, strikeFrom, permittedBeside, rangeAt, rangesOf, Filled};
 use rule::amounts::ONE_DOLLAR;
 use rule::bounds::Rung;
 use rule::bounds::Rungs;
@@ -54,6 +54,12 @@ struct Progress {
 struct Range {
     low: u32,
     high: u32,
+}
+
+// The strikes in range at the day's low, and those above them that are in range at its high.
+struct Ranges {
+    first: Range,
+    second: Range,
 }
 
 // The first index from `at` on whose strike is at least `low`, or the length.
@@ -199,16 +205,48 @@ fn write_range(
     reached
 }
 
-// Writes the permitted strikes up to `high`, rising, as far as `out` has places, and answers how many there are.
-fn write_permitted(s: Setting, standing: &[u32], high: u32, out: &mut [u32]) -> u32
-    requires { ⌜ Listable s (now standing) × (high ≡ highEnd s) ⌝ }
+// The strikes in range at the price p, from `least` on.
+fn range_at(s: Setting, p: u32, least: u32) -> Range
+    requires { ⌜ (p ≤ highestPrice) × (s .current ≤ lastMonth) ⌝ }
+    ensures { λ r. ⌜ r ≡ rangeAt s p least ⌝ }
+{
+    Range {
+        low: higher_of(low_end(p), least),
+        high: high_end(s, p),
+    }
+}
+
+// The two ranges; where the day's low is its high the second has no strike.
+fn ranges_of(s: Setting) -> Ranges
+    requires { ⌜ Measurable s ⌝ }
+    ensures { λ r. ⌜ r ≡ rangesOf s ⌝ }
+{
+    let first = range_at(s, s.class.low, 1);
+    let above = higher_of(first.low, first.high + 1);
+    let second = range_at(s, s.class.high, above);
+    Ranges { first, second }
+}
+
+// Writes the permitted strikes of the range at the day's low and then of that at its high, where this is another price,
+// rising, as far as `out` has places, and answers how many there are.
+fn write_permitted(s: Setting, standing: &[u32], ranges: Ranges, out: &mut [u32]) -> u32
+    requires { ⌜ Listable s (now standing) × (ranges ≡ rangesOf s) ⌝ }
     ensures { λ r. ⌜ r ≡ length (permittedBeside s (now (standing .entry))) ⌝ }
     ensures { λ _. ⌜ now (out .exit) ≡ sets (now (out .entry)) 0 (permittedBeside s (now (standing .entry))) ⌝ }
 {
-    let low = higher_of(low_end(s.class.close), 1);
-    let none = Progress { from: 0, count: 0 };
-    let done = write_range(s, standing, rungs_of(s), Range { low, high }, none, out);
-    done.count
+    let rungs = rungs_of(s);
+    let high = s.class.high;
+    let mut p = s.class.low;
+    let mut range = ranges.first;
+    let mut done = Progress { from: 0, count: 0 };
+    loop {
+        done = write_range(s, standing, rungs, range, done, out);
+        if p == high {
+            return done.count;
+        }
+        range = ranges.second;
+        p = high;
+    }
 }
 
 // Writes the permitted strikes to the second run where it has places for all of them, and nothing else: unless it has a
@@ -217,14 +255,15 @@ pub fn list_permitted(s: Setting, standing: &[u32], second: &mut [u32]) -> Answe
     requires { ⌜ Listable s (now standing) ⌝ }
     ensures { λ r. ⌜ Filled (permittedBeside s (now (standing .entry))) (now (second .entry)) r (now (second .exit)) ⌝ }
 {
-    let high = high_end(s);
+    let ranges = ranges_of(s);
+    let high = higher_of(ranges.first.high, ranges.second.high);
     let mut room = if second.len() < most_open(high) as usize {
         0
     } else {
         second.len()
     };
     loop {
-        let count = write_permitted(s, standing, high, &mut second[0..room]);
+        let count = write_permitted(s, standing, ranges, &mut second[0..room]);
         if second.len() < count as usize {
             return Answer::Refused(Refusal::OutOfWords(count));
         }

@@ -10,7 +10,7 @@ use lib.ListN.{length}
 use lib.Dec.{T, eqb, leb, ltb, leb·zero}
 use borrow.Author.Tests.{eq-eqb, le-ltb}
 use Rattle.word.specs.Kinds.{kindOf, classKind, strikeKind}
-use Rattle.word.specs.Codec.{Word, Class, Close, Volume, Expiration, isLegal, packed}
+use Rattle.word.specs.Codec.{Word, Class, Close, Volume, Expiration, DayPrice, isLegal, packed}
 use Rattle.word.proofs.Words.{legal-fits, kindIn, kind-packed}
 use Rattle.logic.specs.Lists.{every, some, only, firstAt}
 use Rattle.book.specs.Facts.{Series, OpenClass, number}
@@ -212,14 +212,21 @@ module _ (q : Word → Bool) (other : (w : Word) → eqb (kindIn w) (classKind .
       let a : T (q (Class (number x) (x .figures .designations))) = search ands in
       let b = other (Close (x .figures .close)) refl in
       let c = other (Volume (x .figures .volume)) refl in
-      let d = no-class 0 (x .series) (classesWords xs []) (every-class xs (search ands)) in
+      let d = other (DayPrice (x .figures .low)) refl in
+      let e = other (DayPrice (x .figures .high)) refl in
+      let f = no-class 0 (x .series) (classesWords xs []) (every-class xs (search ands)) in
       search and-intro
 
 pub classes-laid : Laid number (classKind .number) (λ xs. classesWords xs [])
 classes-laid = record {
   first = λ x. Class (x .figures .number) (x .figures .designations);
   rest =
-      λ x xs. Close (x .figures .close) ∷ Volume (x .figures .volume) ∷ seriesWords 0 (x .series) (classesWords xs []);
+      λ x xs.
+      Close (x .figures .close)
+      ∷ Volume (x .figures .volume)
+      ∷ DayPrice (x .figures .low)
+      ∷ DayPrice (x .figures .high)
+      ∷ seriesWords 0 (x .series) (classesWords xs []);
   none = refl;
   begins = λ x xs. refl;
   kinds = λ x. refl;

@@ -12,7 +12,7 @@ use lib.Dec.{T, eqb}
 use Rattle.logic.specs.Lists.{sum, every}
 use Rattle.word.specs.Limits.{longestRun}
 use Rattle.word.specs.Head.{firstPlace}
-use Rattle.word.specs.Codec.{Word, Head, Class, Close, Volume, Expiration, Strike, Invalid, isLegal, packed, Fits}
+use Rattle.word.specs.Codec.{Word, Head, Class, Close, Volume, Expiration, Strike, DayPrice, Invalid, isLegal, packed, Fits}
 use Rattle.word.specs.Programs.{isProgram, program, designationIn}
 use Rattle.word.specs.Caps.{own}
 use Rattle.word.proofs.Words.{kindIn, kind-packed, class-designation}
@@ -40,6 +40,7 @@ addedBy p (Close price) = 0
 addedBy p (Volume v) = 0
 addedBy p (Expiration m) = 0
 addedBy p (Strike h g a b) = 0
+addedBy p (DayPrice price) = 0
 addedBy p Invalid = 0
 
 added-packed : (p : ℕ) → T (isProgram p) → (x : Word) → Fits x → added p (packed x) ≡ addedBy p x
@@ -55,6 +56,7 @@ added-packed p k x small = rw (kind-packed x (packed x) small refl) (go x small)
     go (Volume v) f = refl
     go (Expiration m) f = refl
     go (Strike h g a b) f = refl
+    go (DayPrice price) f = refl
     go Invalid f = refl
 
 sum-packed :

@@ -15,7 +15,7 @@ series month strike ground put = record { month = month; strike = strike; ground
 reviewed : OpenClass
 unfolding series
 reviewed = record {
-  figures = record { number = 7; close = 1300; volume = 0; designations = 1 ∷ 0 ∷ 0 ∷ [] };
+  figures = record { number = 7; close = 1300; volume = 0; low = 1300; high = 1300; designations = 1 ∷ 0 ∷ 0 ∷ [] };
   series =
       series 5 14 dollarGround 0
       ∷ series 5 16 dollarGround 0

@@ -7,11 +7,12 @@ use mathlib.Core.List.{List, [], _∷_, _++_, append-nil, reverse}
 use mathlib.Core.Logic.{_⊎_, inl, inr}
 use native.Mathlib.Numerals.{add-one}
 use native.Mathlib.Omega.{arith}
-use lib.Dec.{T, ltb, leb→le}
+use lib.Dec.{T, ltb}
 use lib.ListN.{length, getD, take, drop, replicate, length-take, length-append}
 use lib.Seq.{take-suc, drop-cons, drop-at, split-at, take-length, drop-length}
 use Rattle.word.specs.Limits.{highestPrice}
 use Rattle.word.specs.Field.{field}
+use Rattle.word.proofs.RangeTests.{day-prices}
 use Rattle.word.specs.Kinds.{keyOf, strikeKind, groundField, putField, callField}
 use Rattle.book.specs.Facts.{Series, OpenClass}
 use Rattle.logic.proofs.Tests.{ands, lt-or-le}
@@ -180,8 +181,9 @@ pub record Going (price n : ℕ) (ws₀ ws : List ℕ) (k : ReviewState) (i : �
 -- the close is in its limits
 pub close-limit : {price : ℕ} {ws : List ℕ} → Steppable price ws → price ≤ highestPrice
 close-limit X =
-    let c = X .class .figures .close in
-    omega (arith, X .close, leb→le c highestPrice (search ands))
+    let r = X .class .figures in
+    let o = day-prices (r .low) (r .close) (r .high) (search ands) in
+    omega (arith, X .close)
 
 -- nothing is reviewed yet
 module _ (price : ℕ) (ws : List ℕ) (last : LastStrikes) (M : EndsWith ws last) where

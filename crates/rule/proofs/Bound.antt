@@ -5,15 +5,15 @@ use mathlib.Core.Bool.{Bool, true, false, not, cond, _&&_, _||_}
 use mathlib.Core.Logic.{⊎-elim}
 use Prim.Native.Nat.{ℕ, _+_, _*_, _-_, _/_, _%_, _≤_, _<_, min, max}
 use native.Mathlib.Omega.{arith}
-use lib.Dec.{T, leb, ltb, leb→le, le→leb}
+use lib.Dec.{T, leb, ltb, leb→le}
 use borrow.Author.Tests.{ltb-true, ltb-false, leb-true, leb-false, le-leb, lt-ltb, le-ltb, eq-eqb}
-use Rattle.logic.proofs.Tests.{ands, parts, true-T, T-true, or-cases, same-bool}
+use Rattle.logic.proofs.Tests.{ands, parts, true-T, T-true, or-cases, same-bool, lt-or-le}
 use Rattle.logic.proofs.Multiples.{times}
 use Rattle.word.specs.Limits.{highestStrike, halfDollar, cents}
 use Rattle.rule.specs.declared.terms.Setting.{Setting}
 use Rattle.word.specs.Programs.{halfPrice, halfVolume}
-use Rattle.rule.specs.Terms.{inHalves, isDollarClass, isHalfClass, isLong, isNear, price}
-use Rattle.rule.specs.Grids.{multiple, standardGrid, dollarGrid, halfDollars, halfGrid, wingBase, wingGrid, twoFiftyGrid}
+use Rattle.rule.specs.Terms.{inHalves, isDollarClass, isHalfClass, isLong, isNear}
+use Rattle.rule.specs.Grids.{multiple, standardGrid, dollarGrid, halfDollars, hasHalves, halfGrid, wingBase, wingGrid, twoFiftyGrid}
 use Rattle.rule.specs.Grids.{oneDollar, twoFifty, fiveDollars, fiveFifty}
 use Rattle.rule.specs.Ranges.{rangeCount, lowPrice, amongFive, rangeBy, rangeGrid, standardRange, rangeOf}
 use Rattle.rule.specs.Ends.{fifthOn, fifteenDollars, fifthAbove, quarterDollar, halfEnd, lowEnd, highEnd, lastDollar, lastTwoFifty, reachOf}
@@ -60,10 +60,18 @@ fifth-low dollar p l = go dollar (ltb (inHalves p) (inHalves fifteenDollars)) re
     go false true e = omega (arith, ltb-true (inHalves p) (inHalves fifteenDollars) e)
     go false false e = omega arith
 
-module _ (s : Setting) where
-  abbrev p : ℕ
-  p = price s
+-- a higher price has no lower end
+pub low-rises : (p q : ℕ) → p ≤ q → lowEnd p ≤ lowEnd q
+low-rises p q l = go (ltb lowPrice p) refl (ltb lowPrice q) refl
+  where
+    go : (t : Bool) → ltb lowPrice p ≡ t → (u : Bool) → ltb lowPrice q ≡ u →
+        cond {A = ℕ} t ((p + (oneDollar - 1)) / oneDollar) 0
+        ≤ cond {A = ℕ} u ((q + (oneDollar - 1)) / oneDollar) 0
+    go true a true b = omega arith
+    go true a false b = absurd (omega (arith, ltb-true lowPrice p a, ltb-false lowPrice q b))
+    go false a u b = omega arith
 
+module _ (s : Setting) (p : ℕ) where
   abbrev dollar : Bool
   dollar = isDollarClass (s .class)
 
@@ -73,9 +81,9 @@ module _ (s : Setting) where
   -- where a strike in range stands
   pub record Ranged (h : ℕ) : Type 0 where
     pub low : lowEnd p ≤ h
-    pub high : h ≤ highestStrike → h ≤ highEnd s
+    pub high : h ≤ highestStrike → h ≤ highEnd s p
 
-  pub standard-ranged : (h : ℕ) → standardRange s h ≡ true → Ranged h
+  pub standard-ranged : (h : ℕ) → standardRange s p h ≡ true → Ranged h
   standard-ranged h = go (ltb lowPrice p) refl
     where
       go : (t : Bool) → ltb lowPrice p ≡ t →
@@ -103,10 +111,11 @@ module _ (s : Setting) where
           among : T (amongFive (rangeGrid s) p h) → h ≤ max (p / quarterDollar) fifth
           among a =
               let b : T (ltb (inHalves p) h && leb h fifth && rangeGrid s (cents h)) =
-              subst T (five s h (ltb-false lowPrice p q)) a in
+              subst T (five s p h (ltb-false lowPrice p q)) a in
               omega (arith, leb→le h fifth (search ands))
 
-  pub ranged-standard : (h : ℕ) → rangeGrid s (cents h) ≡ true → lowEnd p ≤ h → h ≤ highEnd s → standardRange s h ≡ true
+  pub ranged-standard : (h : ℕ) → rangeGrid s (cents h) ≡ true → lowEnd p ≤ h → h ≤ highEnd s p →
+      standardRange s p h ≡ true
   ranged-standard h on = go (ltb lowPrice p) refl (leb (cents h) (2 * p)) refl
     where
       go : (t : Bool) → ltb lowPrice p ≡ t → (u : Bool) → leb (cents h) (2 * p) ≡ u →
@@ -120,11 +129,11 @@ module _ (s : Setting) where
       go false q false a low high =
           let above : 2 * p < cents h = leb-false (cents h) (2 * p) a in
           let over : ltb (inHalves p) h ≡ true = lt-ltb (inHalves p) h (omega arith) in
-          rw (a, five s h (ltb-false lowPrice p q), on, over, le-leb h fifth (omega arith))
+          rw (a, five s p h (ltb-false lowPrice p q), on, over, le-leb h fifth (omega arith))
 
   -- near, past $25, a strike that isn't on the range grid too
-  pub ranged-near : (h : ℕ) → isNear s ≡ true → lastTwoFifty < h → lowEnd p ≤ h → h ≤ highEnd s →
-      standardRange s h ≡ true
+  pub ranged-near : (h : ℕ) → isNear s ≡ true → lastTwoFifty < h → lowEnd p ≤ h → h ≤ highEnd s p →
+      standardRange s p h ≡ true
   ranged-near h near l = go (ltb lowPrice p) refl
     where
       go : (t : Bool) → ltb lowPrice p ≡ t → cond {A = ℕ} t ((p + (oneDollar - 1)) / oneDollar) 0 ≤ h →
@@ -138,28 +147,28 @@ module _ (s : Setting) where
           rw (le-leb (cents h) (2 * p) (omega (arith, fifth-low dollar p (ltb-false lowPrice p q))))
 
   -- where each strike between the ends is in range the ends tell the range
-  told-by-ends : (h : ℕ) → h ≤ highestStrike → (lowEnd p ≤ h → h ≤ highEnd s → standardRange s h ≡ true) →
-      standardRange s h ≡ (leb (lowEnd p) h && leb h (highEnd s))
-  told-by-ends h most within = same-bool (standardRange s h) (leb (lowEnd p) h && leb h (highEnd s)) to from
+  told-by-ends : (h : ℕ) → h ≤ highestStrike → (lowEnd p ≤ h → h ≤ highEnd s p → standardRange s p h ≡ true) →
+      standardRange s p h ≡ (leb (lowEnd p) h && leb h (highEnd s p))
+  told-by-ends h most within = same-bool (standardRange s p h) (leb (lowEnd p) h && leb h (highEnd s p)) to from
     where
-      to : T (standardRange s h) → T (leb (lowEnd p) h && leb h (highEnd s))
+      to : T (standardRange s p h) → T (leb (lowEnd p) h && leb h (highEnd s p))
       to t =
-          let r : Ranged h = standard-ranged h (T-true (standardRange s h) t) in
-          rw (le-leb (lowEnd p) h (r .low), le-leb h (highEnd s) (r .high most)) tt
+          let r : Ranged h = standard-ranged h (T-true (standardRange s p h) t) in
+          rw (le-leb (lowEnd p) h (r .low), le-leb h (highEnd s p) (r .high most)) tt
 
-      from : T (leb (lowEnd p) h && leb h (highEnd s)) → T (standardRange s h)
+      from : T (leb (lowEnd p) h && leb h (highEnd s p)) → T (standardRange s p h)
       from t =
-          true-T (standardRange s h)
-          (within (leb→le (lowEnd p) h (search ands)) (leb→le h (highEnd s) (search ands)))
+          true-T (standardRange s p h)
+          (within (leb→le (lowEnd p) h (search ands)) (leb→le h (highEnd s p) (search ands)))
 
   -- so they do on the range grid
   range-ends : (h : ℕ) → rangeGrid s (cents h) ≡ true → h ≤ highestStrike →
-      standardRange s h ≡ (leb (lowEnd p) h && leb h (highEnd s))
+      standardRange s p h ≡ (leb (lowEnd p) h && leb h (highEnd s p))
   range-ends h on most = told-by-ends h most (ranged-standard h on)
 
   -- and on the grid of ground 4
   pub two-fifty-ends : (h : ℕ) → twoFiftyGrid s (cents h) ≡ true → h ≤ highestStrike →
-      standardRange s h ≡ (leb (lowEnd p) h && leb h (highEnd s))
+      standardRange s p h ≡ (leb (lowEnd p) h && leb h (highEnd s p))
   two-fifty-ends h e most = told-by-ends h most (ranged-near h (search parts) (two-fifty-stepped s h e .least))
 
   -- the range grid holds the Standard strikes
@@ -172,42 +181,42 @@ module _ (s : Setting) where
       go false q = e
 
   pub standard-ends : (h : ℕ) → standardGrid (s .class) (cents h) ≡ true → h ≤ highestStrike →
-      standardRange s h ≡ (leb (lowEnd p) h && leb h (highEnd s))
+      standardRange s p h ≡ (leb (lowEnd p) h && leb h (highEnd s p))
   standard-ends h e most = range-ends h (standard-range-grid h e) most
 
   -- a Dollar strike is a whole dollar in a near $1 class
   pub dollar-ends : (h : ℕ) → dollarGrid s (cents h) ≡ true → h ≤ highestStrike →
-      standardRange s h ≡ (leb (lowEnd p) h && leb h (highEnd s))
+      standardRange s p h ≡ (leb (lowEnd p) h && leb h (highEnd s p))
   dollar-ends h e most =
       let near : (isNear s && dollar) ≡ true = search parts in
       let whole : multiple oneDollar (cents h) ≡ true = search parts in
       range-ends h (rw (near, whole)) most
 
   -- the L of a wing and the strike $5 above it are Standard strikes
-  pub wing-ends : (h : ℕ) → wingGrid s (cents h) ≡ true →
+  pub wing-ends : (h : ℕ) → wingGrid s p (cents h) ≡ true →
       let l = inHalves (wingBase (cents h)) in
-      rangeOf s 3 h ≡ (leb (lowEnd p) l && leb (l + 10) (highEnd s))
-  wing-ends h e = same-bool (rangeOf s 3 h) (leb (lowEnd p) l && leb (l + 10) (highEnd s)) to from
+      rangeOf s p 3 h ≡ (leb (lowEnd p) l && leb (l + 10) (highEnd s p))
+  wing-ends h e = same-bool (rangeOf s p 3 h) (leb (lowEnd p) l && leb (l + 10) (highEnd s p)) to from
     where
       l : ℕ
       l = inHalves (wingBase (cents h))
 
-      in-range : (n : ℕ) → n % 10 ≡ 0 → n ≤ lastDollar → lowEnd p ≤ n → n ≤ highEnd s → standardRange s n ≡ true
+      in-range : (n : ℕ) → n % 10 ≡ 0 → n ≤ lastDollar → lowEnd p ≤ n → n ≤ highEnd s p → standardRange s p n ≡ true
       in-range n m k =
           ranged-standard n (standard-range-grid n (fives-standard (s .class) n m (λ j. absurd (omega arith))))
 
-      to : T (rangeOf s 3 h) → T (leb (lowEnd p) l && leb (l + 10) (highEnd s))
+      to : T (rangeOf s p 3 h) → T (leb (lowEnd p) l && leb (l + 10) (highEnd s p))
       to r =
-          let w : Wing s h = wing-stepped s h e in
+          let w : Wing s h = wing-stepped s h p e in
           let low : lowEnd p ≤ l = standard-ranged l (search parts) .low in
-          let high : l + 10 ≤ highEnd s = standard-ranged (l + 10) (search parts) .high (omega (arith, w .most)) in
-          rw (le-leb (lowEnd p) l low, le-leb (l + 10) (highEnd s) high) tt
+          let high : l + 10 ≤ highEnd s p = standard-ranged (l + 10) (search parts) .high (omega (arith, w .most)) in
+          rw (le-leb (lowEnd p) l low, le-leb (l + 10) (highEnd s p) high) tt
 
-      from : T (leb (lowEnd p) l && leb (l + 10) (highEnd s)) → T (rangeOf s 3 h)
+      from : T (leb (lowEnd p) l && leb (l + 10) (highEnd s p)) → T (rangeOf s p 3 h)
       from r =
-          let w : Wing s h = wing-stepped s h e in
+          let w : Wing s h = wing-stepped s h p e in
           let low : lowEnd p ≤ l = leb→le (lowEnd p) l (search ands) in
-          let high : l + 10 ≤ highEnd s = leb→le (l + 10) (highEnd s) (search ands) in
+          let high : l + 10 ≤ highEnd s p = leb→le (l + 10) (highEnd s p) (search ands) in
           let m : l % 10 ≡ 0 = times 10 l (cents h / fiveDollars) (omega arith) in
           rw (
             in-range l m (omega (arith, w .most)) low (omega arith),
@@ -215,7 +224,7 @@ module _ (s : Setting) where
           )
           tt
 
-  pub high-strike : highEnd s ≤ highestStrike
+  pub high-strike : highEnd s p ≤ highestStrike
   high-strike = go (ltb lowPrice p) refl
     where
       go : (t : Bool) → ltb lowPrice p ≡ t →
@@ -226,23 +235,25 @@ module _ (s : Setting) where
           omega (arith, fifth-most (isNear s && dollar) dollar (inHalves p) (omega arith))
 
   abbrev halfAsked : Bool
-  halfAsked = isNear s && isHalfClass (s .class) && leb p halfPrice && leb halfVolume (s .class .volume)
+  halfAsked = hasHalves s && leb p lowPrice
 
-  half-price : halfAsked ≡ true → p ≤ halfPrice
-  half-price a = leb-true p halfPrice (search parts)
+  half-price : halfAsked ≡ true → p ≤ lowPrice
+  half-price a = leb-true p lowPrice (search parts)
 
-  pub half-within : halfEnd s ≤ highEnd s
+  pub half-within : halfEnd s p ≤ highEnd s p
   half-within = go halfAsked refl
     where
       go : (t : Bool) → halfAsked ≡ t →
-          cond {A = ℕ} t (min (max (p / quarterDollar) (inHalves p + rangeCount)) (inHalves fiveFifty)) 0 ≤ highEnd s
+          cond {A = ℕ} t (min (max (p / quarterDollar) (inHalves p + rangeCount)) (inHalves fiveFifty)) 0
+          ≤ highEnd s p
       go true a =
-          let l : p ≤ halfPrice = half-price a in
-          rw (le-ltb lowPrice p (omega arith))
-          (omega (arith, fifth-least (isNear s && dollar) dollar (inHalves p) (omega arith)))
+          let l : p ≤ lowPrice = half-price a in
+          rw (le-ltb lowPrice p l)
+          (⊎-elim (λ k. omega (arith, fifth-least (isNear s && dollar) dollar (inHalves p) k)) (λ k. omega arith)
+          (lt-or-le (inHalves p) (inHalves fifteenDollars)))
       go false a = omega arith
 
-  pub half-most : halfEnd s ≤ inHalves fiveFifty
+  pub half-most : halfEnd s p ≤ inHalves fiveFifty
   half-most = go halfAsked
     where
       go : (t : Bool) →
@@ -251,35 +262,46 @@ module _ (s : Setting) where
       go true = omega arith
       go false = omega arith
 
-  -- on the grid of Half the price sets no lowest strike
-  pub half-low : (h : ℕ) → halfGrid s (cents h) ≡ true → lowEnd p ≡ 0
-  half-low h grid =
-      let cheap : p ≤ halfPrice = half-price (search parts) in
-      rw (le-ltb lowPrice p (omega arith))
-
   -- Half gives strikes in near expirations only
-  pub half-reach : 1 ≤ halfEnd s → reachOf s ≤ 1
+  pub half-reach : 1 ≤ halfEnd s p → reachOf s ≤ 1
   half-reach = go (isLong s)
     where
       go : (long : Bool) →
           1
-          ≤ cond {A = ℕ} (not long && isHalfClass (s .class) && leb p halfPrice && leb halfVolume (s .class .volume))
+          ≤ cond {A = ℕ}
+          (not long && isHalfClass (s .class) && leb (s .class .close) halfPrice && leb halfVolume (s .class .volume)
+          && leb p lowPrice)
           (min (max (p / quarterDollar) (inHalves p + rangeCount)) (inHalves fiveFifty))
           0 →
           cond {A = ℕ} long 2 1 ≤ 1
       go true l = absurd (omega arith)
       go false l = omega arith
 
-  pub half-ranged : (h : ℕ) → halfGrid s (cents h) ≡ true → rangeBy halfDollars p h ≡ true → h ≤ halfEnd s
+  -- a strike of Half's grid is in range at no price above $20
+  half-cheap : (h : ℕ) → halfGrid s (cents h) ≡ true → rangeBy halfDollars p h ≡ true → p ≤ lowPrice
+  half-cheap h grid = go (ltb lowPrice p) refl
+    where
+      go : (t : Bool) → ltb lowPrice p ≡ t →
+          cond t (leb p (2 * cents h) && leb (2 * cents h) (3 * p))
+          (leb (cents h) (2 * p) || amongFive halfDollars p h)
+          ≡ true →
+          p ≤ lowPrice
+      go true q e =
+          let most : cents h ≤ fiveFifty = leb-true (cents h) fiveFifty (search parts) in
+          absurd (omega (arith, ltb-true lowPrice p q, leb-true p (2 * cents h) (search parts)))
+      go false q e = ltb-false lowPrice p q
+
+  pub half-ranged : (h : ℕ) → halfGrid s (cents h) ≡ true → rangeBy halfDollars p h ≡ true →
+      (lowEnd p ≤ h) × (h ≤ halfEnd s p)
   half-ranged h grid range =
-      let a : halfAsked ≡ true = search parts in
-      let l : p ≤ halfPrice = half-price a in
+      let l : p ≤ lowPrice = half-cheap h grid range in
+      let has : hasHalves s ≡ true = search parts in
       let most : cents h ≤ fiveFifty = leb-true (cents h) fiveFifty (search parts) in
       let within : (leb (cents h) (2 * p) || amongFive halfDollars p h) ≡ true =
-      rw (le-ltb lowPrice p (omega arith)) at range in
+      rw (le-ltb lowPrice p l) at range in
       let near : h ≤ max (p / quarterDollar) (inHalves p + rangeCount) =
       ⊎-elim double among (or-cases (leb (cents h) (2 * p)) (amongFive halfDollars p h) (true-T _ within)) in
-      rw a (omega arith)
+      (rw (le-ltb lowPrice p l) (omega arith), rw (has, le-leb p lowPrice l) (omega arith))
     where
       double : T (leb (cents h) (2 * p)) → h ≤ max (p / quarterDollar) (inHalves p + rangeCount)
       double b = omega (arith, leb→le (cents h) (2 * p) b)
@@ -295,10 +317,11 @@ module _ (s : Setting) where
       h ≤ min (max (p / quarterDollar) (inHalves p + rangeCount)) (inHalves fiveFifty) →
       (halfGrid s (cents h) ≡ true) × (rangeBy halfDollars p h ≡ true)
   half-near h a m =
-      let cheap : p ≤ halfPrice = half-price a in
+      let cheap : p ≤ lowPrice = half-price a in
+      let has : hasHalves s ≡ true = search parts in
       let on : halfDollars (cents h) ≡ true =
       rw (eq-eqb (cents h % halfDollar) 0 (omega arith), le-leb (cents h) fiveFifty (omega arith)) in
-      (rw (a, on), rw (le-ltb lowPrice p (omega arith)) (near (leb (cents h) (2 * p)) refl on))
+      (rw (has, on), rw (le-ltb lowPrice p cheap) (near (leb (cents h) (2 * p)) refl on))
     where
       near : (u : Bool) → leb (cents h) (2 * p) ≡ u → halfDollars (cents h) ≡ true →
           (leb (cents h) (2 * p) || amongFive halfDollars p h) ≡ true
@@ -308,7 +331,7 @@ module _ (s : Setting) where
           let over : ltb (inHalves p) h ≡ true = lt-ltb (inHalves p) h (omega arith) in
           rw (q, five-half-dollars p h, on, over, le-leb h (inHalves p + rangeCount) (omega arith))
 
-  pub half-each : (h : ℕ) → 1 ≤ h → h ≤ halfEnd s → (halfGrid s (cents h) ≡ true) × (rangeBy halfDollars p h ≡ true)
+  pub half-each : (h : ℕ) → 1 ≤ h → h ≤ halfEnd s p → (halfGrid s (cents h) ≡ true) × (rangeBy halfDollars p h ≡ true)
   half-each h l = go halfAsked refl
     where
       go : (t : Bool) → halfAsked ≡ t →
@@ -317,9 +340,32 @@ module _ (s : Setting) where
       go true a m = half-near h a m
       go false a m = absurd (omega arith)
 
-  pub half-ends : (h : ℕ) → halfGrid s (cents h) ≡ true → rangeBy halfDollars p h ≡ leb h (halfEnd s)
-  half-ends h grid =
-      let a : halfAsked ≡ true = search parts in
-      same-bool (rangeBy halfDollars p h) (leb h (halfEnd s))
-      (λ r. le→leb h (halfEnd s) (half-ranged h grid (T-true (rangeBy halfDollars p h) r)))
-      (λ r. true-T (rangeBy halfDollars p h) (half-near h a (rw a at (leb→le h (halfEnd s) r)) .1))
+  pub half-ends : (h : ℕ) → halfGrid s (cents h) ≡ true →
+      rangeBy halfDollars p h ≡ (leb (lowEnd p) h && leb h (halfEnd s p))
+  half-ends h grid = same-bool (rangeBy halfDollars p h) (leb (lowEnd p) h && leb h (halfEnd s p)) to from
+    where
+      to : T (rangeBy halfDollars p h) → T (leb (lowEnd p) h && leb h (halfEnd s p))
+      to t =
+          let r = half-ranged h grid (T-true (rangeBy halfDollars p h) t) in
+          rw (le-leb (lowEnd p) h (r .0), le-leb h (halfEnd s p) (r .1)) tt
+
+      from : T (leb (lowEnd p) h && leb h (halfEnd s p)) → T (rangeBy halfDollars p h)
+      from t = go (leb p lowPrice) refl (leb→le h (halfEnd s p) (search ands))
+        where
+          has : hasHalves s ≡ true
+          has = search parts
+
+          -- past $20 the range begins above the last strike of Half's grid
+          go : (u : Bool) → leb p lowPrice ≡ u →
+              h
+              ≤ cond {A = ℕ} (hasHalves s && u)
+              (min (max (p / quarterDollar) (inHalves p + rangeCount)) (inHalves fiveFifty))
+              0 →
+              T (rangeBy halfDollars p h)
+          go true e l = true-T (rangeBy halfDollars p h) (half-near h (rw (has, e)) (rw has at l) .1)
+          go false e l =
+              let low : lowEnd p ≤ h = leb→le (lowEnd p) h (search ands) in
+              let over : lowPrice < p = leb-false p lowPrice e in
+              let above : (p + (oneDollar - 1)) / oneDollar ≤ h = rw (lt-ltb lowPrice p over) at low in
+              let none : h ≤ 0 = rw has at l in
+              absurd (omega arith)

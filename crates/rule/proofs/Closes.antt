@@ -1,5 +1,5 @@
--- Document 01, "Closes at the edges": T1 to T10, and after them request #101's own, as one list of cases, each computed
--- up to the end of the range and so shown for all strikes. Assumes nothing.
+-- Document 01, "Closes at the edges": T1 to T10, and after them those of requests #101 and #103, as one list of cases,
+-- each computed up to the end of the range and so shown for all strikes. Assumes nothing.
 use mathlib.Core.Path.{_≡_, refl, _∙_}
 use mathlib.Core.Bool.{Bool, true, false}
 use mathlib.Core.List.{List, [], _∷_, _++_, map}
@@ -12,7 +12,7 @@ use Rattle.rule.specs.declared.terms.Setting.{Setting}
 use Rattle.logic.specs.Lists.{only, upFrom}
 use Rattle.rule.specs.Terms.{isLong, isNear, isOutside}
 use Rattle.rule.specs.Ranges.{lowest, amongFive}
-use Rattle.rule.specs.Ends.{highEnd}
+use Rattle.rule.specs.Ends.{topEnd}
 use Rattle.rule.specs.Spacing.{Standing}
 use Rattle.rule.specs.Judgement.{judgement, isPermittedBeside, permitted}
 use Rattle.rule.proofs.Most.{permitted-short}
@@ -52,7 +52,7 @@ data Outcome : Type 0 where
   testsOf : List Bool → Outcome
 
 abbrev computed : ClassRecord → Case → Outcome
-computed c (permits s standing strikes) = strikesOf (only (isPermittedBeside s standing) (upFrom (highEnd s) 1))
+computed c (permits s standing strikes) = strikesOf (only (isPermittedBeside s standing) (upFrom (topEnd s) 1))
 computed c (answers s standing h answer) = answerOf (judgement s standing h)
 computed c (refused now month) = testsOf (isOutside (seenFrom now month c) ∷ [])
 computed c (near now month) = testsOf (isOutside (seenFrom now month c) ∷ isNear (seenFrom now month c) ∷ [])
@@ -78,37 +78,53 @@ all-hold : (xs : List Case) → ((c : ClassRecord) → map (computed c) xs ≡ m
 all-hold [] e = tt
 all-hold (x ∷ xs) e = (holds x (λ c. let e₁ = e c in cc), all-hold xs (λ c. let e₁ = e c in cc))
 
--- class 7 seen from month 4, by its close, volume and designations, in the month m
-abbrev setting : ℕ → ℕ → List ℕ → ℕ → Setting
-setting p v ds m =
+-- class 7 seen from month 4, by its low, close and high, its volume and designations, in the month m
+abbrev daily : ℕ → ℕ → ℕ → ℕ → List ℕ → ℕ → Setting
+daily low p high v ds m =
     record {
-      class = record { number = 7; close = p; volume = v; designations = ds };
+      class = record { number = 7; close = p; volume = v; low = low; high = high; designations = ds };
       current = 4;
       month = m;
     }
 
--- a $1 class near and long, a class in no program, a half class
+-- in no program, a $1 class near and long, a half class, a class in the $2.50 program
+abbrev noProgramDay : ℕ → ℕ → ℕ → Setting
+noProgramDay low p high = daily low p high 0 (0 ∷ 0 ∷ 0 ∷ []) 12
+
+abbrev dollarNearDay : ℕ → ℕ → ℕ → Setting
+dollarNearDay low p high = daily low p high 0 (1 ∷ 0 ∷ 0 ∷ []) 12
+
+abbrev dollarLongDay : ℕ → ℕ → ℕ → Setting
+dollarLongDay low p high = daily low p high 0 (1 ∷ 0 ∷ 0 ∷ []) 13
+
+abbrev halfNearDay : ℕ → ℕ → ℕ → Setting
+halfNearDay low p high = daily low p high 1000 (0 ∷ 1 ∷ 0 ∷ []) 12
+
+abbrev twoFiftyNearDay : ℕ → ℕ → ℕ → Setting
+twoFiftyNearDay low p high = daily low p high 0 (0 ∷ 0 ∷ 1 ∷ []) 12
+
+-- the same after a close, which is its low and its high
+abbrev noProgram : ℕ → Setting
+noProgram p = noProgramDay p p p
+
 abbrev dollarNear : ℕ → Setting
-dollarNear p = setting p 0 (1 ∷ 0 ∷ 0 ∷ []) 12
+dollarNear p = dollarNearDay p p p
 
 abbrev dollarLong : ℕ → Setting
-dollarLong p = setting p 0 (1 ∷ 0 ∷ 0 ∷ []) 13
-
-abbrev noProgram : ℕ → Setting
-noProgram p = setting p 0 (0 ∷ 0 ∷ 0 ∷ []) 12
+dollarLong p = dollarLongDay p p p
 
 abbrev halfNear : ℕ → Setting
-halfNear p = setting p 1000 (0 ∷ 1 ∷ 0 ∷ []) 12
+halfNear p = halfNearDay p p p
 
--- a class in the $2.50 program near and long, and one in the $1 program too
 abbrev twoFiftyNear : ℕ → Setting
-twoFiftyNear p = setting p 0 (0 ∷ 0 ∷ 1 ∷ []) 12
+twoFiftyNear p = twoFiftyNearDay p p p
 
+-- a class in the $2.50 program long, and one in the $1 program too
 abbrev twoFiftyLong : ℕ → Setting
-twoFiftyLong p = setting p 0 (0 ∷ 0 ∷ 1 ∷ []) 13
+twoFiftyLong p = daily p p p 0 (0 ∷ 0 ∷ 1 ∷ []) 13
 
 abbrev bothNear : ℕ → Setting
-bothNear p = setting p 0 (2 ∷ 0 ∷ 2 ∷ []) 12
+bothNear p = daily p p p 0 (2 ∷ 0 ∷ 2 ∷ []) 12
 
 abbrev oneStanding : ℕ → ℕ → List Standing
 oneStanding h g = record { strike = h; ground = g } ∷ []
@@ -170,7 +186,26 @@ cases =
     answers (twoFiftyLong 4850) [] 105 (Refused OffGrid) ∷
     -- "For spacing it counts as Standard", whichever came first
     answers (bothNear 2700) (oneStanding 55 4) (2 * 27) (Refused TooClose) ∷
-    answers (twoFiftyNear 2700) (oneStanding (2 * 27) 1) 55 (Refused TooClose) ∷ []
+    answers (twoFiftyNear 2700) (oneStanding (2 * 27) 1) 55 (Refused TooClose) ∷
+    -- #103, low 1900: to $38, or the five above $19; high 2100: $10.50 to $31.50
+    permits (noProgramDay 1900 1950 2100) []
+    (5 ∷ 10 ∷ 15 ∷ 20 ∷ 25 ∷ 30 ∷ 35 ∷ 40 ∷ 45 ∷ 50 ∷ 60 ∷ 70 ∷ []) ∷
+    -- T6's positions at the low and T7's at the high; $22 and $23 by the spacing
+    permits (dollarLongDay 2450 2475 2500) [] (dollars (15 ∷ 18 ∷ 20 ∷ 22 ∷ 23 ∷ 25 ∷ 27 ∷ 30 ∷ 32 ∷ 35 ∷ [])) ∷
+    answers (dollarLongDay 2450 2475 2500) (oneStanding (2 * 22) 3) (2 * 23) (Refused TooClose) ∷
+    answers (dollarLongDay 2450 2475 2500) (oneStanding (2 * 23) 3) (2 * 22) (Refused TooClose) ∷
+    -- not at the close, nor at prices between: $25 is out of range at $2 and at $100
+    answers (noProgramDay 200 2400 10000) [] 50 (Refused OutOfRange) ∷
+    -- Half to $3.50 at the low of $1, and none at the high of $25; the other strikes from $2.50 to $35
+    permits (halfNearDay 100 300 2500) []
+    (upFrom 7 1 ++ 10 ∷ 15 ∷ 20 ∷ 25 ∷ 30 ∷ 35 ∷ 40 ∷ 45 ∷ 50 ∷ 60 ∷ 70 ∷ []) ∷
+    -- $37 is a wing at the low of $10, where $40 is out of range, and none at the high of $41, where it is in range
+    answers (dollarLongDay 1000 2000 4100) [] (2 * 37) (Refused OutOfRange) ∷
+    answers (dollarLongDay 1000 2000 4100) [] (2 * 38) (Ground 3) ∷
+    -- "The program's price conditions .. keep the close": below $50, and no more than $10 from it
+    answers (dollarNearDay 4900 4999 6000) [] (2 * 26) (Ground 1) ∷
+    answers (dollarNearDay 4900 5000 6000) [] (2 * 26) (Refused OffGrid) ∷
+    answers (twoFiftyNearDay 4000 4850 6250) [] 145 (Refused OffGrid) ∷ []
 
 pub closes : All cases
 unfolding lowest amongFive

@@ -12,7 +12,7 @@ use Rattle.rule.specs.declared.terms.Setting.{Setting}
 use Rattle.logic.specs.Lists.{every, some, upFrom}
 use Rattle.logic.proofs.Tests.{ands, and-middle, and-implied, same-leb, none-between}
 use Rattle.logic.proofs.Numbers.{every-number}
-use Rattle.rule.specs.Terms.{inHalves, isDollarClass, isNear, price}
+use Rattle.rule.specs.Terms.{inHalves, isDollarClass, isNear}
 use Rattle.rule.specs.Grids.{oneDollar, fiveDollars, fiveFifty, fiftyDollars, multiple, ladder, halfDollars}
 use Rattle.rule.specs.Ranges.{lowPrice, rangeCount, lowest, amongFive, rangeGrid}
 use Rattle.rule.specs.Ends.{fifthAbove}
@@ -147,12 +147,12 @@ five-by whole dollar p h cheap =
     among-above (gridBy whole dollar) p h
     ∙ ap (λ (t : Bool). ltb (inHalves p) h && t && gridBy whole dollar (cents h)) (ap (ltb h) end ∙ leb·suc-suc h fifth)
 
-pub five : (s : Setting) (h : ℕ) → price s ≤ lowPrice →
-    amongFive (rangeGrid s) (price s) h
-    ≡ (ltb (inHalves (price s)) h
-    && leb h (fifthAbove (isNear s && isDollarClass (s .class)) (isDollarClass (s .class)) (inHalves (price s)))
+pub five : (s : Setting) (p h : ℕ) → p ≤ lowPrice →
+    amongFive (rangeGrid s) p h
+    ≡ (ltb (inHalves p) h
+    && leb h (fifthAbove (isNear s && isDollarClass (s .class)) (isDollarClass (s .class)) (inHalves p))
     && rangeGrid s (cents h))
-five s h cheap = five-by (isNear s && isDollarClass (s .class)) (isDollarClass (s .class)) (price s) h cheap
+five s p h cheap = five-by (isNear s && isDollarClass (s .class)) (isDollarClass (s .class)) p h cheap
 
 -- from $3.50 up the half dollars to $5.50 are fewer than five: the walk then goes on to the highest strike
 halfEndTest : ℕ → Bool

@@ -15,13 +15,12 @@ use Rattle.logic.specs.Lists.{every, only, upFrom}
 use Rattle.logic.proofs.Tests.{ands, true-T, refuted}
 use Rattle.logic.proofs.Multiples.{between-multiples}
 use Rattle.logic.proofs.Numbers.{only-short, passing, passing-all, passing-parts}
-use Rattle.rule.specs.Ends.{halfEnd, highEnd, rungs, mostOpen}
+use Rattle.rule.specs.Ends.{halfTop, topEnd, rungs, mostOpen}
 use Rattle.rule.specs.Spacing.{Standing}
 use Rattle.word.specs.Answers.{isAccepted}
 use Rattle.rule.specs.Judgement.{judgement, isPermittedBeside, permitted}
 use Rattle.rule.proofs.Rungs.{On}
-use Rattle.rule.proofs.Bound.{high-strike, half-within, half-most}
-use Rattle.rule.proofs.Open.{accepted-open, permitted-open, open-given, closed-above}
+use Rattle.rule.proofs.Open.{accepted-open, permitted-open, open-on, closed-above, top-strike, halves-within, halves-most}
 
 -- each rung's step is at least $1
 abbrev Coarse : List Rung → Type 0
@@ -78,33 +77,33 @@ module _ (test : ℕ → Bool) where
       past x l on = rw (lt-leb x (r .to) l) at on
 
 module _ (s : Setting) (standing : List Standing) where
-  pub refused-above : (h : ℕ) → highEnd s < h → h ≤ highestStrike → isAccepted (judgement s standing h) ≡ false
+  pub refused-above : (h : ℕ) → topEnd s < h → h ≤ highestStrike → isAccepted (judgement s standing h) ≡ false
   refused-above h l m =
       sym
       (refuted (isAccepted (judgement s standing h))
       (λ t. rw (closed-above s h l m) at (accepted-open s h standing t)))
 
-  pub permitted-short : permitted s standing ≡ only (isPermittedBeside s standing) (upFrom (highEnd s) 1)
+  pub permitted-short : permitted s standing ≡ only (isPermittedBeside s standing) (upFrom (topEnd s) 1)
   unfolding permitted
   permitted-short =
-      let e : highestStrike ≡ highEnd s + (highestStrike - highEnd s) = omega (arith, high-strike s) in
+      let e : highestStrike ≡ topEnd s + (highestStrike - topEnd s) = omega (arith, top-strike s) in
       ap (λ (n : ℕ). only (isPermittedBeside s standing) (upFrom n 1)) e
-      ∙ only-short (isPermittedBeside s standing) (highEnd s) (highestStrike - highEnd s) 1
-      (λ x k m. rw (refused-above x (omega arith) (omega (arith, high-strike s)), and-false))
+      ∙ only-short (isPermittedBeside s standing) (topEnd s) (highestStrike - topEnd s) 1
+      (λ x k m. rw (refused-above x (omega arith) (omega (arith, top-strike s)), and-false))
 
   abbrev test : ℕ → Bool
   test = isPermittedBeside s standing
 
-  pub permitted-most : length (permitted s standing) ≤ mostOpen (highEnd s)
+  pub permitted-most : length (permitted s standing) ≤ mostOpen (topEnd s)
   permitted-most =
-      let half : ℕ = halfEnd s in
-      let rest : ℕ = highEnd s - half in
+      let half : ℕ = halfTop s in
+      let rest : ℕ = topEnd s - half in
       let parts : length (permitted s standing) ≡ passing test half 1 + passing test rest (1 + half) =
-      ap length permitted-short ∙ passing-parts test half (highEnd s) 1 (half-within s) in
+      ap length permitted-short ∙ passing-parts test half (topEnd s) 1 (halves-within s) in
       let above : 2 * passing test rest (1 + half) ≤ rest + length (drop 1 (rungs s)) =
       passing-most test (drop 1 (rungs s)) (omega arith) tt rest (1 + half)
-      (λ x l k e. past x l (open-given s x (permitted-open s x standing (true-T _ e)) .on)) in
-      omega (arith, passing-all test half 1, half-within s, half-most s)
+      (λ x l k e. past x l (open-on s x (permitted-open s x standing (true-T _ e)))) in
+      omega (arith, passing-all test half 1, halves-within s, halves-most s)
     where
-      past : (x : ℕ) → 1 + halfEnd s ≤ x → On (rungs s) x → On (drop 1 (rungs s)) x
-      past x l on = rw (lt-leb x (halfEnd s) (omega arith)) at on
+      past : (x : ℕ) → 1 + halfTop s ≤ x → On (rungs s) x → On (drop 1 (rungs s)) x
+      past x l on = rw (lt-leb x (halfTop s) (omega arith)) at on

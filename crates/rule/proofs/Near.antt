@@ -20,8 +20,8 @@ use Rattle.rule.specs.declared.terms.Setting.{Setting}
 use Rattle.word.specs.Limits.{halfDollar, cents}
 use Rattle.rule.specs.Terms.{isLong, apart}
 use Rattle.rule.specs.Ends.{reachOf}
-use Rattle.rule.specs.Grids.{oneDollar, dollarGround, grounds, gridOf}
-use Rattle.rule.specs.Ranges.{rangeOf}
+use Rattle.rule.specs.Grids.{oneDollar, dollarGround, grounds}
+use Rattle.rule.specs.Ranges.{onGrid, inRange}
 use Rattle.rule.specs.Spacing.{Standing, standingOf, crowds, countsAsStandard, clears, spacingOf}
 use Rattle.word.specs.Answers.{isAccepted}
 use Rattle.rule.specs.Judgement.{decided, judgement, isPermittedBeside}
@@ -85,7 +85,7 @@ module _ (s : Setting) (h : ℕ) where
   spaced-judged : (standing near : List Standing) → ((g : ℕ) → spacingOf s standing g h ≡ spacingOf s near g h) →
       judgement s standing h ≡ judgement s near h
   spaced-judged standing near spaced =
-      ap (λ (spacing : ℕ → Bool). decided (map (λ g. gridOf s g h ∷ rangeOf s g h ∷ spacing g ∷ []) grounds))
+      ap (λ (spacing : ℕ → Bool). decided (map (λ g. onGrid s g h ∷ inRange s g h ∷ spacing g ∷ []) grounds))
       (fun-ext spaced)
 
   -- those before and behind are out of reach

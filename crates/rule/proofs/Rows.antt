@@ -1,7 +1,7 @@
 -- The decision over the rows of the grounds, one row at a time: what is decided is said of the rows that are left. Of
 -- the spacing it needs only which ground is the first that passes. Assumes nothing.
 use mathlib.Core.Path.{_≡_, refl, sym, ap, _∙_}
-use mathlib.Core.Bool.{Bool, true, false, cond, _&&_, _||_, or-false, and-false, and-self-left}
+use mathlib.Core.Bool.{Bool, true, false, cond, _&&_, _||_, or-false, or-self, and-false}
 use mathlib.Core.List.{List, [], _∷_, map}
 use Prim.Native.Nat.{ℕ, zero, suc, _+_, _≤_, _<_}
 use native.Mathlib.Numerals.{add-one}
@@ -9,6 +9,7 @@ use native.Mathlib.Omega.{arith}
 use lib.ListN.{length, getD, drop, drop-of-length-le}
 use lib.Seq.{drop-cons}
 use borrow.Author.Tests.{eq-eqb, ne-eqb}
+use Rattle.word.specs.Limits.{highestPrice}
 use Rattle.word.specs.declared.answer.Refusal.the-variants.{OffGrid, OutOfRange, TooClose}
 use Rattle.word.specs.declared.answer.Answer.{Answer}
 use Rattle.word.specs.declared.answer.Answer.the-variants.{Ground, Refused}
@@ -16,12 +17,12 @@ use Rattle.rule.specs.declared.terms.Setting.{Setting}
 use Rattle.logic.specs.Lists.{some, upFrom, firstFrom}
 use Rattle.logic.proofs.Tests.{parts}
 use Rattle.logic.proofs.Walks.{some-step, first-found}
-use Rattle.rule.specs.Grids.{grounds, gridOf}
-use Rattle.rule.specs.Ranges.{rangeOf}
+use Rattle.rule.specs.Grids.{grounds}
+use Rattle.rule.specs.Ranges.{onGrid, inRange}
 use Rattle.word.specs.Answers.{isAccepted}
 use Rattle.rule.specs.Spacing.{Standing}
 use Rattle.rule.specs.Judgement.{rowOf, rowsOf, passes, passesGrid, passesRange, refusalOf, groundFrom, decided}
-use Rattle.rule.specs.Judgement.{foundRow, foundRows, firstGround, judgement}
+use Rattle.rule.specs.Judgement.{foundRow, foundRows, rowsAt, nonePasses, eitherRows, firstGround, judgement, Judged}
 
 first-step : (rows : List (List Bool)) (g : ℕ) → g < length rows → (v : Answer) →
     groundFrom v g (drop g rows) ≡ cond (passes (getD rows g [])) (Ground g) (groundFrom v (g + 1) (drop (g + 1) rows))
@@ -83,13 +84,42 @@ accepted-passes rows =
 -- ---- the rows as the search leaves them
 
 module _ (s : Setting) (h : ℕ) where
+  -- those of one price, where the low is the high, and those of two
+  one-price : s .class .low ≡ s .class .high → rowsAt s (s .class .low) h ≡ foundRows s h (length grounds)
+  one-price e = rw (← e) (simp or-self)
+
+  two-prices :
+      eitherRows (rowsAt s (s .class .low) h) (rowsAt s (s .class .high) h) ≡ foundRows s h (length grounds)
+  two-prices = refl
+
+  -- what is joined when the price p is to be read: nothing before the low, the rows at the low before the high
+  pub data Joined : ℕ → List (List Bool) → Type 0 where
+    none : Joined (s .class .low) nonePasses
+    low : Joined (s .class .high) (rowsAt s (s .class .low) h)
+
+  pub joined-price : {p : ℕ} {rows : List (List Bool)} → Joined p rows → Judged s h → p ≤ highestPrice
+  joined-price none j = j .low
+  joined-price low j = j .high
+
+  pub joined-next :
+      {p : ℕ} {rows : List (List Bool)} → Joined p rows → (p ≡ s .class .high → ⊥)
+      → Joined (s .class .high) (eitherRows rows (rowsAt s p h))
+  joined-next none other = low
+  joined-next low other = absurd (other refl)
+
+  pub joined-all :
+      {p : ℕ} {rows : List (List Bool)} → Joined p rows → p ≡ s .class .high
+      → eitherRows rows (rowsAt s p h) ≡ foundRows s h (length grounds)
+  joined-all none e = one-price e
+  joined-all low e = two-prices
+
   pub found-range : (g : ℕ) → g < length grounds →
-      passesRange (getD (foundRows s h (length grounds)) g []) ≡ (gridOf s g h && rangeOf s g h)
-  found-range zero l = and-self-left (gridOf s 0 h) (rangeOf s 0 h)
-  found-range (suc zero) l = and-self-left (gridOf s 1 h) (rangeOf s 1 h)
-  found-range (suc (suc zero)) l = and-self-left (gridOf s 2 h) (rangeOf s 2 h)
-  found-range (suc (suc (suc zero))) l = and-self-left (gridOf s 3 h) (rangeOf s 3 h)
-  found-range (suc (suc (suc (suc zero)))) l = and-self-left (gridOf s 4 h) (rangeOf s 4 h)
+      passesRange (getD (foundRows s h (length grounds)) g []) ≡ (onGrid s g h && inRange s g h)
+  found-range zero l = refl
+  found-range (suc zero) l = refl
+  found-range (suc (suc zero)) l = refl
+  found-range (suc (suc (suc zero))) l = refl
+  found-range (suc (suc (suc (suc zero)))) l = refl
   found-range (suc (suc (suc (suc (suc g))))) l = absurd (omega arith)
 
   module _ (standing : List Standing) where
@@ -113,18 +143,12 @@ module _ (s : Setting) (h : ℕ) where
             groundFrom v g (map (foundRow s h (cond t g (firstFrom passesAt n (g + 1)))) (upFrom (suc n) g))
             ≡ cond t (Ground g) (groundFrom v (g + 1) (map (rowOf s standing h) (upFrom n (suc g))))
         go true e r =
-            let both : (gridOf s g h && rangeOf s g h) ≡ true = search parts in
-            rw (and-self-left (gridOf s g h) (rangeOf s g h), both, eq-eqb g g refl)
+            let both : (onGrid s g h && inRange s g h) ≡ true = search parts in
+            rw (both, eq-eqb g g refl)
         go false e r =
             let later : g + 1 ≤ firstFrom passesAt n (g + 1) = first-found passesAt n (g + 1) .least in
             rw (ne-eqb (firstFrom passesAt n (g + 1)) g (λ q. omega arith), and-false) r
 
     -- the rows as the search leaves them decide the judgement
     pub found-judgement : decided (foundRows s h (firstGround s standing h)) ≡ judgement s standing h
-    found-judgement =
-        ap (λ (v : Answer). groundFrom v 0 (foundRows s h (firstGround s standing h))) same
-        ∙ found-from (Refused (refusalOf (rowsOf s standing h))) (length grounds) 0
-      where
-        same :
-            Refused (refusalOf (foundRows s h (firstGround s standing h))) ≡ Refused (refusalOf (rowsOf s standing h))
-        same = simp and-self-left
+    found-judgement = found-from (Refused (refusalOf (rowsOf s standing h))) (length grounds) 0

@@ -14,12 +14,12 @@ use Rattle.word.specs.Programs.{dollarPrice}
 use Rattle.word.specs.declared.class.ClassRecord.{ClassRecord}
 use Rattle.rule.specs.declared.terms.Setting.{Setting}
 use Rattle.word.specs.Limits.{cents}
-use Rattle.rule.specs.Terms.{isDollarClass, isLong, isNear, hasTwoFifties, price, apart}
+use Rattle.rule.specs.Terms.{isDollarClass, isLong, isNear, hasTwoFifties, apart}
 use Rattle.rule.specs.Grids.{oneDollar, twoDollars, twoFifty, threeDollars, fiveDollars, tenDollars}
 use Rattle.rule.specs.Grids.{twentyFiveDollars, fortyFiveDollars, fiftyDollars, hundredDollars, twoHundredDollars}
 use Rattle.rule.specs.Grids.{multiple, ladder, isBarred, standardGrid, dollarGrid, wingBase, wingAt, wingGrid, twoFiftyGrid}
 use Rattle.rule.specs.declared.bounds.Rung.{Rung}
-use Rattle.rule.specs.Ends.{isProgramClass, halfEnd, dollarEnd, ladderEnd, belowEnd, aroundEnd, rungs}
+use Rattle.rule.specs.Ends.{isProgramClass, halfTop, dollarEnd, ladderEnd, belowEnd, aroundEnd, rungs}
 use Rattle.rule.specs.Ends.{lastDollar, lastTwoFifty, lastFive, lastHundred, lastBelow, lastAround}
 use Rattle.rule.proofs.Rungs.{On, _▹_, at-rung}
 
@@ -185,13 +185,13 @@ module _ (s : Setting) (h : ℕ) where
   pub below-reached : h ≤ belowEnd s → h ≤ lastHundred
   below-reached = go (hasTwoFifties s)
     where
-      go : (t : Bool) → h ≤ cond {A = ℕ} t (lastBelow (price s)) 0 → h ≤ lastHundred
+      go : (t : Bool) → h ≤ cond {A = ℕ} t (lastBelow (s .class .close)) 0 → h ≤ lastHundred
       go true k = omega arith
       go false k = omega arith
 
   -- it is no more than $10 from the close
   abbrev pub IsClose : Type 0
-  IsClose = (price s ≤ cents h + tenDollars) × (cents h ≤ price s + tenDollars)
+  IsClose = (s .class .close ≤ cents h + tenDollars) × (cents h ≤ s .class .close + tenDollars)
 
   -- a strike of ground 4 from $50 to $100
   pub record Around : Type 0 where
@@ -203,8 +203,8 @@ module _ (s : Setting) (h : ℕ) where
   pub around-reached : 0 < h → belowEnd s < h → h ≤ aroundEnd s → Around
   around-reached positive = go (hasTwoFifties s) refl
     where
-      go : (t : Bool) → hasTwoFifties s ≡ t → cond {A = ℕ} t (lastBelow (price s)) 0 < h →
-          h ≤ cond {A = ℕ} t (lastAround (price s)) 0 → Around
+      go : (t : Bool) → hasTwoFifties s ≡ t → cond {A = ℕ} t (lastBelow (s .class .close)) 0 < h →
+          h ≤ cond {A = ℕ} t (lastAround (s .class .close)) 0 → Around
       go true e l k =
           record { asked = e; least = omega arith; most = omega arith; close = (omega arith, omega arith) }
       go false e l k = absurd (omega arith)
@@ -233,8 +233,8 @@ module _ (s : Setting) (h : ℕ) where
       dollar-five p = standard-five c h (program-dollar c h p) e
 
   -- the strikes of Half
-  pub half-on : h ≤ halfEnd s → On (rungs s) h
-  half-on l = rw (le-leb h (halfEnd s) l) (mod-one h)
+  pub half-on : h ≤ halfTop s → On (rungs s) h
+  half-on l = rw (le-leb h (halfTop s) l) (mod-one h)
 
   -- a whole dollar to $50 in a $1 class whose close allows it
   pub record Whole : Type 0 where
@@ -243,20 +243,21 @@ module _ (s : Setting) (h : ℕ) where
     pub most : h ≤ lastDollar
 
   pub whole-on : Whole → On (rungs s) h
-  whole-on w = go (leb h (halfEnd s)) refl
+  whole-on w = go (leb h (halfTop s)) refl
     where
       reached : h ≤ dollarEnd c
       reached = rw (w .program) (w .most)
 
-      go : (t : Bool) → leb h (halfEnd s) ≡ t → On (rungs s) h
+      go : (t : Bool) → leb h (halfTop s) ≡ t → On (rungs s) h
       go true q = rw q (mod-one h)
       go false q = rw (q, le-leb h (dollarEnd c) reached) (w .whole)
 
   -- the last two of the three conditions of Dollar and of Wing
-  program : (term : Bool) → (term && isDollarClass c && ltb (price s) dollarPrice) ≡ true → isProgramClass c ≡ true
+  program : (term : Bool) → (term && isDollarClass c && ltb (s .class .close) dollarPrice) ≡ true →
+      isProgramClass c ≡ true
   program term e =
       let dollar : isDollarClass c ≡ true = search parts in
-      let cheap : ltb (price s) dollarPrice ≡ true = search parts in
+      let cheap : ltb (s .class .close) dollarPrice ≡ true = search parts in
       rw (dollar, cheap)
 
   pub dollar-whole : dollarGrid s (cents h) ≡ true → Whole
@@ -277,15 +278,15 @@ module _ (s : Setting) (h : ℕ) where
   at-3 = eqb (cents h) (base + threeDollars)
 
   -- a wing stands $2 or $3 above a multiple of $5
-  wing-whole : wingAt (price s) base (cents h) ≡ true → h % 2 ≡ 0
-  wing-whole e =
+  wing-whole : (p : ℕ) → wingAt p base (cents h) ≡ true → h % 2 ≡ 0
+  wing-whole p e =
       ⊎-elim
       (λ d.
       ⊎-elim (λ a. two (search ands)) (λ a. three (search ands))
-      (or-cases (at-2 && leb (price s) base) (at-3 && leb (base + fiveDollars) (price s)) d))
+      (or-cases (at-2 && leb p base) (at-3 && leb (base + fiveDollars) p) d))
       (λ a. two (search ands))
-      (or-cases (at-2 && leb (price s) base || at-3 && leb (base + fiveDollars) (price s))
-      (at-2 && (ltb base (price s) && leb (price s) (base + fiveDollars))) (true-T _ e))
+      (or-cases (at-2 && leb p base || at-3 && leb (base + fiveDollars) p)
+      (at-2 && (ltb base p && leb p (base + fiveDollars))) (true-T _ e))
     where
       two : T at-2 → h % 2 ≡ 0
       two a = times 2 h (5 * (cents h / fiveDollars) + 2) (omega (arith, eqb→eq (cents h) (base + twoDollars) a))
@@ -299,14 +300,14 @@ module _ (s : Setting) (h : ℕ) where
     pub least : fiveDollars ≤ base
     pub most : base ≤ fortyFiveDollars
 
-  pub wing-stepped : wingGrid s (cents h) ≡ true → Wing
-  wing-stepped e =
+  pub wing-stepped : (p : ℕ) → wingGrid s p (cents h) ≡ true → Wing
+  wing-stepped p e =
       let most : base ≤ fortyFiveDollars = leb-true base fortyFiveDollars (search parts) in
       record {
         whole =
             record {
               program = program (isLong s) (search parts);
-              whole = wing-whole (search parts);
+              whole = wing-whole p (search parts);
               most = omega arith;
             };
         least = leb-true fiveDollars base (search parts);
@@ -327,7 +328,7 @@ module _ (s : Setting) (h : ℕ) where
 
   abbrev high : Bool
   high =
-      leb fiftyDollars (cents h) && leb (cents h) hundredDollars && leb (apart (cents h) (price s)) tenDollars
+      leb fiftyDollars (cents h) && leb (cents h) hundredDollars && leb (apart (cents h) (s .class .close)) tenDollars
 
   pub two-fifty-stepped : twoFiftyGrid s (cents h) ≡ true → TwoFifty
   two-fifty-stepped e =
@@ -355,8 +356,8 @@ module _ (s : Setting) (h : ℕ) where
         most = omega (arith, leb→le (cents h) hundredDollars (search ands));
         dollar = λ d k. let is : h ≡ lastDollar = omega arith in rw is;
         close = λ k.
-            let near : apart (cents h) (price s) ≤ tenDollars =
-            leb→le (apart (cents h) (price s)) tenDollars (search ands) in
+            let near : apart (cents h) (s .class .close) ≤ tenDollars =
+            leb→le (apart (cents h) (s .class .close)) tenDollars (search ands) in
             (omega arith, omega arith);
       })
       (or-cases low high (true-T _ place))
@@ -377,7 +378,7 @@ module _ (s : Setting) (h : ℕ) where
 
       near-close : lastDollar ≤ h → h ≤ belowEnd s → ⊥
       near-close k l =
-          let under : h ≤ lastBelow (price s) = rw (w .asked) at l in
+          let under : h ≤ lastBelow (s .class .close) = rw (w .asked) at l in
           omega (arith, w .close k)
 
       below : (d : Bool) → isDollarClass c ≡ d → ladderEnd s < h → h ≤ belowEnd s → h % 10 ≡ 0
@@ -389,8 +390,8 @@ module _ (s : Setting) (h : ℕ) where
 
       past : belowEnd s < h → aroundEnd s < h → ⊥
       past l m =
-          let over : lastBelow (price s) < h = rw (w .asked) at l in
-          let above : lastAround (price s) < h = rw (w .asked) at m in
+          let over : lastBelow (s .class .close) < h = rw (w .asked) at l in
+          let above : lastAround (s .class .close) < h = rw (w .asked) at m in
           omega (arith, w .most, w .close (omega arith))
 
   -- and which strikes are on it: outside the $1 classes those below $50, and those no more than $10 from the close
@@ -415,7 +416,7 @@ module _ (s : Setting) (h : ℕ) where
         le-ltb (cents h) fiftyDollars (omega arith),
         le-leb fiftyDollars (cents h) (omega arith),
         le-leb (cents h) hundredDollars (omega arith),
-        le-leb (apart (cents h) (price s)) tenDollars (omega (arith, r .close)),
+        le-leb (apart (cents h) (s .class .close)) tenDollars (omega (arith, r .close)),
         and-false,
         and-false,
       )

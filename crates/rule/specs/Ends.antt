@@ -5,15 +5,16 @@ use mathlib.Core.Path.{_≡_}
 use mathlib.Core.Bool.{Bool, true, false, cond, _&&_}
 use mathlib.Core.List.{List, [], _∷_}
 use lib.Dec.{leb, ltb}
+use Rattle.logic.specs.Lists.{some}
 use Rattle.word.specs.Limits.{highestStrike, halfDollar}
 use Rattle.word.specs.declared.class.ClassRecord.{ClassRecord}
 use Rattle.rule.specs.declared.terms.Setting.{Setting}
 use Rattle.rule.specs.declared.bounds.Rung.{Rung}
-use Rattle.word.specs.Programs.{dollarPrice, halfPrice, halfVolume}
-use Rattle.rule.specs.Terms.{inHalves, isDollarClass, isHalfClass, isLong, isNear, hasTwoFifties, price}
-use Rattle.rule.specs.Grids.{oneDollar, twoFifty, fiveDollars, fiveFifty, tenDollars, twentyFiveDollars}
-use Rattle.rule.specs.Grids.{fiftyDollars, hundredDollars, twoHundredDollars}
-use Rattle.rule.specs.Ranges.{rangeCount, lowPrice}
+use Rattle.word.specs.Programs.{dollarPrice}
+use Rattle.rule.specs.Terms.{inHalves, isDollarClass, isLong, isNear, hasTwoFifties}
+use Rattle.rule.specs.Grids.{oneDollar, twoFifty, fiveDollars, fiveFifty, tenDollars, twentyFiveDollars, hasHalves}
+use Rattle.rule.specs.Grids.{fiftyDollars, hundredDollars, twoHundredDollars, grounds}
+use Rattle.rule.specs.Ranges.{rangeCount, lowPrice, inRangeAt}
 use Rattle.word.specs.Answers.{isAccepted}
 use Rattle.rule.specs.Judgement.{judgement}
 
@@ -42,24 +43,22 @@ quarterDollar = 25
 abbrev pub isProgramClass : ClassRecord → Bool
 isProgramClass c = isDollarClass c && ltb (c .close) dollarPrice
 
--- the last strike that Half gives, 0 where it gives none
-abbrev pub halfEnd : Setting → ℕ
-halfEnd s =
-    cond {A = ℕ}
-    (isNear s && isHalfClass (s .class) && leb (s .class .close) halfPrice && leb halfVolume (s .class .volume))
-    (min (max (s .class .close / quarterDollar) (inHalves (s .class .close) + rangeCount)) (inHalves fiveFifty))
-    0
+-- the last strike that Half gives at the price p, 0 where it gives none
+abbrev pub halfEnd : Setting → ℕ → ℕ
+halfEnd s p =
+    cond {A = ℕ} (hasHalves s && leb p lowPrice)
+    (min (max (p / quarterDollar) (inHalves p + rangeCount)) (inHalves fiveFifty)) 0
 
 -- the lowest strike in range on the other grounds at the price p, where 2K is $1 × h; one of at most $20 sets none
 abbrev pub lowEnd : ℕ → ℕ
 lowEnd p = cond {A = ℕ} (ltb lowPrice p) ((p + (oneDollar - 1)) / oneDollar) 0
 
--- the highest strike in range on the other grounds, of those on their grids
-abbrev pub highEnd : Setting → ℕ
-highEnd s =
-    cond {A = ℕ} (ltb lowPrice (s .class .close)) (min (3 * s .class .close / oneDollar) highestStrike)
-    (max (s .class .close / quarterDollar)
-    (fifthAbove (isNear s && isDollarClass (s .class)) (isDollarClass (s .class)) (inHalves (s .class .close))))
+-- the highest strike in range on the other grounds at the price p, of those on their grids
+abbrev pub highEnd : Setting → ℕ → ℕ
+highEnd s p =
+    cond {A = ℕ} (ltb lowPrice p) (min (3 * p / oneDollar) highestStrike)
+    (max (p / quarterDollar)
+    (fifthAbove (isNear s && isDollarClass (s .class)) (isDollarClass (s .class)) (inHalves p)))
 
 -- the last strikes of these, in half dollars: "whole dollars from $1 to $50"; "multiples of $2.50 to $25, of $5 above
 -- $25 to $200"; #101: "from $50 to $100"
@@ -93,10 +92,23 @@ lastAround p = min (inHalves (p + tenDollars)) lastHundred
 
 -- the same at the close, 0 without the program
 abbrev pub belowEnd : Setting → ℕ
-belowEnd s = cond {A = ℕ} (hasTwoFifties s) (lastBelow (price s)) 0
+belowEnd s = cond {A = ℕ} (hasTwoFifties s) (lastBelow (s .class .close)) 0
 
 abbrev pub aroundEnd : Setting → ℕ
-aroundEnd s = cond {A = ℕ} (hasTwoFifties s) (lastAround (price s)) 0
+aroundEnd s = cond {A = ℕ} (hasTwoFifties s) (lastAround (s .class .close)) 0
+
+-- the prices by which the range is measured
+pub data ReadAt (s : Setting) : ℕ → Type 0 where
+  atLow : ReadAt s (s .class .low)
+  atHigh : ReadAt s (s .class .high)
+
+-- the last strike that Half gives at the low or at the high
+abbrev pub halfTop : Setting → ℕ
+halfTop s = max (halfEnd s (s .class .low)) (halfEnd s (s .class .high))
+
+-- the highest strike in range at the low or at the high
+abbrev pub topEnd : Setting → ℕ
+topEnd s = max (highEnd s (s .class .low)) (highEnd s (s .class .high))
 
 abbrev pub rung : ℕ → ℕ → Bool → Rung
 rung to step all = record { to = to; step = step; all = all }
@@ -106,7 +118,7 @@ rung to step all = record { to = to; step = step; all = all }
 -- multiple in range is open
 abbrev pub rungs : Setting → List Rung
 rungs s =
-    rung (halfEnd s) 1 true ∷
+    rung (halfTop s) 1 true ∷
     rung (dollarEnd (s .class)) (inHalves oneDollar) (isNear s) ∷
     rung (ladderEnd s) (inHalves twoFifty) true ∷
     rung (belowEnd s) (inHalves fiveDollars) true ∷
@@ -132,6 +144,10 @@ rungAt (r ∷ q ∷ rs) h = cond {A = Rung} (leb h (r .to)) r (rungAt (q ∷ rs)
 -- how many half dollars away a standing strike can bear on a new one: $1 in a long expiration, else $0.50
 abbrev pub reachOf : Setting → ℕ
 reachOf s = cond {A = ℕ} (isLong s) (inHalves oneDollar) (inHalves halfDollar)
+
+-- some ground gives the strike at the price p
+abbrev pub isOpenAt : Setting → ℕ → ℕ → Bool
+isOpenAt s p h = some (λ g. inRangeAt s p g h) grounds
 
 -- the rules accept the strike where none stands
 abbrev pub isOpenStrike : Setting → ℕ → Bool

@@ -1,5 +1,5 @@
--- Document 01, "Grids", and request #101, ground 4: the ladder and the grid of each ground. A strike is given as K, in
--- cents. Assumes nothing.
+-- Document 01, "Grids", and requests #101, ground 4, and #103, "The program's price conditions .. keep the close": the
+-- ladder and the grid of each ground. A strike is given as K, in cents. Assumes nothing.
 use Prim.Native.Nat.{ℕ, zero, suc, _+_, _*_, _/_, _%_}
 use mathlib.Core.Bool.{Bool, not, _&&_, _||_}
 use mathlib.Core.List.{List, [], _∷_}
@@ -8,7 +8,7 @@ use Rattle.word.specs.declared.class.ClassRecord.{ClassRecord}
 use Rattle.rule.specs.declared.terms.Setting.{Setting}
 use Rattle.word.specs.Programs.{dollarPrice, halfPrice, halfVolume}
 use Rattle.word.specs.Limits.{halfDollar, cents}
-use Rattle.rule.specs.Terms.{isDollarClass, isHalfClass, isLong, isNear, hasTwoFifties, price, apart}
+use Rattle.rule.specs.Terms.{isDollarClass, isHalfClass, isLong, isNear, hasTwoFifties, apart}
 
 abbrev pub multiple : ℕ → ℕ → Bool
 multiple n k = eqb (k % n) 0
@@ -54,7 +54,7 @@ standardGrid c k = ladder k && not (isBarred c k)
 -- "Dollar: near, $1 class, P below 5,000; whole dollars from $1 to $50."
 abbrev pub dollarGrid : Setting → ℕ → Bool
 dollarGrid s k =
-    isNear s && isDollarClass (s .class) && ltb (price s) dollarPrice
+    isNear s && isDollarClass (s .class) && ltb (s .class .close) dollarPrice
     && (multiple oneDollar k && leb oneDollar k && leb k fiftyDollars)
 
 -- "multiples of $0.50 to $5.50"
@@ -64,10 +64,13 @@ fiveFifty = 550
 abbrev pub halfDollars : ℕ → Bool
 halfDollars k = multiple halfDollar k && leb k fiveFifty
 
+-- "near, half class, P at most 500, volume at least 1,000": an expiration that has strikes of the $0.50 program
+abbrev pub hasHalves : Setting → Bool
+hasHalves s = isNear s && isHalfClass (s .class) && leb (s .class .close) halfPrice && leb halfVolume (s .class .volume)
+
 -- "Half: near, half class, P at most 500, volume at least 1,000; multiples of $0.50 to $5.50."
 abbrev pub halfGrid : Setting → ℕ → Bool
-halfGrid s k =
-    isNear s && isHalfClass (s .class) && leb (price s) halfPrice && leb halfVolume (s .class .volume) && halfDollars k
+halfGrid s k = hasHalves s && halfDollars k
 
 -- the L of a wing, which stands $2 or $3 above it: the multiple of $5 at or below it
 abbrev pub wingBase : ℕ → ℕ
@@ -91,11 +94,11 @@ wingAt p l k =
     || eqb k (l + threeDollars) && leb (l + fiveDollars) p
     || eqb k (l + twoDollars) && (ltb l p && leb p (l + fiveDollars))
 
--- "Wing: long, $1 class, P below 5,000. For L a multiple of $5 from $5 to $45"
-abbrev pub wingGrid : Setting → ℕ → Bool
-wingGrid s k =
-    isLong s && isDollarClass (s .class) && ltb (price s) dollarPrice
-    && (leb fiveDollars (wingBase k) && leb (wingBase k) fortyFiveDollars && wingAt (price s) (wingBase k) k)
+-- "Wing: long, $1 class, P below 5,000. For L a multiple of $5 from $5 to $45", its position taken at the price p
+abbrev pub wingGrid : Setting → ℕ → ℕ → Bool
+wingGrid s p k =
+    isLong s && isDollarClass (s .class) && ltb (s .class .close) dollarPrice
+    && (leb fiveDollars (wingBase k) && leb (wingBase k) fortyFiveDollars && wingAt p (wingBase k) k)
 
 -- "from $50 to $100"
 abbrev pub hundredDollars : ℕ
@@ -112,7 +115,7 @@ twoFifties p k =
 -- #101: "Near expirations may then have ..", "In a $1 class ground 4 grants no strike below $50 that isn't a multiple
 -- of $5."
 abbrev pub twoFiftyGrid : Setting → ℕ → Bool
-twoFiftyGrid s k = hasTwoFifties s && (twoFifties (price s) k && not (isBarred (s .class) k))
+twoFiftyGrid s k = hasTwoFifties s && (twoFifties (s .class .close) k && not (isBarred (s .class) k))
 
 -- "Four grounds, each with its own grid", and #101: "This is ground 4, tried after Wing": their numbers
 abbrev pub standardGround : ℕ
@@ -133,9 +136,10 @@ twoFiftyGround = 4
 abbrev pub grounds : List ℕ
 grounds = standardGround ∷ dollarGround ∷ halfGround ∷ wingGround ∷ twoFiftyGround ∷ []
 
-abbrev pub gridOf : Setting → ℕ → ℕ → Bool
-gridOf s zero h = standardGrid (s .class) (cents h)
-gridOf s (suc zero) h = dollarGrid s (cents h)
-gridOf s (suc (suc zero)) h = halfGrid s (cents h)
-gridOf s (suc (suc (suc zero))) h = wingGrid s (cents h)
-gridOf s (suc (suc (suc (suc g)))) h = twoFiftyGrid s (cents h)
+-- the grid of a ground, where the position of a wing is taken at the price p
+abbrev pub gridOf : Setting → ℕ → ℕ → ℕ → Bool
+gridOf s p zero h = standardGrid (s .class) (cents h)
+gridOf s p (suc zero) h = dollarGrid s (cents h)
+gridOf s p (suc (suc zero)) h = halfGrid s (cents h)
+gridOf s p (suc (suc (suc zero))) h = wingGrid s p (cents h)
+gridOf s p (suc (suc (suc (suc g)))) h = twoFiftyGrid s (cents h)

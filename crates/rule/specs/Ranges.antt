@@ -1,5 +1,5 @@
--- Document 01, "Range", and request #101, "The range rule holds as for Standard." A grid is a test of K, in cents; a
--- strike is counted in half dollars, h. Assumes nothing.
+-- Document 01, "Range", and requests #101, "The range rule holds as for Standard.", and #103, "it passes at the low or
+-- at the high". A grid is a test of K, in cents; a strike is counted in half dollars, h. Assumes nothing.
 use Prim.Native.Nat.{ℕ, zero, suc, _+_, _*_}
 use mathlib.Core.Bool.{Bool, true, false, cond, _&&_, _||_}
 use mathlib.Core.List.{List, [], _∷_}
@@ -7,8 +7,8 @@ use lib.Dec.{leb, ltb, eqb}
 use Rattle.word.specs.Limits.{highestStrike, cents}
 use Rattle.rule.specs.declared.terms.Setting.{Setting}
 use Rattle.logic.specs.Lists.{some}
-use Rattle.rule.specs.Terms.{inHalves, isDollarClass, isNear, price}
-use Rattle.rule.specs.Grids.{oneDollar, fiveDollars, multiple, standardGrid, halfDollars, wingBase}
+use Rattle.rule.specs.Terms.{inHalves, isDollarClass, isNear}
+use Rattle.rule.specs.Grids.{oneDollar, fiveDollars, multiple, standardGrid, halfDollars, wingBase, gridOf}
 
 -- the n lowest strikes that pass the test, of the `left` strikes from h up
 unfoldable pub lowest : (ℕ → Bool) → ℕ → ℕ → ℕ → List ℕ
@@ -42,16 +42,30 @@ rangeBy grid p h =
 abbrev pub rangeGrid : Setting → ℕ → Bool
 rangeGrid s k = cond (isNear s && isDollarClass (s .class)) (multiple oneDollar k) (standardGrid (s .class) k)
 
-abbrev pub standardRange : Setting → ℕ → Bool
-standardRange s h = rangeBy (rangeGrid s) (price s) h
+abbrev pub standardRange : Setting → ℕ → ℕ → Bool
+standardRange s p h = rangeBy (rangeGrid s) p h
 
--- "the Half grid for Half, which may hold fewer than five. A wing is in range when L and L + $5 both are, as
--- Standard."; #101: "The range rule holds as for Standard."
-abbrev pub rangeOf : Setting → ℕ → ℕ → Bool
-rangeOf s zero h = standardRange s h
-rangeOf s (suc zero) h = standardRange s h
-rangeOf s (suc (suc zero)) h = rangeBy halfDollars (price s) h
-rangeOf s (suc (suc (suc zero))) h =
-    standardRange s (inHalves (wingBase (cents h)))
-    && standardRange s (inHalves (wingBase (cents h)) + inHalves fiveDollars)
-rangeOf s (suc (suc (suc (suc g)))) h = standardRange s h
+-- the range of a ground at the price p: "the Half grid for Half, which may hold fewer than five. A wing is in range
+-- when L and L + $5 both are, as Standard."; #101: "The range rule holds as for Standard."
+abbrev pub rangeOf : Setting → ℕ → ℕ → ℕ → Bool
+rangeOf s p zero h = standardRange s p h
+rangeOf s p (suc zero) h = standardRange s p h
+rangeOf s p (suc (suc zero)) h = rangeBy halfDollars p h
+rangeOf s p (suc (suc (suc zero))) h =
+    standardRange s p (inHalves (wingBase (cents h)))
+    && standardRange s p (inHalves (wingBase (cents h)) + inHalves fiveDollars)
+rangeOf s p (suc (suc (suc (suc g)))) h = standardRange s p h
+
+-- ---- #103, the day's low and high
+
+-- "its grid asks the position at either"; the other grids are the same at both
+abbrev pub onGrid : Setting → ℕ → ℕ → Bool
+onGrid s g h = gridOf s (s .class .low) g h || gridOf s (s .class .high) g h
+
+-- the range at the price p, where "a wing's position is taken at the same price"
+abbrev pub inRangeAt : Setting → ℕ → ℕ → ℕ → Bool
+inRangeAt s p g h = gridOf s p g h && rangeOf s p g h
+
+-- "A strike or wing passes its range when it passes at the low or at the high"
+abbrev pub inRange : Setting → ℕ → ℕ → Bool
+inRange s g h = inRangeAt s (s .class .low) g h || inRangeAt s (s .class .high) g h

@@ -42,10 +42,6 @@ isNear s = not (isLong s)
 abbrev pub hasTwoFifties : Setting → Bool
 hasTwoFifties s = isNear s && isTwoFiftyClass (s .class)
 
--- the price P at which the rules are read: the last close
-abbrev pub price : Setting → ℕ
-price s = s .class .close
-
 -- how far two amounts are from each other
 abbrev pub apart : ℕ → ℕ → ℕ
 apart a b = (a - b) + (b - a)

@@ -4,7 +4,7 @@ ghost use mathlib.Core.Path.{_≡_};
 ghost use Prim.Native.Nat.{_^_, _<_, _≤_, min, max};
 ghost use Rattle.word.specs.Limits.{lastMonth, highestPrice, highestStrike};
 ghost use Rattle.rule.specs.Ends.{fifthAbove, isProgramClass, halfEnd, lowEnd, highEnd, dollarEnd};
-ghost use Rattle.rule.specs.Ends.{ladderEnd, belowEnd, aroundEnd, rungs, mostOpen};
+ghost use Rattle.rule.specs.Ends.{ladderEnd, belowEnd, aroundEnd, halfTop, rungs, mostOpen};
 use crate::amounts::FIFTY_DOLLARS;
 use crate::amounts::FIVE_DOLLARS;
 use crate::amounts::HUNDRED_DOLLARS;
@@ -13,15 +13,13 @@ use crate::amounts::TEN_DOLLARS;
 use crate::amounts::TWENTY_FIVE_DOLLARS;
 use crate::amounts::TWO_FIFTY;
 use crate::amounts::TWO_HUNDRED_DOLLARS;
+use crate::grids::has_halves;
 use crate::terms::Setting;
 use crate::terms::has_two_fifties;
 use crate::terms::is_dollar_class;
-use crate::terms::is_half_class;
 use crate::terms::is_long;
 use word::class::ClassRecord;
 use word::programs::DOLLAR_PRICE;
-use word::programs::HALF_PRICE;
-use word::programs::HALF_VOLUME;
 use word::strike::HALF_DOLLAR;
 use word::strike::Strike;
 
@@ -91,23 +89,21 @@ fn is_program_class(class: ClassRecord) -> bool
     is_dollar_class(class) & (class.close < DOLLAR_PRICE)
 }
 
-// The last strike that Half gives, 0 where it gives none.
-pub fn half_end(s: Setting) -> u32
+// The last strike that Half gives at the price p, 0 where it gives none.
+pub fn half_end(s: Setting, p: u32) -> u32
     requires { ⌜ s .current ≤ lastMonth ⌝ }
-    ensures { λ r. ⌜ r ≡ halfEnd s ⌝ }
+    ensures { λ r. ⌜ r ≡ halfEnd s p ⌝ }
 {
-    let class = s.class;
-    let p = class.close;
-    if is_long(s) | !is_half_class(class) | (HALF_PRICE < p) | (class.volume < HALF_VOLUME) {
-        return 0;
+    if has_halves(s) & (p <= LOW_PRICE) {
+        return lower_of(
+            higher_of(p / QUARTER_DOLLAR, p / HALF_DOLLAR + RANGE_COUNT),
+            Strike::FIVE_FIFTY.0,
+        );
     }
-    lower_of(
-        higher_of(p / QUARTER_DOLLAR, p / HALF_DOLLAR + RANGE_COUNT),
-        Strike::FIVE_FIFTY.0,
-    )
+    0
 }
 
-// The lowest strike in range on the other grounds; a price of at most $20 sets none.
+// The lowest strike in range on the other grounds at the price p; one of at most $20 sets none.
 pub fn low_end(p: u32) -> u32
     requires { ⌜ p ≤ highestPrice ⌝ }
     ensures { λ r. ⌜ r ≡ lowEnd p ⌝ }
@@ -120,11 +116,10 @@ pub fn low_end(p: u32) -> u32
 }
 
 // The highest.
-pub fn high_end(s: Setting) -> u32
-    requires { ⌜ (s .class .close ≤ highestPrice) × (s .current ≤ lastMonth) ⌝ }
-    ensures { λ r. ⌜ r ≡ highEnd s ⌝ }
+pub fn high_end(s: Setting, p: u32) -> u32
+    requires { ⌜ (p ≤ highestPrice) × (s .current ≤ lastMonth) ⌝ }
+    ensures { λ r. ⌜ r ≡ highEnd s p ⌝ }
 {
-    let p = s.class.close;
     if LOW_PRICE < p {
         return lower_of(3 * p / ONE_DOLLAR, Strike::HIGHEST.0);
     }
@@ -192,6 +187,14 @@ fn around_end(s: Setting) -> u32
     lower_of((s.class.close + TEN_DOLLARS) / HALF_DOLLAR, LAST_HUNDRED.0)
 }
 
+// The last strike that Half gives at the day's low or at its high.
+fn half_top(s: Setting) -> u32
+    requires { ⌜ s .current ≤ lastMonth ⌝ }
+    ensures { λ r. ⌜ r ≡ halfTop s ⌝ }
+{
+    higher_of(half_end(s, s.class.low), half_end(s, s.class.high))
+}
+
 // How many rungs there are.
 const RUNGS: usize = 7;
 
@@ -205,7 +208,7 @@ pub fn rungs_of(s: Setting) -> Rungs
 {
     [
         Rung {
-            to: half_end(s),
+            to: half_top(s),
             step: 1,
             all: true,
         },

@@ -2,7 +2,7 @@
 ghost use mathlib.Core.Path.{_≡_};
 ghost use Prim.Native.Nat.{_≤_};
 ghost use Rattle.word.specs.Limits.{highestStrike, lastMonth, cents};
-ghost use Rattle.rule.specs.Grids.{ladder, isBarred, standardGrid, dollarGrid, halfDollars, halfGrid, wingAt, wingGrid};
+ghost use Rattle.rule.specs.Grids.{ladder, isBarred, standardGrid, dollarGrid, halfDollars, hasHalves, halfGrid, wingAt, wingGrid};
 ghost use Rattle.rule.specs.Grids.{twoFifties, twoFiftyGrid};
 use crate::amounts::FIFTY_DOLLARS;
 use crate::amounts::FIVE_DOLLARS;
@@ -75,16 +75,20 @@ fn on_half_dollars(k: u32) -> bool
     (k % HALF_DOLLAR == 0) & (k <= Strike::FIVE_FIFTY.cents())
 }
 
+// Whether the expiration has strikes of the $0.50 program.
+pub fn has_halves(s: Setting) -> bool
+    requires { ⌜ s .current ≤ lastMonth ⌝ }
+    ensures { λ r. ⌜ r ≡ hasHalves s ⌝ }
+{
+    let class = s.class;
+    !is_long(s) & is_half_class(class) & (class.close <= HALF_PRICE) & (HALF_VOLUME <= class.volume)
+}
+
 pub fn on_half(s: Setting, k: u32) -> bool
     requires { ⌜ s .current ≤ lastMonth ⌝ }
     ensures { λ r. ⌜ r ≡ halfGrid s k ⌝ }
 {
-    let class = s.class;
-    !is_long(s)
-        & is_half_class(class)
-        & (class.close <= HALF_PRICE)
-        & (HALF_VOLUME <= class.volume)
-        & on_half_dollars(k)
+    has_halves(s) & on_half_dollars(k)
 }
 
 // Whether the strike k is a wing at the multiple of $5 `l`, at the price p.
@@ -97,16 +101,17 @@ fn is_wing_at(p: u32, l: u32, k: u32) -> bool
         | (k == l + TWO_DOLLARS) & ((l < p) & (p <= l + FIVE_DOLLARS))
 }
 
-pub fn on_wing(s: Setting, k: u32) -> bool
+// The position of a wing is taken at the price p.
+pub fn on_wing(s: Setting, p: u32, k: u32) -> bool
     requires { ⌜ (s .current ≤ lastMonth) × (k ≤ cents highestStrike) ⌝ }
-    ensures { λ r. ⌜ r ≡ wingGrid s k ⌝ }
+    ensures { λ r. ⌜ r ≡ wingGrid s p k ⌝ }
 {
     let class = s.class;
     let l = k / FIVE_DOLLARS * FIVE_DOLLARS;
     is_long(s)
         & is_dollar_class(class)
         & (class.close < DOLLAR_PRICE)
-        & ((FIVE_DOLLARS <= l) & (l <= FORTY_FIVE_DOLLARS) & is_wing_at(class.close, l, k))
+        & ((FIVE_DOLLARS <= l) & (l <= FORTY_FIVE_DOLLARS) & is_wing_at(p, l, k))
 }
 
 // Whether the strike k is one of the $2.50 program's at the price p.

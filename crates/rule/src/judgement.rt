@@ -1,11 +1,13 @@
 // The judgement of a strike beside the standing strikes of its expiration.
 ghost use mathlib.Core.Path.{_≡_};
 ghost use mathlib.Core.List.{map};
+ghost use Prim.Native.Nat.{_≤_};
 ghost use lib.ListN.{length};
+ghost use Rattle.word.specs.Limits.{highestPrice};
 ghost use Rattle.rule.specs.Grids.{grounds};
 ghost use Rattle.rule.specs.Spacing.{standingOf};
 ghost use Rattle.word.specs.Answers.{isAccepted};
-ghost use Rattle.rule.specs.Judgement.{Judged, decided, judgement, firstGround, foundRows, noted};
+ghost use Rattle.rule.specs.Judgement.{Judged, decided, judgement, firstGround, foundRows, rowsAt, eitherRow, eitherRows, noted};
 use crate::amounts::FIVE_DOLLARS;
 use crate::bounds::BY_FIVE_DOLLARS;
 use crate::bounds::half_end;
@@ -28,6 +30,9 @@ const GROUNDS: u32 = 5;
 
 // The grid, the range and the spacing of each ground.
 pub type Rows = [[bool; 3]; GROUNDS as usize];
+
+// Nothing passes.
+const NONE_PASSES: Rows = [[false; 3]; GROUNDS as usize];
 
 // The ground or the refusal, from the rows of the grounds.
 pub fn decide(rows: Rows) -> Answer
@@ -58,20 +63,20 @@ pub fn decide(rows: Rows) -> Answer
     Answer::Refused(Refusal::OffGrid)
 }
 
-// Grid and range of each ground. The range counts only on the grid, where it is told by its ends. The spacing is still
-// to be found.
-fn rows_of(s: Setting, strike: Strike) -> Rows
-    requires { ⌜ Judged s (strike .0) ⌝ }
-    ensures { λ r. ⌜ r ≡ foundRows s (strike .0) (length grounds) ⌝ }
+// Grid and range of each ground at the price p. The range counts only on the grid, where it is told by its ends. The
+// spacing is still to be found.
+fn rows_at(s: Setting, p: u32, strike: Strike) -> Rows
+    requires { ⌜ Judged s (strike .0) × (p ≤ highestPrice) ⌝ }
+    ensures { λ r. ⌜ r ≡ rowsAt s p (strike .0) ⌝ }
 {
     let h = strike.0;
     let k = strike.cents();
-    let low = low_end(s.class.close);
-    let high = high_end(s);
+    let low = low_end(p);
+    let high = high_end(s, p);
     let ranged = (low <= h) & (h <= high);
     let standard = on_standard(s.class, k);
     if is_long(s) {
-        let wing = on_wing(s, k);
+        let wing = on_wing(s, p, k);
         let base = k / FIVE_DOLLARS * BY_FIVE_DOLLARS;
         return [
             [standard, standard & ranged, false],
@@ -91,10 +96,48 @@ fn rows_of(s: Setting, strike: Strike) -> Rows
     [
         [standard, standard & ranged, false],
         [dollar, dollar & ranged, false],
-        [half, half & (h <= half_end(s)), false],
+        [half, half & (low <= h) & (h <= half_end(s, p)), false],
         [false, false, false],
         [two_fifty, two_fifty & ranged, false],
     ]
+}
+
+// Grid and range of a ground at one price or at the other.
+fn either(a: [bool; 3], b: [bool; 3]) -> [bool; 3]
+    ensures { λ r. ⌜ r ≡ eitherRow a b ⌝ }
+{
+    [a[0] | b[0], a[1] | b[1], false]
+}
+
+// The same of all grounds.
+fn either_rows(a: Rows, b: Rows) -> Rows
+    ensures { λ r. ⌜ r ≡ eitherRows a b ⌝ }
+{
+    [
+        either(a[0], b[0]),
+        either(a[1], b[1]),
+        either(a[2], b[2]),
+        either(a[3], b[3]),
+        either(a[4], b[4]),
+    ]
+}
+
+// Grid and range of each ground, at the day's low or at its high; where these are one price the rules are read once.
+fn rows_of(s: Setting, strike: Strike) -> Rows
+    requires { ⌜ Judged s (strike .0) ⌝ }
+    ensures { λ r. ⌜ r ≡ foundRows s (strike .0) (length grounds) ⌝ }
+{
+    let high = s.class.high;
+    let mut p = s.class.low;
+    let mut rows = NONE_PASSES;
+    loop {
+        let joined = either_rows(rows, rows_at(s, p, strike));
+        if p == high {
+            return joined;
+        }
+        rows = joined;
+        p = high;
+    }
 }
 
 // The first ground that passes the grid and the range of its row, and the spacing beside the words of the standing

@@ -84,7 +84,7 @@ module _ (now : ℕ) where
   class-first [] w ws legal e = absurd (nil-cons w ws e)
   class-first (x ∷ xs) w ws legal e =
       let f = x .figures in
-      let word = figures-legal f (search ands) .0 in
+      let word = figures-legal f (search ands) .class in
       kind-packed (classWord f) w (fits (classWord f) word) (cc)
 
 module _ (now : ℕ) (xs : List OpenClass) (classesLegal : T (every (isClass now) xs)) where

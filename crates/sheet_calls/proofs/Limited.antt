@@ -12,8 +12,8 @@ use Rattle.word.specs.declared.answer.Answer.the-variants.{Refused}
 use Rattle.word.specs.declared.answer.Refusal.the-variants.{BeyondLimits}
 use Rattle.logic.specs.Lists.{every}
 use Rattle.book.specs.Facts.{Facts}
-use Rattle.book.specs.Calls.{Call, callM, on, callO, callC, callV, callD, callL, callJ, callX, callI, callR, callA, effectOn, effect, answerTo, written, step}
-use Rattle.book.specs.Letters.{letterM, letterO, letterC, letterV, letterD, letterL, letterJ, letterX, letterI, letterR, letterA, callOf}
+use Rattle.book.specs.Calls.{Call, callM, on, callO, callC, callH, callV, callD, callL, callJ, callX, callI, callR, callA, effectOn, effect, answerTo, written, step}
+use Rattle.book.specs.Letters.{letterM, letterO, letterC, letterH, letterV, letterD, letterL, letterJ, letterX, letterI, letterR, letterA, callOf}
 use Rattle.text.specs.Reading.{numberCap, capped}
 use Rattle.logic.proofs.Tests.{and-intro, ands, parts, same-bool, same-leb, bool-cases}
 
@@ -65,7 +65,8 @@ module _ (f : Facts) where
       either (eqb c letterD) (on a (callD b d)) _ (λ t. search (ands, and-intro, under))
       (either (eqb c letterL) (on a (callL b d)) _ (λ t. search (ands, and-intro, under))
       (either (eqb c letterJ) (on a (callJ b d)) _ (λ t. search (ands, and-intro, under))
-      (either (eqb c letterX) (on a (callX b d)) _ (λ t. search (ands, and-intro, under)) (λ t. absurd t)))) t
+      (either (eqb c letterX) (on a (callX b d)) _ (λ t. search (ands, and-intro, under))
+      (either (eqb c letterH) (on a (callH b d)) _ (λ t. search (ands, and-intro, under)) (λ t. absurd t))))) t
   numbers-small c (a ∷ b ∷ d ∷ e ∷ []) t = absurd t
   numbers-small c (a ∷ b ∷ d ∷ e ∷ g ∷ []) t =
       either (eqb c letterI) (on a (callI b d e g)) _ (λ t. search (ands, and-intro, under) depth 9) (λ t. absurd t) t

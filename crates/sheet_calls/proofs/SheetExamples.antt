@@ -1,10 +1,10 @@
--- Document 01's own lines: what they are as calls, lines of no form, and what is printed; each computes.
--- Assumes nothing.
+-- Document 01's own lines, and those of request #103: what they are as calls, lines of no form, and what is printed;
+-- each computes. Assumes nothing.
 use mathlib.Core.Path.{_≡_, refl}
 use mathlib.Core.List.{[], _∷_}
 use Rattle.word.specs.declared.answer.Answer.the-variants.{Done, Ground, Listed, Refused}
-use Rattle.word.specs.declared.answer.Refusal.the-variants.{AlreadyStanding, OutOfRange, OutOfWords}
-use Rattle.book.specs.Calls.{callM, on, callL, callA, malformed}
+use Rattle.word.specs.declared.answer.Refusal.the-variants.{AlreadyStanding, OutOfRange, OutOfWords, CloseOutside}
+use Rattle.book.specs.Calls.{callM, on, callH, callL, callA, malformed}
 use Rattle.book.specs.Letters.{callOf}
 use Rattle.text.specs.Grammar.{firstPart, laterParts, isNumeral, valueFrom}
 use Rattle.text.specs.Printing.{decimalBy, decimal, spacedNumbers, valueOrNone, afterNumber, answerText}
@@ -24,6 +24,11 @@ line-a = refl
 line-l : callIn (76 ∷ 32 ∷ 55 ∷ 32 ∷ 53 ∷ 32 ∷ 49 ∷ 52 ∷ []) ≡ on 7 (callL 5 14)
 unfolding callOf callOfParts firstPart laterParts isNumeral valueFrom
 line-l = refl
+
+-- #103: `H 7 190 210`
+line-h : callIn (72 ∷ 32 ∷ 55 ∷ 32 ∷ 49 ∷ 57 ∷ 48 ∷ 32 ∷ 50 ∷ 49 ∷ 48 ∷ []) ≡ on 7 (callH 190 210)
+unfolding callOf callOfParts firstPart laterParts isNumeral valueFrom
+line-h = refl
 
 -- an empty line
 line-empty : callIn [] ≡ malformed
@@ -70,6 +75,11 @@ printed-out-of-range = refl
 printed-standing : answerText (Refused AlreadyStanding) [] ≡ 54 ∷ 10 ∷ []
 unfolding decimalBy decimal spacedNumbers valueOrNone afterNumber answerText
 printed-standing = refl
+
+-- #103: `16`
+printed-close-outside : answerText (Refused CloseOutside) [] ≡ 49 ∷ 54 ∷ 10 ∷ []
+unfolding decimalBy decimal spacedNumbers valueOrNone afterNumber answerText
+printed-close-outside = refl
 
 -- `15 30`: "for 15 on `A` the value too"
 printed-out-of-words : answerText (Refused (OutOfWords 30)) [] ≡ 49 ∷ 53 ∷ 32 ∷ 51 ∷ 48 ∷ 10 ∷ []

@@ -7,8 +7,9 @@ use mathlib.Core.List.{List, map}
 use native.Mathlib.Omega.{arith}
 use lib.Dec.{leb→le}
 use lib.ListN.{length, take, drop}
-use Rattle.word.specs.Limits.{highestPrice, highestStrike}
+use Rattle.word.specs.Limits.{highestStrike}
 use Rattle.word.specs.declared.class.ClassRecord.{ClassRecord}
+use Rattle.word.proofs.RangeTests.{Ordered}
 use Rattle.word.specs.declared.answer.Answer.{Answer}
 use Rattle.word.specs.declared.answer.Answer.the-variants.{Refused}
 use Rattle.word.specs.declared.answer.Refusal.the-variants.{MonthOutside, AlreadyStanding, NoClose}
@@ -29,7 +30,7 @@ use Rattle.place.proofs.Found.{begins-room}
 use Rattle.strike_call.specs.Judging.{Sought, judged}
 use Rattle.strike_call.proofs.Beside.{isStrikeAt}
 use Rattle.strike_call.proofs.StrikeWords.{judged-beside}
-use Rattle.strike_call.proofs.Settings.{class-open, close-most, close-none, close-known, setting-is}
+use Rattle.strike_call.proofs.Settings.{class-open, prices-known, close-none, close-known, setting-is}
 
 module _ {w : List ℕ} {at : ℕ} {r : StrikeSearch} {m h : ℕ} (x : Sought w at r m h) where
   abbrev c : ℕ
@@ -59,8 +60,8 @@ module _ {w : List ℕ} {at : ℕ} {r : StrikeSearch} {m h : ℕ} (x : Sought w 
   strike-most = let t = x .strike in leb→le h highestStrike (search ands)
 
   module _ (figures : ClassRecord) (g : figures ≡ figuresAt at w) where
-    pub class-close : figures .close ≤ highestPrice
-    class-close = close-most w (x .book) c (x .begins .is-open) at (x .begins .place) figures g
+    pub class-prices : Ordered (figures .low) (figures .close) (figures .high)
+    class-prices = prices-known w (x .book) c (x .begins .is-open) at (x .begins .place) figures g
 
     -- the ways out
     module _ (current : ℕ) (d : current ≡ factsOf w .now) where

@@ -33,7 +33,7 @@ use Rattle.place.specs.Lookups.{expirationOf}
 use Rattle.word.specs.Figures.{figuresAt}
 use Rattle.place.proofs.Heads.{book-month}
 use Rattle.strike_call.proofs.StrikeWords.{standing-words, strikes-rising}
-use Rattle.strike_call.proofs.Settings.{class-open, close-most, close-none, close-known, setting-is}
+use Rattle.strike_call.proofs.Settings.{class-open, prices-known, close-none, close-known, setting-is}
 
 -- the part that is lent is one of the run
 pub part-within :
@@ -91,9 +91,11 @@ module _
 
       pub permitting-listable : Listable here words
       permitting-listable =
+          let prices = prices-known w book c o at k figures g in
           record {
-            close = close-most w book c o at k figures g;
-            current = rw d (book-month w book);
+            measurable = record { low = omega arith; high = prices .most; current = rw d (book-month w book) };
+            close = omega arith;
+            order = omega arith;
             rising = strikes-rising w book c m o (r .from) (r .to) from-is to-is;
           }
 

@@ -1,14 +1,14 @@
--- What the words of a class and the head say is what a call on it sees: the setting of the rules, and whether there is
--- a close. By the figures that are read at the class's place. Assumes nothing.
-use Prim.Native.Nat.{ℕ, _≤_}
+-- What the words of a class and the head say is what a call on it sees: the setting of the rules, its prices in their
+-- limits and order, and whether there is a close. By the figures that are read at the class's place. Assumes nothing.
+use Prim.Native.Nat.{ℕ}
 use mathlib.Core.Path.{_≡_, ap, sym, _∙_}
 use mathlib.Core.Bool.{true, false, not}
 use mathlib.Core.List.{List}
-use lib.Dec.{T, leb→le}
+use lib.Dec.{T}
 use lib.ListN.{length}
 use borrow.Author.Tests.{eq-eqb, ne-eqb}
-use Rattle.word.specs.Limits.{highestPrice}
 use Rattle.word.specs.declared.class.ClassRecord.{ClassRecord}
+use Rattle.word.proofs.RangeTests.{Ordered, day-prices}
 use Rattle.rule.specs.declared.terms.Setting.{Setting}
 use Rattle.book.specs.Facts.{isOpen}
 use Rattle.book.specs.Layout.{factsOf}
@@ -36,10 +36,11 @@ module _ (w : List ℕ) (book : T (isBook w)) (c : ℕ) (o : T (isOpen c (factsO
     close-is : figures .close ≡ seen .class .figures .close
     close-is i = figures-are i .close
 
-    pub close-most : figures .close ≤ highestPrice
-    close-most =
+    pub prices-known : Ordered (figures .low) (figures .close) (figures .high)
+    prices-known =
         let good = class-good (length w) (factsOf w) c (book-good w book) o in
-        rw close-is (leb→le (class (factsOf w) c .figures .close) highestPrice (search ands))
+        let r = class (factsOf w) c .figures in
+        rw figures-are (day-prices (r .low) (r .close) (r .high) (search ands))
 
     pub close-none : figures .close ≡ 0 → hasNoClose seen ≡ true
     close-none e = eq-eqb (seen .class .figures .close) 0 (sym close-is ∙ e)

@@ -12,7 +12,7 @@ use mir.Val.{Val}
 use denote.Laws.{Is}
 use denote.Enum.Declared.{row}
 use Rattle.word.specs.declared.answer.Refusal.{Refusal}
-use Rattle.word.specs.declared.answer.Refusal.the-variants.{NotABook, BeyondLimits, AlreadyOpen, NotOpen, MonthOutside, AlreadyStanding, NotStanding, NoClose, NotQualified, CapReached, OffGrid, OutOfRange, TooClose, OpenInterest, OutOfWords}
+use Rattle.word.specs.declared.answer.Refusal.the-variants.{NotABook, BeyondLimits, AlreadyOpen, NotOpen, MonthOutside, AlreadyStanding, NotStanding, NoClose, NotQualified, CapReached, OffGrid, OutOfRange, TooClose, OpenInterest, OutOfWords, CloseOutside}
 use Rattle.word.specs.declared.answer.Answer.{Answer}
 use Rattle.word.specs.declared.answer.Answer.the-variants.{Done, Ground, Removed, Listed, Refused}
 use Rattle.word.specs.Answers.{refusalNumber, refusalValue, answerNumber, answerValue}
@@ -52,6 +52,7 @@ refusal-below OutOfRange vs ok = (omega arith, omega arith)
 refusal-below TooClose vs ok = (omega arith, omega arith)
 refusal-below OpenInterest vs ok = (omega arith, omega arith)
 refusal-below (OutOfWords count) vs ok = (omega arith, omega arith)
+refusal-below CloseOutside vs ok = (omega arith, omega arith)
 
 answer-below :
     (answer : Answer) (vs : List Val) → Is (row answer-type) answer vs

@@ -9,12 +9,13 @@ use lib.Pow.{shr-shr}
 use Rattle.word.specs.declared.class.ClassRecord.{ClassRecord}
 use Rattle.word.specs.declared.kind.Kind.{Kind}
 use Rattle.word.specs.Programs.{programs, areDesignations, designationIn, designationsIn, designationsEnd, designationWidth, dollarProgram, halfProgram, twoFiftyProgram}
-use Rattle.word.specs.Codec.{Word, Head, Class, Close, Volume, Expiration, Strike, isLegal, packed, kindPlaced, strikeSaid, Fits}
+use Rattle.word.specs.Codec.{Word, Head, Class, Close, Volume, Expiration, Strike, DayPrice, isLegal, packed, kindPlaced, strikeSaid, Fits}
 use Rattle.word.specs.Limits.{isMonth, isVolume, isClose, isGround, isMark, highestPrice, highestStrike, highestClass, highestVolume, lastMonth}
 use Rattle.word.specs.Field.{field, end}
-use Rattle.word.specs.Kinds.{kindField, kindOf, keyOf, isOfKind, isBare, belowKind, headKind, usedField, classKind, closeKind, volumeKind, expirationKind, strikeKind, groundField, putField, callField}
-use Rattle.word.specs.Figures.{areFigures, classWord, isClassAbove, isCloseWord, isVolumeWord}
+use Rattle.word.specs.Kinds.{kindField, kindOf, keyOf, isOfKind, isBare, belowKind, headKind, usedField, classKind, closeKind, volumeKind, expirationKind, strikeKind, groundField, putField, callField, dayPriceKind}
+use Rattle.word.specs.Figures.{areFigures, classWord, isClassAbove, isVolumeWord}
 use Rattle.logic.proofs.Tests.{and-intro, ands, equal-test, T-true}
+use Rattle.word.proofs.RangeTests.{Ordered, day-prices}
 use Rattle.word.proofs.Words.{legal-fits, class-fields, strike-fields}
 
 -- a legal word fits its bits
@@ -100,19 +101,36 @@ strike-test above w h ground put call legal e l =
 
 -- ---- a class's figures
 
-pub figures-legal :
-    (r : ClassRecord) → T (areFigures r)
-    → T (isLegal (classWord r)) × (T (isLegal (Close (r .close))) × T (isLegal (Volume (r .volume))))
-figures-legal r t = (search (ands, and-intro), (search ands depth 8, search ands depth 8))
+-- what holds of each of their words
+pub record OfEach (P : Word → Type 0) (r : ClassRecord) : Type 0 where
+  pub class : P (classWord r)
+  pub close : P (Close (r .close))
+  pub volume : P (Volume (r .volume))
+  pub low : P (DayPrice (r .low))
+  pub high : P (DayPrice (r .high))
+
+pub figures-legal : (r : ClassRecord) → T (areFigures r) → OfEach (λ x. T (isLegal x)) r
+figures-legal r t =
+    let o : Ordered (r .low) (r .close) (r .high) = day-prices (r .low) (r .close) (r .high) (search ands) in
+    record {
+      class = search (ands, and-intro);
+      close = le→leb (r .close) highestPrice (omega arith);
+      volume = search ands;
+      low = le→leb (r .low) highestPrice (omega arith);
+      high = le→leb (r .high) highestPrice (o .most);
+    }
 
 -- their words fit their bits
-pub figures-fit :
-    (r : ClassRecord) → T (areFigures r) → Fits (classWord r) × (Fits (Close (r .close)) × Fits (Volume (r .volume)))
+pub figures-fit : (r : ClassRecord) → T (areFigures r) → OfEach Fits r
 figures-fit r t =
-    let l = figures-legal r t in (
-      fits (classWord r) (l .0),
-      (fits (Close (r .close)) (l .1 .0), fits (Volume (r .volume)) (l .1 .1)),
-    )
+    let l = figures-legal r t in
+    record {
+      class = fits (classWord r) (l .class);
+      close = fits (Close (r .close)) (l .close);
+      volume = fits (Volume (r .volume)) (l .volume);
+      low = fits (DayPrice (r .low)) (l .low);
+      high = fits (DayPrice (r .high)) (l .high);
+    }
 
 -- what a class word says
 abbrev pub classIn : ℕ → Word
@@ -170,24 +188,26 @@ number-field k x w l e =
     let kind : kindOf w ≡ k .number = omega arith in
     (equal-test (kindOf w) (k .number) kind, omega arith)
 
-number-test :
-    (k : Kind) (limit x w : ℕ) → limit < 2 ^ kindField .low → T (leb x limit) → x + kindPlaced k ≡ w
-    → T (isOfKind k w && leb (belowKind w) limit)
-number-test k limit x w small legal e =
-    let f = number-field k x w (omega (arith, leb→le x limit legal)) e in
-    and-intro (isOfKind k w) (leb (belowKind w) limit) (f .0) (rw (f .1) legal)
+pub close-packed : (w : ℕ) → T (isOfKind closeKind w) → packed (Close (belowKind w)) ≡ w
+close-packed w t = number-packed closeKind w (eqb→eq (kindOf w) (closeKind .number) t)
 
-pub close-packed : (w : ℕ) → T (isCloseWord w) → packed (Close (belowKind w)) ≡ w
-close-packed w t = number-packed closeKind w (eqb→eq (kindOf w) (closeKind .number) (search ands))
+pub close-field : (w p : ℕ) → T (isClose p) → packed (Close p) ≡ w → T (isOfKind closeKind w) × (belowKind w ≡ p)
+close-field w p legal e = number-field closeKind p w (omega (arith, leb→le p highestPrice legal)) e
 
-pub close-test : (w price : ℕ) → T (isClose price) → packed (Close price) ≡ w → T (isCloseWord w)
-close-test w price legal e = number-test closeKind highestPrice price w (omega arith) legal e
+pub day-price-packed : (w : ℕ) → T (isOfKind dayPriceKind w) → packed (DayPrice (belowKind w)) ≡ w
+day-price-packed w t = number-packed dayPriceKind w (eqb→eq (kindOf w) (dayPriceKind .number) t)
+
+pub day-price-field :
+    (w p : ℕ) → T (isClose p) → packed (DayPrice p) ≡ w → T (isOfKind dayPriceKind w) × (belowKind w ≡ p)
+day-price-field w p legal e = number-field dayPriceKind p w (omega (arith, leb→le p highestPrice legal)) e
 
 pub volume-packed : (w : ℕ) → T (isVolumeWord w) → packed (Volume (belowKind w)) ≡ w
 volume-packed w t = number-packed volumeKind w (eqb→eq (kindOf w) (volumeKind .number) (search ands))
 
 pub volume-test : (w v : ℕ) → T (isVolume v) → packed (Volume v) ≡ w → T (isVolumeWord w)
-volume-test w v legal e = number-test volumeKind highestVolume v w (omega arith) legal e
+volume-test w v legal e =
+    let f = number-field volumeKind v w (omega (arith, leb→le v highestVolume legal)) e in
+    and-intro (isOfKind volumeKind w) (isVolume (belowKind w)) (f .0) (rw (f .1) legal)
 
 pub expiration-packed : (w : ℕ) → kindOf w ≡ expirationKind .number → packed (Expiration (belowKind w)) ≡ w
 expiration-packed w kind = number-packed expirationKind w kind

@@ -4,7 +4,7 @@ use mathlib.Core.Bool.{false}
 use lib.Dec.{eqb}
 use Rattle.word.specs.Answers.{refusalNumber, answerNumber, isAccepted}
 use Rattle.word.specs.declared.answer.Refusal.{Refusal}
-use Rattle.word.specs.declared.answer.Refusal.the-variants.{NotABook, BeyondLimits, AlreadyOpen, NotOpen, MonthOutside, AlreadyStanding, NotStanding, NoClose, NotQualified, CapReached, OffGrid, OutOfRange, TooClose, OpenInterest, OutOfWords}
+use Rattle.word.specs.declared.answer.Refusal.the-variants.{NotABook, BeyondLimits, AlreadyOpen, NotOpen, MonthOutside, AlreadyStanding, NotStanding, NoClose, NotQualified, CapReached, OffGrid, OutOfRange, TooClose, OpenInterest, OutOfWords, CloseOutside}
 use Rattle.word.specs.declared.answer.Answer.{Answer}
 use Rattle.word.specs.declared.answer.Answer.the-variants.{Done, Ground, Removed, Listed, Refused}
 
@@ -24,6 +24,7 @@ refusal-not-zero OutOfRange = refl
 refusal-not-zero TooClose = refl
 refusal-not-zero OpenInterest = refl
 refusal-not-zero (OutOfWords count) = refl
+refusal-not-zero CloseOutside = refl
 
 -- "An accepted call answers 0"
 pub accepted-zero : (a : Answer) → isAccepted a ≡ eqb (answerNumber a) 0

@@ -13,8 +13,8 @@ use Rattle.word.specs.declared.field.Field.{Field}
 use Rattle.word.specs.declared.kind.Kind.{Kind}
 use Rattle.word.specs.Programs.{Program, programs, programCount, program, isProgram, areDesignations, designationWidth, designationIn, designationsIn, dollarProgram, halfProgram, twoFiftyProgram}
 use Rattle.word.specs.Field.{field, end}
-use Rattle.word.specs.Kinds.{kindField, kindOf, keyOf, headKind, usedField, classKind, closeKind, volumeKind, expirationKind, strikeKind, groundField, putField, callField}
-use Rattle.word.specs.Codec.{isLegal, packed, shifted, kindPlaced, FitEach, Fits, fieldsAs, reading, Word, Head, Class, Close, Volume, Expiration, Strike, Invalid}
+use Rattle.word.specs.Kinds.{kindField, kindOf, keyOf, headKind, usedField, classKind, closeKind, volumeKind, expirationKind, strikeKind, groundField, putField, callField, dayPriceKind}
+use Rattle.word.specs.Codec.{isLegal, packed, shifted, kindPlaced, FitEach, Fits, fieldsAs, reading, Word, Head, Class, Close, Volume, Expiration, Strike, DayPrice, Invalid}
 use Rattle.logic.proofs.Tests.{parts, ands}
 use Rattle.logic.proofs.Slices.{mapped-at}
 use Rattle.word.proofs.RangeTests.{between-high}
@@ -45,6 +45,7 @@ legal-fits (Strike h ground put call) legal =
     let grounded : isGround ground ≡ true = search parts in
     let marks : (isMark put ≡ true) × (isMark call ≡ true) = (search parts, search parts) in
     omega (arith, leb-true, between-high)
+legal-fits (DayPrice price) legal = omega (arith, leb-true)
 legal-fits Invalid legal = omega arith
 
 -- the kind and the fields of a packed word are those that were packed
@@ -56,6 +57,7 @@ kindIn (Close price) = closeKind .number
 kindIn (Volume contracts) = volumeKind .number
 kindIn (Expiration month) = expirationKind .number
 kindIn (Strike h ground put call) = strikeKind .number
+kindIn (DayPrice price) = dayPriceKind .number
 kindIn Invalid = 0
 
 pub kind-packed : (x : Word) (w : ℕ) → Fits x → packed x ≡ w → kindOf w ≡ kindIn x
@@ -69,6 +71,7 @@ kind-packed (Close price) w fits e = omega arith
 kind-packed (Volume contracts) w fits e = omega arith
 kind-packed (Expiration month) w fits e = omega arith
 kind-packed (Strike h ground put call) w fits e = omega arith
+kind-packed (DayPrice price) w fits e = omega arith
 kind-packed Invalid w fits e = omega arith
 
 -- the kind as it stands above a field
@@ -162,6 +165,7 @@ fields-packed x fits = ap (λ (k : ℕ). fieldsAs k (packed x)) (kind-packed x (
     go (Strike h ground put call) f =
         let e = strike-fields (packed (Strike h ground put call)) h ground put call f refl in
         λ i. Strike (e .0 i) (e .1 i) (e .2 i) (e .3 i)
+    go (DayPrice price) f = let e : keyOf dayPriceKind (packed (DayPrice price)) ≡ price = omega arith in ap DayPrice e
     go Invalid f = refl
 
 -- reading a packed word gives its fields back

@@ -1,9 +1,9 @@
--- Document 01, "Who draws which number": the fifteen numbers, "The lowest number that applies is given.", "An accepted
--- call answers 0 and a value": the number and the value of each answer. Assumes nothing.
+-- Document 01, "Who draws which number": the fifteen numbers, and request #103, 16; "The lowest number that applies is
+-- given.", "An accepted call answers 0 and a value": the number and the value of each answer. Assumes nothing.
 use Prim.Native.Nat.{ℕ}
 use mathlib.Core.Bool.{Bool, true, false}
 use Rattle.word.specs.declared.answer.Refusal.{Refusal}
-use Rattle.word.specs.declared.answer.Refusal.the-variants.{NotABook, BeyondLimits, AlreadyOpen, NotOpen, MonthOutside, AlreadyStanding, NotStanding, NoClose, NotQualified, CapReached, OffGrid, OutOfRange, TooClose, OpenInterest, OutOfWords}
+use Rattle.word.specs.declared.answer.Refusal.the-variants.{NotABook, BeyondLimits, AlreadyOpen, NotOpen, MonthOutside, AlreadyStanding, NotStanding, NoClose, NotQualified, CapReached, OffGrid, OutOfRange, TooClose, OpenInterest, OutOfWords, CloseOutside}
 use Rattle.word.specs.declared.answer.Answer.{Answer}
 use Rattle.word.specs.declared.answer.Answer.the-variants.{Done, Ground, Removed, Listed, Refused}
 
@@ -23,10 +23,27 @@ refusalNumber OutOfRange = 12
 refusalNumber TooClose = 13
 refusalNumber OpenInterest = 14
 refusalNumber (OutOfWords count) = 15
+refusalNumber CloseOutside = 16
 
--- "The lowest number that applies is given.": the place of a refusal in the order of what a call asks, today its number
+-- "The lowest number that applies is given.", and #103: "with 16, tested straight after 8": the place of a refusal in
+-- the order of what a call asks; in tens, so that one finds a place between two others
 abbrev pub rank : Refusal → ℕ
-rank why = refusalNumber why
+rank NotABook = 10
+rank BeyondLimits = 20
+rank AlreadyOpen = 30
+rank NotOpen = 40
+rank MonthOutside = 50
+rank AlreadyStanding = 60
+rank NotStanding = 70
+rank NoClose = 80
+rank CloseOutside = 85
+rank NotQualified = 90
+rank CapReached = 100
+rank OffGrid = 110
+rank OutOfRange = 120
+rank TooClose = 130
+rank OpenInterest = 140
+rank (OutOfWords count) = 150
 
 -- "A refusal .. carries value 0 except 15 on `A`", where the count of its strikes is the value
 abbrev pub refusalValue : Refusal → ℕ
@@ -45,6 +62,7 @@ refusalValue OutOfRange = 0
 refusalValue TooClose = 0
 refusalValue OpenInterest = 0
 refusalValue (OutOfWords count) = count
+refusalValue CloseOutside = 0
 
 -- "An accepted call answers 0 and a value"
 abbrev pub answerNumber : Answer → ℕ

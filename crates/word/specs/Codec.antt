@@ -1,5 +1,5 @@
 -- Document 01, "Kind 1, the head" to "Kind 6, a strike", "Bits 28 to 31 of a word are its kind", "every bit not named
--- is zero": the six kinds of word, packed and read. Assumes nothing.
+-- is zero", and request #103, "two kind 7 words": the seven kinds of word, packed and read. Assumes nothing.
 use Prim.Native.Nat.{ℕ, _+_, _*_, _^_, _<_, _≤_}
 use mathlib.Core.Bool.{Bool, false, cond, _&&_}
 use mathlib.Core.List.{List, [], _∷_}
@@ -9,7 +9,7 @@ use Rattle.word.specs.declared.kind.Kind.{Kind}
 use Rattle.word.specs.Limits.{isStrike, isMonth, isClassNumber, isVolume, isLength, isClose, isGround, isMark}
 use Rattle.word.specs.Programs.{Program, programs, areDesignations, designationWidth, designationsIn}
 use Rattle.word.specs.Field.{field}
-use Rattle.word.specs.Kinds.{kindField, kindOf, keyOf, headKind, usedField, classKind, closeKind, volumeKind, expirationKind, strikeKind, groundField, putField, callField}
+use Rattle.word.specs.Kinds.{kindField, kindOf, keyOf, headKind, usedField, classKind, closeKind, volumeKind, expirationKind, strikeKind, groundField, putField, callField, dayPriceKind}
 
 -- what a word of the book says, by its kind; Invalid where it is none
 pub data Word : Type 0 where
@@ -19,6 +19,7 @@ pub data Word : Type 0 where
   Volume : (contracts : ℕ) → Word
   Expiration : (month : ℕ) → Word
   Strike : (h ground put call : ℕ) → Word
+  DayPrice : (price : ℕ) → Word
   Invalid : Word
 
 -- "with every field in its limits"; the head itself is a word used
@@ -29,6 +30,7 @@ isLegal (Close price) = isClose price
 isLegal (Volume contracts) = isVolume contracts
 isLegal (Expiration month) = isMonth month
 isLegal (Strike h ground put call) = isStrike h && (isGround ground && (isMark put && isMark call))
+isLegal (DayPrice price) = isClose price
 isLegal Invalid = false
 
 -- a number from the lowest bit of a field on
@@ -54,6 +56,7 @@ packed (Volume contracts) = contracts + kindPlaced volumeKind
 packed (Expiration month) = month + kindPlaced expirationKind
 packed (Strike h ground put call) =
     h + shifted ground groundField + shifted put putField + shifted call callField + kindPlaced strikeKind
+packed (DayPrice price) = price + kindPlaced dayPriceKind
 packed Invalid = 0
 
 -- a designation for each program, small enough for its bits
@@ -77,6 +80,7 @@ Fits (Expiration month) = FitsKey expirationKind month
 Fits (Strike h ground put call) =
     FitsKey strikeKind h
     × ((ground < 2 ^ groundField .width) × ((put < 2 ^ putField .width) × (call < 2 ^ callField .width)))
+Fits (DayPrice price) = FitsKey dayPriceKind price
 Fits Invalid = 0 ≤ 0
 
 -- the fields of w, read as those of a strike word
@@ -92,7 +96,8 @@ fieldsAs k w =
     (cond (eqb k (volumeKind .number)) (Volume (keyOf volumeKind w))
     (cond (eqb k (expirationKind .number)) (Expiration (keyOf expirationKind w))
     (cond (eqb k (strikeKind .number)) (strikeSaid w)
-    Invalid)))))
+    (cond (eqb k (dayPriceKind .number)) (DayPrice (keyOf dayPriceKind w))
+    Invalid))))))
 
 -- x where its fields are in their limits and w has no bit beside them, else Invalid
 abbrev pub confirmed : Word → ℕ → Word

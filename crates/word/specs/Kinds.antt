@@ -1,5 +1,6 @@
--- Document 01, "Bits 28 to 31 of a word are its kind", "Kind 1, the head, first: .." to "Kind 6, a strike: ..": the
--- number of each kind of word, and where its fields stand. Assumes nothing.
+-- Document 01, "Bits 28 to 31 of a word are its kind", "Kind 1, the head, first: .." to "Kind 6, a strike: ..", and
+-- request #103, "two kind 7 words (bits 0–19)": the number of each kind of word, and where its fields stand. Assumes
+-- nothing.
 use Prim.Native.Nat.{ℕ, _+_, _-_, _*_, _/_, _^_}
 use mathlib.Core.Bool.{Bool}
 use lib.Dec.{eqb}
@@ -49,6 +50,10 @@ putField = record { low = 18; width = 1 }
 
 abbrev pub callField : Field
 callField = record { low = 19; width = 1 }
+
+-- #103: "stored in two kind 7 words (bits 0–19)": the day's low or its high
+abbrev pub dayPriceKind : Kind
+dayPriceKind = record { number = 7; width = 20 }
 
 -- ---- what is asked of a word by its kind
 

@@ -1,8 +1,8 @@
 -- Document 01, "A price P is in cents, 1 to 999,999." to "a lent run of 1 to 65,535 words", and the limits of fields,
 -- "(0 none, 1 ours, 2 another exchange's)": the limits of every number, and a strike in cents. Assumes nothing.
 use Prim.Native.Nat.{ℕ, _+_, _*_, min}
-use mathlib.Core.Bool.{Bool, _&&_}
-use lib.Dec.{leb}
+use mathlib.Core.Bool.{Bool, _&&_, _||_}
+use lib.Dec.{leb, eqb}
 
 abbrev pub between : ℕ → ℕ → ℕ → Bool
 between low high n = leb low n && leb n high
@@ -71,9 +71,15 @@ highestDesignation = 2
 abbrev pub isDesignation : ℕ → Bool
 isDesignation d = leb d highestDesignation
 
--- "close in bits 0–19, 0 when none has come": no close yet, or a price
+-- "close in bits 0–19, 0 when none has come", and #103's low and high with it: no close yet, or a price
 abbrev pub isClose : ℕ → Bool
 isClose p = leb p highestPrice
+
+-- #103: "In every book all three are 0, or 1 ≤ low ≤ close ≤ high.", and each is a price
+abbrev pub areDayPrices : ℕ → ℕ → ℕ → Bool
+areDayPrices low close high =
+    eqb low 0 && (eqb close 0 && eqb high 0)
+    || leb 1 low && (leb low close && (leb close high && leb high highestPrice))
 
 -- "ground in 15–17 (0 to 3)", and #101: "This is ground 4"
 abbrev pub highestGround : ℕ

@@ -2,7 +2,7 @@
 ghost use mathlib.Core.Path.{_≡_};
 ghost use Rattle.word.specs.Answers.{refusalNumber, refusalValue, answerNumber, answerValue, isAccepted};
 
-// Why a call is refused, by number from 1 to 15.
+// Why a call is refused, by number from 1 to 16.
 pub enum Refusal {
     NotABook,
     BeyondLimits,
@@ -20,6 +20,7 @@ pub enum Refusal {
     OpenInterest,
     // The count is that of the strikes which the second run is too short for, and 0 where the book is.
     OutOfWords(u32),
+    CloseOutside,
 }
 
 pub enum Answer {
@@ -50,6 +51,7 @@ impl Refusal {
             Refusal::TooClose => 13,
             Refusal::OpenInterest => 14,
             Refusal::OutOfWords(_) => 15,
+            Refusal::CloseOutside => 16,
         }
     }
 
@@ -72,6 +74,7 @@ impl Refusal {
             Refusal::TooClose => 0,
             Refusal::OpenInterest => 0,
             Refusal::OutOfWords(count) => count,
+            Refusal::CloseOutside => 0,
         }
     }
 }

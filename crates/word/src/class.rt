@@ -1,6 +1,6 @@
 // The class record: what the book holds of a class beside its series.
 ghost use mathlib.Core.Path.{_≡_};
-ghost use Rattle.word.specs.Class.{opened, withClose, withVolume, designation, withDesignation};
+ghost use Rattle.word.specs.Class.{opened, withClose, withLowHigh, withVolume, designation, withDesignation};
 ghost use Rattle.word.specs.Programs.{IsProgram};
 use crate::programs::COUNT;
 use crate::programs::DOLLAR;
@@ -12,6 +12,9 @@ pub struct ClassRecord {
     pub close: u32,
     // The national average of contracts a day.
     pub volume: u32,
+    // The day's low and high in cents, by which the range is measured; 0 when no close has come.
+    pub low: u32,
+    pub high: u32,
     // The designation in each program, the $1 program's first: 0 none, 1 ours, 2 another exchange's.
     pub designations: [u32; COUNT as usize],
 }
@@ -24,6 +27,8 @@ impl ClassRecord {
             number,
             close: 0,
             volume: 0,
+            low: 0,
+            high: 0,
             designations: [0; COUNT as usize],
         }
     }
@@ -36,6 +41,22 @@ impl ClassRecord {
             number: self.number,
             close: price,
             volume: self.volume,
+            low: price,
+            high: price,
+            designations,
+        }
+    }
+
+    pub fn with_low_high(self, low: u32, high: u32) -> ClassRecord
+        ensures { λ r. ⌜ r ≡ withLowHigh low high self ⌝ }
+    {
+        let designations = self.designations;
+        ClassRecord {
+            number: self.number,
+            close: self.close,
+            volume: self.volume,
+            low,
+            high,
             designations,
         }
     }
@@ -48,6 +69,8 @@ impl ClassRecord {
             number: self.number,
             close: self.close,
             volume: contracts,
+            low: self.low,
+            high: self.high,
             designations,
         }
     }
@@ -83,6 +106,8 @@ impl ClassRecord {
             number: self.number,
             close: self.close,
             volume: self.volume,
+            low: self.low,
+            high: self.high,
             designations,
         }
     }

@@ -1,11 +1,12 @@
-// The six kinds of word, packed.
+// The seven kinds of word, packed.
 ghost use mathlib.Core.Path.{_≡_};
-ghost use Rattle.word.specs.Codec.{Class, Close, Expiration, Fits, Head, Strike, Volume, packed};
+ghost use Rattle.word.specs.Codec.{Class, Close, DayPrice, Expiration, Fits, Head, Strike, Volume, packed};
 use crate::class::ClassRecord;
 use crate::field::put_at;
 use crate::head::USED;
 use crate::kind::CLASS;
 use crate::kind::CLOSE;
+use crate::kind::DAY_PRICE;
 use crate::kind::EXPIRATION;
 use crate::kind::HEAD;
 use crate::kind::STRIKE;
@@ -62,4 +63,11 @@ pub fn strike_word(h: u32, ground: u32, put: u32, call: u32) -> u32
 {
     let below = put_at(put_at(h, ground, GROUND), put, PUT);
     with_kind(put_at(below, call, CALL), STRIKE)
+}
+
+pub fn day_price_word(price: u32) -> u32
+    requires { ⌜ Fits (DayPrice price) ⌝ }
+    ensures { λ r. ⌜ r ≡ packed (DayPrice price) ⌝ }
+{
+    with_kind(price, DAY_PRICE)
 }

@@ -1,4 +1,5 @@
-// The words of a class's figures, which begin at a place of a run: the class word, then the close, then the volume.
+// The words of a class's figures, which begin at a place of a run: the class word, then the close, the volume, the
+// day's low and its high.
 ghost use mathlib.Core.List.{[], map};
 ghost use mathlib.Core.Path.{_≡_};
 ghost use Prim.Native.Nat.{_+_, _≤_};
@@ -6,20 +7,22 @@ ghost use lib.Dec.{T};
 ghost use lib.ListN.{length};
 ghost use lib.Seq.{sets};
 ghost use Rattle.word.specs.Codec.{packed};
-ghost use Rattle.word.specs.Figures.{figuresLength, figuresWords, figuresAt, areFigures, isClassAbove, isCloseWord, isVolumeWord, areFiguresAt};
+ghost use Rattle.word.specs.Figures.{figuresLength, figuresWords, figuresAt, areFigures, isClassAbove, isVolumeWord, areFiguresAt};
 use crate::class::ClassRecord;
 use crate::codec::class_word;
 use crate::codec::close_word;
+use crate::codec::day_price_word;
 use crate::codec::volume_word;
 use crate::field::field_of;
 use crate::kind::CLASS;
 use crate::kind::CLOSE;
+use crate::kind::DAY_PRICE;
 use crate::kind::VOLUME;
 use crate::kind::below_kind;
 use crate::kind::is_bare;
 use crate::kind::is_of_kind;
 use crate::kind::key_of;
-use crate::limits::is_close;
+use crate::limits::are_day_prices;
 use crate::limits::is_volume;
 use crate::programs::DESIGNATIONS_END;
 use crate::programs::DOLLAR_BITS;
@@ -28,7 +31,7 @@ use crate::programs::TWO_FIFTY_BITS;
 use crate::programs::is_designation_in;
 
 // How many words there are.
-pub const LENGTH: usize = 3;
+pub const LENGTH: usize = 5;
 
 // What they say.
 pub fn read(run: &[u32], at: usize) -> ClassRecord
@@ -44,6 +47,8 @@ pub fn read(run: &[u32], at: usize) -> ClassRecord
         number: key_of(run[at], CLASS),
         close: key_of(run[at + 1], CLOSE),
         volume: key_of(run[at + 2], VOLUME),
+        low: key_of(run[at + 3], DAY_PRICE),
+        high: key_of(run[at + 4], DAY_PRICE),
         designations,
     }
 }
@@ -55,6 +60,8 @@ pub fn write(run: &mut [u32], at: usize, figures: ClassRecord)
     run[at] = class_word(figures);
     run[at + 1] = close_word(figures.close);
     run[at + 2] = volume_word(figures.volume);
+    run[at + 3] = day_price_word(figures.low);
+    run[at + 4] = day_price_word(figures.high);
 }
 
 // A class word whose number is above the one before it.
@@ -65,12 +72,6 @@ fn is_class_above(w: u32, above: u32) -> bool
         & ((above < key_of(w, CLASS))
             & (is_designation_in(w, DOLLAR_BITS)
                 & (is_designation_in(w, HALF_BITS) & is_designation_in(w, TWO_FIFTY_BITS))))
-}
-
-fn is_close_word(w: u32) -> bool
-    ensures { λ r. ⌜ r ≡ isCloseWord w ⌝ }
-{
-    is_of_kind(w, CLOSE) & is_close(below_kind(w))
 }
 
 fn is_volume_word(w: u32) -> bool
@@ -84,5 +85,13 @@ pub fn are_figures(run: &[u32], at: usize, above: u32) -> bool
     requires { ⌜ at + figuresLength ≤ length (now run) ⌝ }
     ensures { λ r. ⌜ r ≡ areFiguresAt above at (now (run .entry)) ⌝ }
 {
-    is_class_above(run[at], above) & (is_close_word(run[at + 1]) & is_volume_word(run[at + 2]))
+    let close = run[at + 1];
+    let low = run[at + 3];
+    let high = run[at + 4];
+    is_class_above(run[at], above)
+        & (is_volume_word(run[at + 2])
+            & (is_of_kind(close, CLOSE)
+                & (is_of_kind(low, DAY_PRICE)
+                    & (is_of_kind(high, DAY_PRICE)
+                        & are_day_prices(below_kind(low), below_kind(close), below_kind(high))))))
 }

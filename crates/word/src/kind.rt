@@ -1,4 +1,4 @@
-// The six kinds of word: their numbers, and what their words are ordered by.
+// The seven kinds of word: their numbers, and what their words are ordered by.
 ghost use mathlib.Core.Path.{_≡_};
 ghost use Prim.Native.Nat.{_+_, _*_, _^_, _<_, _≤_};
 ghost use Rattle.word.specs.Kinds.{kindField, kindOf, keyOf, isOfKind, belowKind, isBare, gradeOf, gradeAt};
@@ -40,6 +40,12 @@ pub const EXPIRATION: Kind = Kind {
 pub const STRIKE: Kind = Kind {
     number: 6,
     width: 15,
+};
+
+// The day's low or its high.
+pub const DAY_PRICE: Kind = Kind {
+    number: 7,
+    width: 20,
 };
 
 // Where the number of its kind stands in a word.

@@ -1,4 +1,4 @@
-// The words of the strike book: fields by shifts and masks, the six kinds of word, and the small values that the book
+// The words of the strike book: fields by shifts and masks, the seven kinds of word, and the small values that the book
 // deals in.
 pub mod answer;
 pub mod caps;

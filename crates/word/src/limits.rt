@@ -1,7 +1,7 @@
 // The limits of the numbers that a call or a word carries.
 ghost use mathlib.Core.Path.{_≡_};
 ghost use Prim.Native.Nat.{_≤_};
-ghost use Rattle.word.specs.Limits.{isPrice, isStrike, isMonth, isClassNumber, isVolume, isLength, isDesignation, isClose, isMark, lastMonth, latestMonth};
+ghost use Rattle.word.specs.Limits.{isPrice, isStrike, isMonth, isClassNumber, isVolume, isLength, isDesignation, areDayPrices, isMark, lastMonth, latestMonth};
 use crate::strike::Strike;
 
 // In cents.
@@ -79,11 +79,11 @@ pub fn is_designation(d: u32) -> bool
     d <= HIGHEST_DESIGNATION
 }
 
-// A price, or 0 when none has come.
-pub fn is_close(p: u32) -> bool
-    ensures { λ r. ⌜ r ≡ isClose p ⌝ }
+// Whether low, close and high are all 0, or prices that rise: either way they rise, and a low of 0 has a high of 0.
+pub fn are_day_prices(low: u32, close: u32, high: u32) -> bool
+    ensures { λ r. ⌜ r ≡ areDayPrices low close high ⌝ }
 {
-    p <= HIGHEST_PRICE
+    (low <= close) & ((close <= high) & ((high <= HIGHEST_PRICE) & ((1 <= low) | (high == 0))))
 }
 
 // A mark of open interest.

@@ -1,12 +1,13 @@
 //! Two builds of the library timed in one run. Each is a shared library that is opened by its path, so that
-//! both are called alike; docs/PERFORMANCE.md says how one is made of an archive.
+//! both are called alike; docs/PERFORMANCE.md says how one is made of an archive. Each makes its own books of
+//! the same lines, as the two may lay out the same facts in other words.
 
 use crate::books::{full, nearly_empty, Book};
 use crate::clock::{compare, Batch};
 use crate::proved::told;
 use crate::side::{Lent, Work};
 use crate::{books_of, lent, rounds_of, rows_of, Kind, LENGTHS};
-use calls::{Answer, StrikeBook};
+use calls::{Answer, Call, StrikeBook};
 use std::ffi::{c_char, c_int, c_void, CString};
 use std::mem::transmute_copy;
 use strikebook::library::Reply;
@@ -24,6 +25,7 @@ type Run = *mut u32;
 /// The functions of one build, as `strikebook::library` declares them.
 struct Build {
     is_book: extern "C" fn(Run, usize) -> bool,
+    fresh: extern "C" fn(Run, usize) -> Reply,
     set_month: extern "C" fn(Run, usize, u32) -> Reply,
     open_class: extern "C" fn(Run, usize, u32) -> Reply,
     set_close: extern "C" fn(Run, usize, u32, u32) -> Reply,
@@ -36,6 +38,8 @@ struct Build {
     review_class: extern "C" fn(Run, usize, u32) -> Reply,
     list_permitted: extern "C" fn(Run, usize, Run, usize, u32, u32) -> Reply,
     run_sheet: extern "C" fn(Run, usize, Run, usize, *const u8, usize, Run, usize) -> usize,
+    /// Builds before #103 lack it.
+    set_low_high: Option<extern "C" fn(Run, usize, u32, u32, u32) -> Reply>,
 }
 
 impl Build {
@@ -44,23 +48,47 @@ impl Build {
         // SAFETY: the name ends in 0. The library is never closed.
         let library = unsafe { dlopen(name.as_ptr(), APART) };
         assert!(!library.is_null(), "{path} can't be opened");
+        // Null where the library lacks it.
+        let found = |function: &str| {
+            let name = CString::new(format!("strike_book_{function}")).expect("a name");
+            // SAFETY: the library is open, and the name ends in 0.
+            unsafe { dlsym(library, name.as_ptr()) }
+        };
         macro_rules! build {
             ($($function:ident)*) => {
-                Build { $($function: {
-                    let name = CString::new(concat!("strike_book_", stringify!($function))).expect("a name");
-                    // SAFETY: the library is open, and the function is of the field's type in every build.
-                    unsafe {
-                        let function = dlsym(library, name.as_ptr());
-                        assert!(!function.is_null(), "{path} lacks {name:?}");
-                        transmute_copy(&function)
-                    }
-                },)* }
+                Build {
+                    $($function: {
+                        let name = stringify!($function);
+                        let function = found(name);
+                        assert!(!function.is_null(), "{path} lacks {name}");
+                        // SAFETY: the function is of the field's type in every build.
+                        unsafe { transmute_copy(&function) }
+                    },)*
+                    // SAFETY: the same of a build that has it; a null pointer is none.
+                    set_low_high: unsafe { transmute_copy(&found("set_low_high")) },
+                }
             };
         }
         build! {
-            is_book set_month open_class set_close set_volume designate list_strike judge_strike delist_strike
-            mark_strike review_class list_permitted run_sheet
+            is_book fresh set_month open_class set_close set_volume designate list_strike judge_strike
+            delist_strike mark_strike review_class list_permitted run_sheet
         }
+    }
+
+    /// A book of the same facts and length, in this build's words.
+    fn made(&self, book: &Book) -> Book {
+        let mut made = book.clone();
+        let run = &mut made.run;
+        assert_eq!((self.fresh)(run.as_mut_ptr(), run.len()).number, 0);
+        let mut lent = Lent {
+            second: Vec::new(),
+            answers: vec![1; 2 * book.made_by.lines().count()],
+        };
+        let sheet = Work::Sheet(book.made_by.clone().into_bytes());
+        self.work(&sheet, run, &mut lent);
+        let mut numbers = lent.answers.iter().step_by(2);
+        assert!(numbers.all(|number| *number == 0), "a line is refused");
+        made
     }
 
     /// Does the work once, as `side::work` does it.
@@ -104,6 +132,11 @@ impl StrikeBook for Called<'_> {
         judge_strike(c, m, h) delist_strike(c, m, h) mark_strike(c, m, h, a, b) review_class(c)
     }
 
+    fn set_low_high(&mut self, c: u32, low: u32, high: u32) -> Answer {
+        let function = self.0.set_low_high.expect("a build that has it");
+        told(function(self.1.as_mut_ptr(), self.1.len(), c, low, high))
+    }
+
     fn list_permitted(&mut self, second: &mut [u32], c: u32, m: u32) -> Answer {
         let (at, length) = (second.as_mut_ptr(), second.len());
         told((self.0.list_permitted)(
@@ -121,41 +154,62 @@ impl StrikeBook for Called<'_> {
     }
 }
 
-/// Both builds do the same.
-fn check(builds: &[Build; 2], name: &str, book: &Book, what: &Work) {
-    let [one, other] = builds.each_ref().map(|build| {
-        let (mut run, mut lent) = (book.run.clone(), lent());
-        let answer = build.work(what, &mut run, &mut lent);
+/// Both builds answer the same, and write the same; the same words of the book too, where they had the same.
+fn check(builds: &[Build; 2], name: &str, books: [&Book; 2], what: &Work) {
+    let done = |at: usize| {
+        let (mut run, mut lent) = (books[at].run.clone(), lent());
+        let answer = builds[at].work(what, &mut run, &mut lent);
         (answer, run, lent)
-    });
-    assert!(one == other, "{name}: the builds differ");
+    };
+    let (one, other) = (done(0), done(1));
+    let alike = books[0].run == books[1].run;
+    let same = one.0 == other.0 && one.2 == other.2 && (!alike || one.1 == other.1);
+    assert!(same, "{name}: the builds differ");
 }
 
 /// One row of a table, of one length: the second build's time beside the first's, best and median.
-fn measure(builds: &[Build; 2], name: &str, books: &[Book], works: &[Work]) -> String {
-    for (book, what) in books.iter().zip(works) {
-        check(builds, name, book, what);
+fn measure(builds: &[Build; 2], name: &str, books: &[Vec<Book>; 2], works: &[Work]) -> String {
+    let [ones, others] = books;
+    for (place, what) in works.iter().enumerate() {
+        check(builds, name, [&ones[place], &others[place]], what);
     }
-    let mut batch = Batch::of(&books[..works.len()], works, &lent());
+    let mut batch = Batch::of(&ones[..works.len()], works, &lent());
     let compared = compare(rounds_of(works), |second| {
-        let build = &builds[usize::from(second)];
-        batch.time_by(|what, run, lent| build.work(what, run, lent))
+        let at = usize::from(second);
+        batch.time_by(&books[at], |what, run, lent| {
+            builds[at].work(what, run, lent)
+        })
     });
     let (best, median) = (compared.best(), compared.median);
     format!(" {:.0} | {best:.2} | {median:.2} |", compared.second)
 }
 
+/// The books in the words of each build.
+fn made_by_each(builds: &[Build; 2], books: &[Book]) -> [Vec<Book>; 2] {
+    let made = |build: &Build| books.iter().map(|book| build.made(book)).collect();
+    builds.each_ref().map(made)
+}
+
 /// The tables of the second build beside the first.
 pub fn builds(first: &str, second: &str) {
     let builds = [first, second].map(Build::open);
+    let have_low_high = builds.iter().all(|build| build.set_low_high.is_some());
+    // Where one lays out a class in more words than the other, it runs out of them earlier.
+    let is_shared = |call: &Call, answer: Answer| {
+        (have_low_high || call.letter() != 'H') && answer.number != 15
+    };
     let kinds: [(&str, Kind); 2] = [("Full books", full), ("Nearly empty books", nearly_empty)];
     for (title, kind) in kinds {
         println!("### {title}: nanoseconds of the first build, the second's time beside it\n");
         println!("| | 64 words | best | median | 4,096 | best | median | 65,535 | best | median |");
         println!("|---|---|---|---|---|---|---|---|---|---|");
         let books = LENGTHS.map(|length| books_of(kind, length));
-        let rows = books.each_ref().map(|books| rows_of(books));
+        let rows = books.each_ref().map(|books| rows_of(books, is_shared));
+        let books = books.map(|books| made_by_each(&builds, &books));
         for (place, (name, _)) in rows[0].iter().enumerate() {
+            if *name == "`H`" && !have_low_high {
+                continue;
+            }
             let cells = [0, 1, 2].map(|at| measure(&builds, name, &books[at], &rows[at][place].1));
             println!("| {name} |{}", cells.concat());
         }

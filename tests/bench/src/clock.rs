@@ -28,17 +28,22 @@ impl<'a> Batch<'a> {
 
     /// The nanoseconds for one book, of a side's work done once on each.
     pub fn time(&mut self, side: Side) -> f64 {
+        let on = self.books;
         match side {
-            Side::Proved => self.time_by(|what, run, lent| work(Side::Proved, what, run, lent)),
-            Side::Hand => self.time_by(|what, run, lent| work(Side::Hand, what, run, lent)),
-            Side::Plain => self.time_by(|what, run, lent| work(Side::Plain, what, run, lent)),
+            Side::Proved => self.time_by(on, |what, run, lent| work(Side::Proved, what, run, lent)),
+            Side::Hand => self.time_by(on, |what, run, lent| work(Side::Hand, what, run, lent)),
+            Side::Plain => self.time_by(on, |what, run, lent| work(Side::Plain, what, run, lent)),
         }
     }
 
-    /// The same of work that is given.
+    /// The same of work that is given, on books of the same lengths.
     #[inline(always)]
-    pub fn time_by(&mut self, once: impl Fn(&Work, &mut [u32], &mut Lent) -> Answer) -> f64 {
-        for (run, book) in self.runs.iter_mut().zip(self.books) {
+    pub fn time_by(
+        &mut self,
+        books: &[Book],
+        once: impl Fn(&Work, &mut [u32], &mut Lent) -> Answer,
+    ) -> f64 {
+        for (run, book) in self.runs.iter_mut().zip(books) {
             run.copy_from_slice(&book.run);
         }
         let start = Instant::now();

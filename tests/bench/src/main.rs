@@ -13,7 +13,7 @@ mod side;
 
 use books::Book;
 use calls::words::{places, used, CLASS};
-use calls::Call;
+use calls::{Answer, Call};
 use clock::{compare, Batch, Compared};
 use side::{work, Lent, Side, Work};
 
@@ -50,15 +50,20 @@ fn books_of(kind: Kind, length: usize) -> Vec<Book> {
     (0..count).map(|seed| kind(length, seed)).collect()
 }
 
-/// What is timed: the name of the row, and the work on each book. A sheet is read over the first book only.
-fn rows_of(books: &[Book]) -> Vec<(&'static str, Vec<Work>)> {
+/// What is timed: the name of the row, and the work on each book. A sheet, of lines that are wanted, is read
+/// over the first book only.
+fn rows_of(
+    books: &[Book],
+    is_wanted: impl Fn(&Call, Answer) -> bool,
+) -> Vec<(&'static str, Vec<Work>)> {
     let tests = books.iter().map(|_| Work::IsBook).collect();
     let mut rows: Vec<(&str, Vec<Work>)> = vec![("`is_book`", tests)];
     for (place, (name, _)) in books[0].calls().iter().enumerate() {
         let call = |book: &Book| Work::Call(book.calls().swap_remove(place).1);
         rows.push((name, books.iter().map(call).collect()));
     }
-    rows.push(("`run_sheet`", vec![Work::Sheet(books[0].sheet(LINES))]));
+    let sheet = books[0].sheet(LINES, is_wanted);
+    rows.push(("`run_sheet`", vec![Work::Sheet(sheet)]));
     rows
 }
 
@@ -135,7 +140,7 @@ fn table(title: &str, kind: Kind, names: &[&str]) {
         let used = used(&books[0].run);
         let classes = places(&books[0].run, CLASS).len();
         eprintln!("{title}, {used} of {length} words used, classes: {classes}");
-        let mut works = rows_of(&books);
+        let mut works = rows_of(&books, |_, _| true);
         works.retain(|row| is_named(row.0));
         for (place, (name, works)) in works.iter().enumerate() {
             if place == rows.len() {
@@ -178,7 +183,7 @@ fn growth() {
     let kinds: [(&str, Kind); 2] = [("full", books::full), ("nearly empty", books::nearly_empty)];
     for (title, kind) in kinds {
         let books = LENGTHS.map(|length| books_of(kind, length));
-        let rows = [0, 1, 2].map(|i| rows_of(&books[i]));
+        let rows = [0, 1, 2].map(|i| rows_of(&books[i], |_, _| true));
         for name in ["`is_book`", "`J`", "`L`"] {
             let mut batches = [0, 1, 2].map(|i| {
                 let row = rows[i].iter().find(|row| row.0 == name);
@@ -206,6 +211,8 @@ fn main() {
             table("Nearly empty books", books::nearly_empty, &[]);
             let of_program = ["`D`", "`L`", "`J`", "`A`"];
             table("In the $2.50 program", books::two_fifty, &of_program);
+            let of_prices = ["`H`", "`L`", "`J`", "`A`"];
+            table("Where low and high differ", books::low_and_high, &of_prices);
             growth();
         }
         ["sheet"] => programs::sheet(),

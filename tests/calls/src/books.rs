@@ -1,7 +1,8 @@
 //! Words of books: any that the layout allows, those that no call makes too.
 
 use crate::figures;
-use crate::words::{class, head, strike, ByProgram, CLOSE, EXPIRATION, GROUNDS, PROGRAMS, VOLUME};
+use crate::words::{class_words, head, strike, ByProgram, Prices};
+use crate::words::{CLASS_WORDS, EXPIRATION, GROUNDS, PROGRAMS};
 use crate::Random;
 use std::collections::BTreeSet;
 
@@ -39,7 +40,7 @@ fn filled(random: &mut Random, length: usize, most: usize) -> Vec<u32> {
     };
     let step = random.pick(&[1, 1, 1, 3, 40, 400]);
     let mut number = random.between(1, step);
-    while number <= 16_383 && filler.words.len() + 3 <= most {
+    while number <= 16_383 && filler.words.len() + CLASS_WORDS <= most {
         filler.add_class(random, number);
         number += random.between(1, step);
     }
@@ -76,12 +77,15 @@ impl Filler {
             }
             self.own[place] += u32::from(*designation == 1);
         }
-        let close = match random.one_in(8) {
-            true => 0,
-            false => figures::close(random),
+        let prices = match random.one_in(8) {
+            true => Prices::at(0),
+            false => {
+                let close = figures::close(random);
+                any_prices(random, close)
+            }
         };
         let volume = figures::volume(random);
-        let words = [class(number, designations), CLOSE | close, VOLUME | volume];
+        let words = class_words(number, designations, prices, volume);
         self.words.extend(words);
         let mut month = self.now;
         for _ in 0..random.below(self.expirations + 1) {
@@ -89,18 +93,26 @@ impl Filler {
             if month > 1_023.min(self.now + 39) || self.words.len() + 2 > self.most {
                 return;
             }
-            self.add_expiration(random, month, close);
+            self.add_expiration(random, month, prices);
             month += 1;
         }
     }
 
-    fn add_expiration(&mut self, random: &mut Random, month: u32, close: u32) {
+    fn add_expiration(&mut self, random: &mut Random, month: u32, prices: Prices) {
         self.words.push(EXPIRATION | month);
         let left = self.most - self.words.len();
         let count = (random.between(1, self.strikes) as usize).min(left);
-        for h in strikes(random, count, close) {
+        for h in strikes(random, count, prices) {
             self.words.push(any_strike(random, h, &GROUNDS));
         }
+    }
+}
+
+/// A close alone, or with another low or high.
+fn any_prices(random: &mut Random, close: u32) -> Prices {
+    match random.one_in(3) {
+        true => Prices::at(close),
+        false => figures::prices(random, close),
     }
 }
 
@@ -116,8 +128,10 @@ fn any_strike(random: &mut Random, h: u32, grounds: &[u32]) -> u32 {
 }
 
 /// Up to `count` strikes, at least one, near each other and near the grids.
-fn strikes(random: &mut Random, count: usize, close: u32) -> BTreeSet<u32> {
-    let about = close / 100 + random.below(close / 50 + 1);
+fn strikes(random: &mut Random, count: usize, prices: Prices) -> BTreeSet<u32> {
+    let Prices { close, low, high } = prices;
+    let about = [close, low, high].map(|price| price / 100 + random.below(price / 50 + 1));
+    let about = random.pick(&about);
     let lowest = random.pick(&[1, 1, 10, 20, 40, 90, 19_900, about, about, about]);
     let mut strikes = BTreeSet::new();
     for _ in 0..count {
@@ -132,7 +146,7 @@ fn strikes(random: &mut Random, count: usize, close: u32) -> BTreeSet<u32> {
 }
 
 /// How many words a run has room for that has as many own classes as the caps allow, and more classes.
-pub const CAPPED_WORDS: usize = 601;
+pub const CAPPED_WORDS: usize = 1 + 200 * CLASS_WORDS;
 
 /// A book at or just below each cap.
 pub fn near_caps(random: &mut Random, length: usize) -> Vec<u32> {
@@ -151,17 +165,38 @@ pub fn with_own_classes(random: &mut Random, length: usize, own: ByProgram) -> V
         });
         let close = random.pick(&[0, 200, 499, 500, 500, 501, 4_999, 5_000]);
         let volume = random.pick(&[999, 1_000, 1_000, 1_000, 1_001]);
-        words.extend([class(number, designations), CLOSE | close, VOLUME | volume]);
+        let prices = match close {
+            0 => Prices::at(0),
+            _ => any_prices(random, close),
+        };
+        words.extend(class_words(number, designations, prices, volume));
     }
     words[0] = head(0, words.len());
     words.resize(length, 0);
     words
 }
 
-/// The class of a crowded book.
+/// The class of a crowded book, and of a book of one class.
 pub const CROWDED: u32 = 7;
 
-/// A book with one crowded expiration, about the close of its class; and its month. Its strikes are of any
+/// A book of one class, mostly a $1 class below $60, with a low and a high and no strike.
+pub fn one_class(random: &mut Random) -> Vec<u32> {
+    let close = match random.one_in(4) {
+        true => figures::close(random),
+        false => random.between(1, 6_000),
+    };
+    let mut designations = any_designations(random);
+    designations[0] = random.pick(&[0, 1, 2, 2]);
+    let (prices, volume) = (figures::prices(random, close), random.pick(&[999, 1_000]));
+    let mut words = vec![0];
+    words.extend(class_words(CROWDED, designations, prices, volume));
+    words[0] = head(random.below(980), words.len());
+    let left = random.index(40);
+    words.resize(words.len() + left, 0);
+    words
+}
+
+/// A book with one crowded expiration, over the ranges of its class; and its month. Its strikes are of any
 /// grounds, or of Dollar and one that stays away from it.
 pub fn crowded(random: &mut Random) -> (Vec<u32>, u32) {
     let now = random.below(980);
@@ -172,12 +207,11 @@ pub fn crowded(random: &mut Random) -> (Vec<u32>, u32) {
         2 => figures::about_two_fifty(random),
         _ => random.pick(&figures::CLOSES).min(60_000),
     };
-    let mut words = vec![
-        0,
-        class(CROWDED, any_designations(random)),
-        CLOSE | close,
-        VOLUME | random.pick(&[999, 1_000]),
-    ];
+    let mut prices = any_prices(random, close);
+    prices.high = prices.high.min(60_000);
+    let (designations, volume) = (any_designations(random), random.pick(&[999, 1_000]));
+    let mut words = vec![0];
+    words.extend(class_words(CROWDED, designations, prices, volume));
     if random.one_in(2) {
         // An expiration before it, whose strikes don't count.
         words.push(EXPIRATION | (month - 1));
@@ -185,9 +219,9 @@ pub fn crowded(random: &mut Random) -> (Vec<u32>, u32) {
     }
     words.push(EXPIRATION | month);
     let grounds = random.pick(&[&GROUNDS[..], &[0, 1], &[1, 4]]);
-    let last = 3 * close / 100 + 60;
+    let last = 3 * prices.high / 100 + 60;
     let most = random.pick(&[2, 4, 9, 30]);
-    let mut h = close / 100 + random.between(1, most);
+    let mut h = prices.low / 100 + random.between(1, most);
     while h <= last {
         words.push(any_strike(random, h, grounds));
         h += random.between(1, most);
@@ -196,7 +230,8 @@ pub fn crowded(random: &mut Random) -> (Vec<u32>, u32) {
         words.extend([EXPIRATION | (month + 1), strike(h, 0, 0, 0)]);
     }
     if random.one_in(2) {
-        words.extend([class(CROWDED + 2, [0; PROGRAMS.len()]), CLOSE, VOLUME]);
+        let designations = [0; PROGRAMS.len()];
+        words.extend(class_words(CROWDED + 2, designations, Prices::at(0), 0));
     }
     words[0] = head(now, words.len());
     let left = random.index(40);
@@ -214,7 +249,7 @@ mod tests {
         let mut random = Random::new(0);
         let mut most = [0; PROGRAMS.len()];
         for _ in 0..300 {
-            let own = own_classes(&any(&mut random, 600));
+            let own = own_classes(&any(&mut random, 1_000));
             most = std::array::from_fn(|place| most[place].max(own[place]));
         }
         assert_eq!(most, PROGRAMS.map(|program| program.cap));

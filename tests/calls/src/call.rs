@@ -1,6 +1,6 @@
 //! The calls of a list, as a sheet writes them.
 
-/// The eleven calls, and the malformed line. A number of more than 32 bits is held as the highest of
+/// The twelve calls, and the malformed line. A number of more than 32 bits is held as the highest of
 /// 32 bits: both are beyond every limit.
 #[derive(Clone, Copy, Debug, PartialEq, Eq)]
 #[rustfmt::skip]
@@ -8,6 +8,7 @@ pub enum Call {
     M { m: u32 },
     O { c: u32 },
     C { c: u32, p: u32 },
+    H { c: u32, low: u32, high: u32 },
     V { c: u32, n: u32 },
     D { c: u32, p: u32, d: u32 },
     L { c: u32, m: u32, h: u32 },
@@ -19,8 +20,8 @@ pub enum Call {
     Malformed,
 }
 
-/// The letters of the eleven calls.
-pub const LETTERS: [char; 11] = ['M', 'O', 'C', 'V', 'D', 'L', 'J', 'X', 'I', 'R', 'A'];
+/// The letters of the twelve calls.
+pub const LETTERS: [char; 12] = ['M', 'O', 'C', 'H', 'V', 'D', 'L', 'J', 'X', 'I', 'R', 'A'];
 
 impl Call {
     /// The call that a letter and its numbers name; what names none is malformed.
@@ -29,6 +30,7 @@ impl Call {
             ('M', &[m]) => Call::M { m },
             ('O', &[c]) => Call::O { c },
             ('C', &[c, p]) => Call::C { c, p },
+            ('H', &[c, low, high]) => Call::H { c, low, high },
             ('V', &[c, n]) => Call::V { c, n },
             ('D', &[c, p, d]) => Call::D { c, p, d },
             ('L', &[c, m, h]) => Call::L { c, m, h },
@@ -47,6 +49,7 @@ impl Call {
             Call::M { .. } => 'M',
             Call::O { .. } => 'O',
             Call::C { .. } => 'C',
+            Call::H { .. } => 'H',
             Call::V { .. } => 'V',
             Call::D { .. } => 'D',
             Call::L { .. } => 'L',
@@ -64,6 +67,7 @@ impl Call {
             Call::M { m } => vec![m],
             Call::O { c } | Call::R { c } => vec![c],
             Call::C { c, p } => vec![c, p],
+            Call::H { c, low, high } => vec![c, low, high],
             Call::V { c, n } => vec![c, n],
             Call::D { c, p, d } => vec![c, p, d],
             Call::L { c, m, h } | Call::J { c, m, h } | Call::X { c, m, h } => vec![c, m, h],
@@ -96,7 +100,7 @@ mod tests {
 
     #[test]
     fn written_and_read() {
-        let counts = [1, 1, 2, 2, 3, 3, 3, 3, 5, 1, 2];
+        let counts = [1, 1, 2, 3, 2, 3, 3, 3, 3, 5, 1, 2];
         for (letter, count) in LETTERS.into_iter().zip(counts) {
             let numbers: Vec<u32> = (7..12).collect();
             for given in 0..=5 {

@@ -1,12 +1,12 @@
 //! Calls drawn over what a run shows, so that most of them say something about it.
 
-use crate::words::{any_class, class_of, now, Class, PROGRAMS};
+use crate::words::{any_class, class_of, now, Class, Prices, PROGRAMS};
 use crate::{figures, Call, Random, LETTERS};
 
 /// How often each letter is drawn, in the order of [`LETTERS`], and the highest class number that is
 /// usually opened.
 pub struct Mix {
-    pub weights: [u32; 11],
+    pub weights: [u32; LETTERS.len()],
     pub highest: u32,
 }
 
@@ -23,7 +23,7 @@ pub fn call(random: &mut Random, run: &[u32], mix: &Mix) -> Call {
     if let Call::L { c, .. } = call {
         match class_of(run, c) {
             None if random.one_in(2) => return Call::O { c },
-            Some(class) if class.close == 0 && !random.one_in(4) => {
+            Some(class) if class.prices.close == 0 && !random.one_in(4) => {
                 let p = figures::close(random);
                 return Call::C { c, p };
             }
@@ -48,8 +48,13 @@ pub fn call_of(random: &mut Random, run: &[u32], mix: &Mix, letter: char) -> Cal
         'O' => Call::O { c },
         'C' => {
             let p = figures::close(random);
-            let p = beyond(random, p, &[0, 1_000_000, 1 << 20 | 200]);
+            let p = beyond(random, p, &NO_PRICES);
             Call::C { c, p }
+        }
+        'H' => {
+            let [low, high] =
+                low_high(random, class.as_ref()).map(|price| beyond(random, price, &NO_PRICES));
+            Call::H { c, low, high }
         }
         'V' => {
             let n = figures::volume(random);
@@ -84,6 +89,25 @@ pub fn call_of(random: &mut Random, run: &[u32], mix: &Mix, letter: char) -> Cal
             let (m, h) = series(random, now(run), class.as_ref());
             Call::of(letter, &[c, m, h])
         }
+    }
+}
+
+/// Numbers beyond the limits of a price.
+const NO_PRICES: [u32; 3] = [0, 1_000_000, 1 << 20 | 200];
+
+/// A low and a high for the close of a class, now and then with one of them on its other side.
+fn low_high(random: &mut Random, class: Option<&Class>) -> [u32; 2] {
+    let close = match class {
+        Some(class) if class.prices.close > 0 => class.prices.close.min(999_999),
+        _ => figures::close(random),
+    };
+    let Prices { low, high, .. } = figures::prices(random, close);
+    match random.below(16) {
+        0 => [high, high],
+        1 => [low, low],
+        2 => [close + 1, high],
+        3 => [low, close - 1],
+        _ => [low, high],
     }
 }
 
@@ -153,7 +177,7 @@ fn half_dollars(random: &mut Random, class: Option<&Class>, month: u32) -> u32 {
     if random.one_in(60) {
         return random.pick(&[0, 20_000, 1 << 15 | 10, u32::MAX]);
     }
-    let close = class.map_or(200, |class| class.close);
+    let price = class.map_or(200, |class| one_of(random, class.prices));
     let mut standing = class.map_or(Vec::new(), |class| class.strikes.clone());
     standing.retain(|(expires, _)| *expires == month);
     let h = match !standing.is_empty() && random.one_in(2) {
@@ -161,9 +185,16 @@ fn half_dollars(random: &mut Random, class: Option<&Class>, month: u32) -> u32 {
             let (_, h) = random.pick(&standing);
             beside(random, h)
         }
-        false => at_edges(random, close),
+        false => at_edges(random, price),
     };
     h.clamp(1, 19_999)
+}
+
+/// One of the prices, or one between the low and the high.
+fn one_of(random: &mut Random, prices: Prices) -> u32 {
+    let Prices { close, low, high } = prices;
+    let between = random.between(low.min(high), low.max(high));
+    random.pick(&[close, low, high, between])
 }
 
 /// A strike at most $1 from another.
@@ -183,24 +214,26 @@ fn beside(random: &mut Random, h: u32) -> u32 {
     }
 }
 
-/// A strike on or beside a grid, or at an end of the range about a close.
-fn at_edges(random: &mut Random, close: u32) -> u32 {
-    match random.below(19) {
-        0 => around(random, close / 100),
-        1 => around(random, close / 50),
-        2 => around(random, close * 3 / 100),
-        3 => around(random, close / 25),
+/// A strike on or beside a grid, or at an end of the range about a price.
+fn at_edges(random: &mut Random, price: u32) -> u32 {
+    match random.below(22) {
+        0 => around(random, price / 100),
+        1 => around(random, price / 50),
+        2 => around(random, price * 3 / 100),
+        3 => around(random, price / 25),
         4..=5 => 2 * random.between(1, 52),
-        6..=7 => 2 * (close * random.between(50, 150) / 100 / 100),
-        8..=9 => 5 * (close * random.between(40, 210) / 100 / 250),
-        10 => 20 * (close * random.between(45, 155) / 100 / 1_000),
+        6..=7 => 2 * (price * random.between(50, 150) / 100 / 100),
+        8..=9 => 5 * (price * random.between(40, 210) / 100 / 250),
+        10 => 20 * (price * random.between(45, 155) / 100 / 1_000),
         11 => random.between(1, 12),
         12 => 10 * random.between(1, 60),
         13 => 5 * random.between(1, 14),
         14 => random.between(1, 120),
-        // Odd multiples of $2.50: from $27.50 to $97.50, and up to some $12 from the close.
+        // Odd multiples of $2.50: from $27.50 to $97.50, and up to some $12 from the price.
         15 => 10 * random.between(5, 19) + 5,
-        16..=17 => (close / 50 + random.below(50)).saturating_sub(25) / 10 * 10 + 5,
+        16..=17 => (price / 50 + random.below(50)).saturating_sub(25) / 10 * 10 + 5,
+        // The wings of an interval up to $15 from the price.
+        18..=20 => (price / 500 + random.below(7)).saturating_sub(3) * 10 + random.pick(&[4, 6]),
         _ => random.between(1, 19_999),
     }
 }
@@ -224,12 +257,21 @@ mod tests {
     use crate::books;
     use std::collections::BTreeSet;
 
+    /// A class with no strike.
+    fn with_prices(prices: Prices) -> Class {
+        Class {
+            number: 7,
+            prices,
+            strikes: Vec::new(),
+        }
+    }
+
     #[test]
     fn each_letter_is_drawn_where_it_has_weight() {
         let mut random = Random::new(0);
         let (run, _) = books::crowded(&mut random);
-        for place in 0..11 {
-            let mut weights = [0; 11];
+        for place in 0..LETTERS.len() {
+            let mut weights = [0; LETTERS.len()];
             weights[place] = 1;
             let mix = Mix {
                 weights,
@@ -249,7 +291,7 @@ mod tests {
         let mut random = Random::new(0);
         let (run, _) = books::crowded(&mut random);
         let mix = Mix {
-            weights: [1; 11],
+            weights: [1; LETTERS.len()],
             highest: 9,
         };
         let mut drawn = BTreeSet::new();
@@ -258,6 +300,39 @@ mod tests {
             drawn.insert(call.numbers()[1]);
         }
         assert!((0..=4).all(|p| drawn.contains(&p)));
+    }
+
+    #[test]
+    fn lows_and_highs_are_drawn_on_both_sides_of_the_close() {
+        let mut random = Random::new(0);
+        let class = with_prices(Prices::at(2_400));
+        let (mut above, mut below, mut alone, mut apart) = (0, 0, 0, 0);
+        for _ in 0..10_000 {
+            let [low, high] = low_high(&mut random, Some(&class));
+            above += u32::from(low > 2_400);
+            below += u32::from(high < 2_400);
+            alone += u32::from([low, high] == [2_400; 2]);
+            apart += u32::from(low < 2_400 && 2_400 < high);
+        }
+        for times in [above, below, alone, apart] {
+            assert!(times > 500, "{above}, {below}, {alone}, {apart}");
+        }
+    }
+
+    #[test]
+    fn strikes_are_drawn_about_each_price() {
+        let mut random = Random::new(0);
+        let (close, low, high) = (30_300, 3_700, 90_500);
+        let class = with_prices(Prices { close, low, high });
+        let mut drawn = BTreeSet::new();
+        for _ in 0..10_000 {
+            drawn.insert(half_dollars(&mut random, Some(&class), 5));
+        }
+        // The ends of each range, and the strike at each price.
+        let mut edges = [close, low, high]
+            .into_iter()
+            .flat_map(|price| [price / 100, price / 50, 3 * price / 100]);
+        assert!(edges.all(|h| drawn.contains(&h)));
     }
 
     #[test]

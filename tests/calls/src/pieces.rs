@@ -19,7 +19,7 @@ const PRINTED: &str = "A 8 5\nA 8 6\nA 8 12\nA 8 13\nA 8 43\nA 9 5\n";
 
 /// Lines on other classes than those.
 const MIX: Mix = Mix {
-    weights: [0, 8, 10, 5, 9, 40, 10, 6, 9, 3, 0],
+    weights: [0, 8, 10, 8, 5, 9, 40, 10, 6, 9, 3, 0],
     highest: 5,
 };
 

@@ -1,7 +1,7 @@
 //! Runs that are mostly no books.
 
 use crate::books;
-use crate::words::{used, PROGRAMS};
+use crate::words::{close, places, price_places, used, CLASS, PROGRAMS};
 use crate::Random;
 
 /// A book of up to `most` words with a few words changed.
@@ -35,7 +35,7 @@ pub fn damage(random: &mut Random, words: &mut Vec<u32>) {
         false => random.index(reach),
     };
     let other = random.index(reach);
-    match random.below(18) {
+    match random.below(21) {
         0..=2 => words[at] ^= 1 << random.below(32),
         3 => words[at] ^= 1 << random.below(10),
         4 => words[at] = words[at].wrapping_add(1),
@@ -59,14 +59,41 @@ pub fn damage(random: &mut Random, words: &mut Vec<u32>) {
         }
         // The designations of a class, the ground and the marks of a strike, and the bit after them.
         15..=16 => words[at] ^= random.between(1, 63) << 15,
+        17..=18 => move_price(random, words),
+        // A word comes twice, with or without the count.
+        19 => {
+            words.insert(at, words[at]);
+            if random.one_in(2) {
+                words[0] = words[0].wrapping_add(1 << 10);
+            }
+        }
         _ => words.push(random.pick(&[0, 0, 1, 6 << 28 | 19_999])),
     }
+}
+
+/// Moves the close, the low or the high of a class to one of the three, a cent beside it, or to 0.
+fn move_price(random: &mut Random, words: &mut [u32]) {
+    let classes = places(words, CLASS);
+    if classes.is_empty() {
+        return;
+    }
+    let mut prices = price_places(random.pick(&classes)).to_vec();
+    prices.retain(|place| *place < words.len());
+    if prices.is_empty() {
+        return;
+    }
+    let (moved, other) = (random.pick(&prices), random.pick(&prices));
+    let price = match random.one_in(6) {
+        true => 0,
+        false => (close(words[other]) + random.below(3)).wrapping_sub(1),
+    };
+    words[moved] = words[moved] & 0xfff0_0000 | close(price);
 }
 
 #[cfg(test)]
 mod tests {
     use super::*;
-    use crate::words::{class, head, own_classes, strike, CLOSE, EXPIRATION, VOLUME};
+    use crate::words::{class_words, head, own_classes, strike, Prices, EXPIRATION, LOW_HIGH};
     use std::collections::BTreeSet;
 
     #[test]
@@ -84,18 +111,61 @@ mod tests {
         assert!((0..PROGRAMS.len()).all(|place| passed.contains(&vec![place])));
     }
 
+    /// A book of one class with one strike, at these prices.
+    fn small(close: u32, low: u32, high: u32) -> Vec<u32> {
+        let mut run = vec![head(4, 8)];
+        run.extend(class_words(7, [0; 3], Prices { close, low, high }, 0));
+        run.extend([EXPIRATION | 5, strike(55, 0, 0, 0)]);
+        run
+    }
+
+    /// Copies of a run, each damaged once.
+    fn copies(run: &[u32]) -> impl Iterator<Item = Vec<u32>> + '_ {
+        let mut random = Random::new(0);
+        (0..20_000).map(move |_| {
+            let mut damaged = run.to_vec();
+            damage(&mut random, &mut damaged);
+            damaged
+        })
+    }
+
+    #[test]
+    fn prices_are_damaged() {
+        let damaged: BTreeSet<Vec<u32>> = copies(&small(200, 150, 250)).collect();
+        for (close, low, high) in [
+            (200, 201, 250),
+            (200, 150, 199),
+            (0, 150, 250),
+            (200, 0, 250),
+        ] {
+            assert!(
+                damaged.contains(&small(close, low, high)),
+                "{close} {low} {high}"
+            );
+        }
+        // A low that is gone and one that comes twice, with the count.
+        let mut short = small(200, 150, 250);
+        short.remove(4);
+        short[0] = head(4, 7);
+        short.push(0);
+        assert!(damaged.contains(&short));
+        let mut long = small(200, 150, 250);
+        long.insert(4, LOW_HIGH | 150);
+        long[0] = head(4, 9);
+        assert!(damaged.contains(&long));
+        // Where the three are one, a low and a high a cent from it.
+        let alone: BTreeSet<Vec<u32>> = copies(&small(200, 200, 200)).collect();
+        assert!(alone.contains(&small(200, 199, 200)) && alone.contains(&small(200, 200, 201)));
+    }
+
     #[test]
     fn designations_and_grounds_are_damaged() {
-        let mut random = Random::new(0);
-        let (class, strike) = (class(7, [0; 3]), strike(55, 0, 0, 0));
-        let run = vec![head(4, 6), class, CLOSE, VOLUME, EXPIRATION | 5, strike];
+        let run = small(0, 0, 0);
         let (mut designations, mut grounds) = (BTreeSet::new(), BTreeSet::new());
-        for _ in 0..20_000 {
-            let mut damaged = run.clone();
-            damage(&mut random, &mut damaged);
+        for damaged in copies(&run) {
             if damaged.len() == run.len() {
-                designations.insert((damaged[1] ^ class) >> 18);
-                grounds.insert((damaged[5] ^ strike) >> 15);
+                designations.insert((damaged[1] ^ run[1]) >> 18);
+                grounds.insert((damaged[7] ^ run[7]) >> 15);
             }
         }
         // Bits 18 to 20 of a class word, and 15 to 17 of a strike word, with no other changed above them.

@@ -84,8 +84,8 @@ fn odd(random: &mut Random, number: u32) -> String {
 /// Any bytes, or bytes of which calls are made.
 fn noise(random: &mut Random) -> Vec<u8> {
     let alphabet: &[u8] = random.pick(&[
-        &b"MOCVDLJXIRA 0123456789\n"[..],
-        &b"MOCVDLJXIRA   0123457\n\n\r/:\x10\x80\xb0"[..],
+        &b"MOCHVDLJXIRA 0123456789\n"[..],
+        &b"MOCHVDLJXIRA   0123457\n\n\r/:\x10\x80\xb0"[..],
         &b"MO 1234567\n"[..],
         &b"\n \r\t\0M 1\n"[..],
     ]);

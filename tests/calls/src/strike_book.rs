@@ -9,12 +9,13 @@ pub struct Answer {
     pub value: u32,
 }
 
-/// The eleven calls over a book, or over lent words that may be none, and what a malformed line gets.
+/// The twelve calls over a book, or over lent words that may be none, and what a malformed line gets.
 /// The second run is lent to `A`.
 pub trait StrikeBook {
     fn set_month(&mut self, m: u32) -> Answer;
     fn open_class(&mut self, c: u32) -> Answer;
     fn set_close(&mut self, c: u32, p: u32) -> Answer;
+    fn set_low_high(&mut self, c: u32, low: u32, high: u32) -> Answer;
     fn set_volume(&mut self, c: u32, n: u32) -> Answer;
     fn designate(&mut self, c: u32, p: u32, d: u32) -> Answer;
     fn list_strike(&mut self, c: u32, m: u32, h: u32) -> Answer;
@@ -32,6 +33,7 @@ pub trait StrikeBook {
             Call::M { m } => self.set_month(m),
             Call::O { c } => self.open_class(c),
             Call::C { c, p } => self.set_close(c, p),
+            Call::H { c, low, high } => self.set_low_high(c, low, high),
             Call::V { c, n } => self.set_volume(c, n),
             Call::D { c, p, d } => self.designate(c, p, d),
             Call::L { c, m, h } => self.list_strike(c, m, h),

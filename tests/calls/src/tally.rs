@@ -5,12 +5,16 @@ use crate::{Answer, Call};
 use std::collections::BTreeMap;
 use std::ops::Range;
 
-/// The numbers that each call can draw by document 01; `-` is a malformed line.
-const DRAWN: [(char, &[u32]); 12] = [
+/// The numbers of the answers: acceptance, and the refusals of document 01 and of the requests.
+const NUMBERS: Range<u32> = 0..17;
+
+/// The numbers that each call can draw; `-` is a malformed line.
+const DRAWN: [(char, &[u32]); 13] = [
     ('-', &[1, 2]),
     ('A', &[0, 1, 2, 4, 5, 8, 15]),
     ('C', &[0, 1, 2, 4]),
     ('D', &[0, 1, 2, 4, 8, 9, 10]),
+    ('H', &[0, 1, 2, 4, 8, 16]),
     ('I', &[0, 1, 2, 4, 7]),
     ('J', &[0, 1, 2, 4, 5, 6, 8, 11, 12, 13]),
     ('L', &[0, 1, 2, 4, 5, 6, 8, 11, 12, 13, 15]),
@@ -74,7 +78,7 @@ impl Tally {
     /// no other.
     pub fn is_complete(&self) -> Result<(), String> {
         for (letter, can) in DRAWN {
-            for number in 0..16 {
+            for number in NUMBERS {
                 if can.contains(&number) {
                     self.is_drawn(letter, number)?;
                 } else if self.times(letter, number) > 0 {
@@ -100,7 +104,7 @@ impl Tally {
     /// Prints a line for each call: each number that it drew, and how often.
     pub fn print(&self) {
         for (letter, _) in DRAWN {
-            let drawn: Vec<String> = (0..16)
+            let drawn: Vec<String> = NUMBERS
                 .filter(|number| self.times(letter, *number) > 0)
                 .map(|number| self.told(letter, number))
                 .collect();
@@ -142,7 +146,7 @@ mod tests {
     fn what_is_rare_is_missed() {
         assert_eq!(complete().is_complete(), Ok(()));
         for (letter, can) in DRAWN {
-            for number in 0..16 {
+            for number in NUMBERS {
                 for detail in details(letter, number) {
                     let mut tally = complete();
                     match tally.times.get_mut(&(letter, number, detail)) {

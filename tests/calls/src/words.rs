@@ -1,4 +1,5 @@
-//! The words of a run by document 01's layout, written and read without asking whether it is a book.
+//! The words of a run by document 01's layout and the requests', written and read without asking whether it
+//! is a book.
 
 use crate::Random;
 
@@ -9,6 +10,7 @@ pub const CLOSE: u32 = 3 << 28;
 pub const VOLUME: u32 = 4 << 28;
 pub const EXPIRATION: u32 = 5 << 28;
 pub const STRIKE: u32 = 6 << 28;
+pub const LOW_HIGH: u32 = 7 << 28;
 
 /// A program: the lowest bit of its designation in a class word, and how many of its classes may be ours.
 pub struct Program {
@@ -42,6 +44,44 @@ pub fn class(number: u32, designations: ByProgram) -> u32 {
     word
 }
 
+/// The close of a class, its low and its high: all 0 before any close.
+#[derive(Clone, Copy, Debug, PartialEq, Eq)]
+pub struct Prices {
+    pub close: u32,
+    pub low: u32,
+    pub high: u32,
+}
+
+impl Prices {
+    /// A close alone, which is the low and the high too.
+    pub fn at(close: u32) -> Prices {
+        Prices {
+            close,
+            low: close,
+            high: close,
+        }
+    }
+}
+
+/// How many words a class takes before its expirations.
+pub const CLASS_WORDS: usize = 5;
+
+/// The words of a class before its expirations.
+pub fn class_words(
+    number: u32,
+    designations: ByProgram,
+    prices: Prices,
+    volume: u32,
+) -> [u32; CLASS_WORDS] {
+    [
+        class(number, designations),
+        CLOSE | prices.close,
+        VOLUME | volume,
+        LOW_HIGH | prices.low,
+        LOW_HIGH | prices.high,
+    ]
+}
+
 pub fn strike(h: u32, ground: u32, put: u32, call: u32) -> u32 {
     STRIKE | h | ground << 15 | put << 18 | call << 19
 }
@@ -60,6 +100,7 @@ pub fn number(word: u32) -> u32 {
     word & 0x3fff
 }
 
+/// A close; a low and a high have the same bits.
 pub fn close(word: u32) -> u32 {
     word & 0xf_ffff
 }
@@ -82,7 +123,7 @@ pub fn used(run: &[u32]) -> usize {
 /// A class as its words show it.
 pub struct Class {
     pub number: u32,
-    pub close: u32,
+    pub prices: Prices,
     /// The month and the half dollars of each strike.
     pub strikes: Vec<(u32, u32)>,
 }
@@ -91,6 +132,11 @@ pub struct Class {
 pub fn places(run: &[u32], wanted: u32) -> Vec<usize> {
     let is_wanted = |place: &usize| kind(run[*place]) == wanted;
     (0..run.len()).filter(is_wanted).collect()
+}
+
+/// Where the close, the low and the high stand of a class whose words begin at a place.
+pub fn price_places(place: usize) -> [usize; 3] {
+    [place + 1, place + 3, place + 4]
 }
 
 /// The class whose words begin at a place.
@@ -105,9 +151,11 @@ pub fn class_at(run: &[u32], place: usize) -> Class {
             _ => {}
         }
     }
+    let [close, low, high] =
+        price_places(place).map(|place| run.get(place).map_or(0, |word| close(*word)));
     Class {
         number: number(run[place]),
-        close: run.get(place + 1).map_or(0, |word| close(*word)),
+        prices: Prices { close, low, high },
         strikes,
     }
 }
@@ -156,25 +204,27 @@ mod tests {
 
     #[test]
     fn a_class_is_read_as_written() {
-        let run = [
-            head(4, 9),
-            class(7, [1, 2, 1]),
-            CLOSE | 200,
-            VOLUME,
-            EXPIRATION | 5,
-            strike(14, 4, 1, 1),
-            class(9, [0; 3]),
-            CLOSE,
-            VOLUME,
-            0,
-        ];
-        assert_eq!((now(&run), used(&run)), (4, 9));
+        let prices = Prices {
+            close: 200,
+            low: 150,
+            high: 250,
+        };
+        let mut run = vec![head(4, 13)];
+        run.extend(class_words(7, [1, 2, 1], prices, 1_000));
+        run.extend([EXPIRATION | 5, strike(14, 4, 1, 1)]);
+        run.extend(class_words(9, [0; 3], Prices::at(0), 0));
+        run.push(0);
+        assert_eq!((now(&run), used(&run)), (4, run.len() - 1));
         assert_eq!(run[1], CLASS | 7 | 1 << 14 | 2 << 16 | 1 << 18);
-        assert_eq!(run[5], STRIKE | 14 | 4 << 15 | 1 << 18 | 1 << 19);
+        let figures = [CLOSE | 200, VOLUME | 1_000, LOW_HIGH | 150, LOW_HIGH | 250];
+        assert_eq!(run[2..6], figures);
+        assert_eq!(run[7], STRIKE | 14 | 4 << 15 | 1 << 18 | 1 << 19);
         let seven = class_of(&run, 7).unwrap();
-        assert_eq!((seven.number, seven.close), (7, 200));
+        assert_eq!((seven.number, seven.prices), (7, prices));
         assert_eq!(seven.strikes, [(5, 14)]);
-        assert!(class_of(&run, 9).unwrap().strikes.is_empty());
+        let nine = class_of(&run, 9).unwrap();
+        assert_eq!(nine.prices, Prices::at(0));
+        assert!(nine.strikes.is_empty());
         assert!(class_of(&run, 8).is_none());
         let mut random = Random::new(0);
         assert_eq!(any_strike(&mut random, &run), Some((7, 5, 14)));

@@ -89,6 +89,11 @@ pub fn compare(tally: &mut Tally) -> Result<(), String> {
     let t8 = both(by(1, 1, 10), &[15, 20, 25]);
     let t6 = permitted(&[30, 36, 40, 44, 50, 54, 60, 64, 70]);
     let t7 = permitted(&[30, 36, 40, 44, 46, 50, 54, 60, 64, 70]);
+    let to_38 = both(by(5, 5, 50), &[60, 70]);
+    let wings = permitted(&[
+        10, 14, 20, 24, 30, 34, 40, 44, 46, 50, 56, 60, 66, 70, 74, 76, 80, 84, 90, 94, 100, 110,
+        120,
+    ]);
     let (dollar_calls, dollar_answers) = cap(1, 150);
     let (half_calls, half_answers) = cap(2, 20);
     let (two_fifty_calls, two_fifty_answers) = cap(3, 60);
@@ -188,7 +193,7 @@ pub fn compare(tally: &mut Tally) -> Result<(), String> {
         ),
         (
             "no expiration word without strikes, and no 15 while words remain",
-            6,
+            8,
             "O 7 / C 7 1300 / D 7 1 1 / L 7 5 14 / L 7 6 14 / X 7 5 14 / L 7 6 14 / R 7 / L 7 5 14 / M 6 / L 7 7 14"
                 .to_string(),
             "0 / 0 / 0 / 0 1 / 15 / 0 / 0 1 / 0 1 / 0 1 / 0 / 0 1".to_string(),
@@ -256,6 +261,91 @@ pub fn compare(tally: &mut Tally) -> Result<(), String> {
                  L 7 5 40 / L 7 6 14 / J 7 6 38 / J 7 8 38 / R 7"
             ),
             format!("{stood} / 0 1 / 0 1 / 0 / 0 1 / 0 4 / 0 1 / 6 / 0 1 / 6 / 6 / 0 1 / 0 1 / 0 0"),
+        ),
+        (
+            "#103 at 1900, 1950 and 2100: up to $38 by the low",
+            4_096,
+            "M 4 / O 7 / C 7 1950 / H 7 1900 2100 / A 7 5 / A 7 13 / J 7 5 80 / J 7 5 75".to_string(),
+            format!("0 / 0 / 0 / 0 / {to_38} / {to_38} / 12 / 11"),
+        ),
+        (
+            "#103 at 200, 2400 and 10000: $25 is between, and `C` resets",
+            4_096,
+            "M 4 / O 7 / C 7 2400 / H 7 200 10000 / J 7 5 50 / L 7 5 50 / A 7 5 / L 7 5 5 / L 7 5 200 / C 7 2400 / \
+             J 7 5 50 / J 7 6 5 / J 7 6 200"
+                .to_string(),
+            format!(
+                "0 / 0 / 0 / 0 / 12 / 12 / {} / 0 0 / 0 0 / 0 / 0 0 / 12 / 12",
+                both(by(5, 5, 25), &by(10, 100, 300))
+            ),
+        ),
+        (
+            "#103 at 2450, 2475 and 2500 in T6's and T7's class, $22 and $23 by the spacing",
+            4_096,
+            "M 4 / O 7 / C 7 2475 / D 7 1 1 / H 7 2450 2500 / A 7 13 / L 7 13 44 / L 7 13 46 / L 7 14 46 / L 7 14 44 / \
+             H 7 2450 2499 / J 7 15 46 / J 7 15 44"
+                .to_string(),
+            format!("0 / 0 / 0 / 0 / 0 / {t7} / 0 3 / 13 / 0 3 / 13 / 0 / 11 / 0 3"),
+        ),
+        (
+            "#103 at 200, 2450 and 4000: $27 has its position at the low and its range at the high, $13 the other way",
+            4_096,
+            "M 4 / O 7 / C 7 2450 / D 7 1 1 / H 7 200 4000 / A 7 13 / J 7 13 54 / L 7 13 64 / J 7 13 16 / L 7 13 26 / \
+             J 7 13 36 / L 7 13 44 / L 7 13 76"
+                .to_string(),
+            format!("0 / 0 / 0 / 0 / 0 / {wings} / 12 / 12 / 12 / 12 / 12 / 0 3 / 0 3"),
+        ),
+        (
+            "#103's refusals",
+            4_096,
+            "H 7 200 200 / O 7 / H 7 200 200 / H 7 300 100 / H 7 0 200 / C 7 200 / H 7 0 200 / H 7 200 0 / \
+             H 7 201 250 / H 7 150 199 / H 7 201 199 / H 7 150 1000000 / H 7 1 999999 / H 7 200 200 / H 7 150 / \
+             H 7 150 250 1 / H 0 200 200"
+                .to_string(),
+            "4 / 0 / 8 / 8 / 2 / 0 / 2 / 2 / 16 / 16 / 16 / 2 / 0 / 0 / 2 / 2 / 2".to_string(),
+        ),
+        (
+            "#103 and `D`, which asks the close",
+            4_096,
+            "O 7 / C 7 5000 / H 7 1 5000 / D 7 1 1 / C 7 4999 / H 7 4999 999999 / D 7 1 1 / V 7 1000 / C 7 501 / \
+             H 7 1 501 / D 7 2 1 / C 7 500 / H 7 500 999999 / D 7 2 1"
+                .to_string(),
+            "0 / 0 / 0 / 9 / 0 / 0 / 0 / 0 / 0 / 0 / 9 / 0 / 0 / 0".to_string(),
+        ),
+        (
+            "#103 and Dollar and Wing, which ask a close below 5,000",
+            4_096,
+            "M 4 / O 7 / C 7 4999 / D 7 1 1 / H 7 4900 9000 / A 7 5 / H 7 4400 5100 / J 7 13 94 / J 7 13 96 / \
+             J 7 13 104 / C 7 5000 / H 7 4900 9000 / J 7 5 52 / A 7 6 / H 7 4400 5100 / J 7 13 94 / J 7 13 96"
+                .to_string(),
+            format!(
+                "0 / 0 / 0 / 0 / 0 / {} / 0 / 0 3 / 0 3 / 11 / 0 / 0 / 11 / {} / 0 / 11 / 11",
+                both(by(2, 50, 100), &by(10, 110, 270)),
+                permitted(&by(10, 50, 270))
+            ),
+        ),
+        (
+            "#103 and Half, which asks a close of at most 500, and ground 4, which asks $10 from it",
+            4_096,
+            "M 4 / O 7 / C 7 500 / V 7 1000 / D 7 2 1 / H 7 100 3000 / A 7 5 / C 7 501 / H 7 100 3000 / J 7 5 1 / \
+             D 7 3 1 / C 7 4850 / H 7 4000 6000 / J 7 5 115 / J 7 5 125"
+                .to_string(),
+            format!(
+                "0 / 0 / 0 / 0 / 0 / 0 / {} / 0 / 0 / 11 / 0 / 0 / 0 / 0 4 / 11",
+                both(by(1, 1, 7), &[10, 15, 20, 25, 30, 35, 40, 45, 50, 60, 70, 80, 90])
+            ),
+        ),
+        (
+            "#103 and the review, which asks the close",
+            4_096,
+            format!("{reviewed} / H 7 700 1900 / R 7 / J 7 5 14 / L 7 5 16 / J 7 5 38 / L 7 5 40"),
+            format!("{stood} / 0 / 0 2 / 0 1 / 6 / 0 1 / 6"),
+        ),
+        (
+            "#103: a class takes five words",
+            11,
+            "O 7 / O 8 / O 9".to_string(),
+            "0 / 0 / 15".to_string(),
         ),
         (
             "malformed lines",

@@ -6,6 +6,7 @@
 mod examples;
 mod lists;
 mod pair;
+mod prices;
 mod program;
 mod proved;
 mod runs;

@@ -29,6 +29,11 @@ impl StrikeBook for Proved<'_> {
     }
 
     #[inline(always)]
+    fn set_low_high(&mut self, c: u32, low: u32, high: u32) -> Answer {
+        told(library::set_low_high(self.0, c, low, high))
+    }
+
+    #[inline(always)]
     fn set_volume(&mut self, c: u32, n: u32) -> Answer {
         told(library::set_volume(self.0, c, n))
     }

@@ -1,8 +1,9 @@
-//! Any words: damaged books, own classes about the caps, noise, and runs of lengths that no book has.
+//! Any words: damaged books, own classes about the caps, noise, runs of lengths that no book has, and #103's
+//! runs that are no book.
 
 use crate::pair::{fresh, make_on_any, same};
 use calls::draw::{self, Mix};
-use calls::words::head;
+use calls::words::{class_words, head, strike, Prices, EXPIRATION, LOW_HIGH};
 use calls::{books, runs, Call, Random, Tally, LETTERS};
 use second::PlainBook;
 use strikebook::library;
@@ -10,11 +11,11 @@ use strikebook::library;
 const RUNS: u64 = 25_000;
 
 const MIX: Mix = Mix {
-    weights: [1; 11],
+    weights: [1; LETTERS.len()],
     highest: 20,
 };
 
-/// Whether the run is a book, and each of the eleven calls and a malformed line on it.
+/// Whether the run is a book, and each of the twelve calls and a malformed line on it.
 fn all_calls(random: &mut Random, words: &[u32], tally: &mut Tally) -> Result<bool, String> {
     let is_book = PlainBook::read(words).is_some();
     same("whether it is a book", library::is_book(words), is_book)?;
@@ -55,8 +56,68 @@ fn lengths(random: &mut Random, tally: &mut Tally) -> Result<(), String> {
     Ok(())
 }
 
+/// A run of class 7, its prices and a strike, changed, under a head that counts its words.
+fn with_prices(close: u32, low: u32, high: u32, change: fn(&mut Vec<u32>)) -> Vec<u32> {
+    let mut run = vec![0];
+    run.extend(class_words(7, [0; 3], Prices { close, low, high }, 0));
+    run.extend([EXPIRATION | 5, strike(50, 0, 0, 0)]);
+    change(&mut run);
+    run[0] = head(4, run.len());
+    run
+}
+
+/// Closes, lows and highs of a class, and whether it stands in a book.
+const PRICES: [(bool, [u32; 3]); 12] = [
+    (true, [0, 0, 0]),
+    (true, [200, 200, 200]),
+    (true, [200, 150, 250]),
+    (true, [200, 1, 999_999]),
+    (false, [200, 201, 250]),
+    (false, [200, 150, 199]),
+    (false, [0, 150, 0]),
+    (false, [0, 0, 250]),
+    (false, [0, 150, 250]),
+    (false, [200, 0, 250]),
+    (false, [200, 0, 0]),
+    (false, [200, 150, 1_000_000]),
+];
+
+/// Changes of the class word, close, volume, low, high, expiration and strike at places 1 to 7.
+const CHANGES: [(&str, fn(&mut Vec<u32>)); 11] = [
+    ("low and high missing", |run| drop(run.drain(4..6))),
+    ("low missing", |run| drop(run.drain(4..5))),
+    ("high missing", |run| drop(run.drain(5..6))),
+    ("low twice", |run| run.insert(4, LOW_HIGH | 150)),
+    ("high twice", |run| run.insert(6, LOW_HIGH | 250)),
+    ("high first", |run| run.swap(4, 5)),
+    ("low before volume", |run| run.swap(3, 4)),
+    ("low before close", |run| run[2..5].rotate_right(1)),
+    ("high after expiration", |run| run.swap(5, 6)),
+    ("high after strike", |run| run[5..8].rotate_left(1)),
+    ("a bit above the high", |run| run[5] |= 1 << 20),
+];
+
+/// #103's runs that are no book, and those that are one.
+fn lows_and_highs(random: &mut Random, tally: &mut Tally) -> Result<(), String> {
+    for (is_book, [close, low, high]) in PRICES {
+        let run = with_prices(close, low, high, |_| ());
+        all_calls(random, &run, tally)
+            .and_then(|read| same("whether it is to be a book", read, is_book))
+            .map_err(|text| format!("close {close}, low {low}, high {high}, {text}"))?;
+    }
+    for (name, change) in CHANGES {
+        let run = with_prices(200, 150, 250, change);
+        all_calls(random, &run, tally)
+            .and_then(|read| same("whether it is to be a book", read, false))
+            .map_err(|text| format!("{name}, {text}"))?;
+    }
+    Ok(())
+}
+
 pub fn compare(tally: &mut Tally) -> Result<(), String> {
     lengths(&mut Random::new(0), tally).map_err(|text| format!("lengths, seed 0, {text}"))?;
+    lows_and_highs(&mut Random::new(0), tally)
+        .map_err(|text| format!("lows and highs, seed 0, {text}"))?;
     let mut books = 0;
     for seed in 0..RUNS {
         let mut random = Random::new(seed);

@@ -10,7 +10,7 @@ use strikebook::library;
 const SHEETS: u64 = 9_000;
 
 const MIX: Mix = Mix {
-    weights: [2, 8, 10, 5, 9, 40, 10, 6, 9, 3, 1],
+    weights: [2, 8, 10, 8, 5, 9, 40, 10, 6, 9, 3, 1],
     highest: 5,
 };
 

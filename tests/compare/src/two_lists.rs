@@ -4,9 +4,9 @@
 use crate::pair::{same, same_words};
 use crate::proved::told;
 use calls::draw::{self, Mix};
-use calls::words::{places, STRIKE};
-use calls::{records, Call, Random, StrikeBook};
-use second::{compare_lists, PlainBook};
+use calls::words::{kind, places, LOW_HIGH, STRIKE};
+use calls::{records, Answer, Call, Random, StrikeBook};
+use second::{compare_lists, parse_line, PlainBook};
 use strikebook::library;
 
 const PAIRS: u64 = 4_000;
@@ -15,7 +15,7 @@ const PAIRS: u64 = 4_000;
 const LEAST: u64 = 100;
 
 const MIX: Mix = Mix {
-    weights: [4, 16, 20, 10, 18, 80, 2, 10, 18, 6, 3],
+    weights: [4, 16, 20, 14, 10, 18, 80, 2, 10, 18, 6, 3],
     highest: 5,
 };
 
@@ -88,6 +88,32 @@ fn added_and_delisted(random: &mut Random, book: &PlainBook) -> Vec<Call> {
     }
 }
 
+/// A low and a high set, and set back: by the close where they were equal.
+fn set_and_set_back(random: &mut Random, book: &PlainBook) -> Vec<Call> {
+    match drawn(random, book, Some('H'), true) {
+        Some(Call::H { c, low, high }) => {
+            let class = &book.classes[&c];
+            let back = match class.low == class.high {
+                true => Call::C { c, p: class.close },
+                false => Call::of('H', &[c, class.low, class.high]),
+            };
+            vec![Call::H { c, low, high }, back]
+        }
+        _ => Vec::new(),
+    }
+}
+
+/// The list with a low and a high set after it, where they can be.
+fn then_low_high(random: &mut Random, length: usize, calls: &[Call]) -> Vec<Call> {
+    let mut book = fresh(length);
+    for call in calls {
+        book.make(call, &mut []);
+    }
+    let mut longer = calls.to_vec();
+    longer.extend(drawn(random, &book, Some('H'), true));
+    longer
+}
+
 /// The list with some neighbours exchanged that are calls on different classes.
 fn exchanged(random: &mut Random, mut calls: Vec<Call>) -> Vec<Call> {
     let class = |call: &Call| match call {
@@ -121,12 +147,14 @@ fn changed(random: &mut Random, mut calls: Vec<Call>) -> Vec<Call> {
 
 /// Another list than this one, which mostly leaves the same book or mostly not; or this one.
 fn other(random: &mut Random, length: usize, calls: &[Call]) -> Vec<Call> {
-    match random.below(8) {
+    match random.below(10) {
         0 => calls.to_vec(),
         1 => with(random, length, calls, refused),
         2..=3 => with(random, length, calls, added_and_delisted),
         4 => exchanged(random, calls.to_vec()),
         5..=6 => changed(random, calls.to_vec()),
+        7 => with(random, length, calls, set_and_set_back),
+        8 => then_low_high(random, length, calls),
         _ => list(random, length),
     }
 }
@@ -143,14 +171,75 @@ fn lengths(random: &mut Random) -> [usize; 2] {
 }
 
 /// How many pairs came out equal, unequal and refused; equal by different lists that leave strikes;
-/// and with words written to the pool.
+/// unequal in lows and highs alone; and with words written to the pool.
 #[derive(Default)]
 struct Pairs {
     equal: u64,
     unequal: u64,
     refused: u64,
     by_other_lists: u64,
+    by_low_high: u64,
     pools: u64,
+}
+
+/// The words without what they say of lows and highs.
+fn without_low_high(run: &[u32]) -> Vec<u32> {
+    let without = |word: &u32| match kind(*word) {
+        LOW_HIGH => LOW_HIGH,
+        _ => *word,
+    };
+    run.iter().map(without).collect()
+}
+
+/// The runs and the pool that two lists are lent.
+struct Lent {
+    left: Vec<u32>,
+    right: Vec<u32>,
+    pool: Vec<u32>,
+}
+
+/// Compares two lists on both sides: the answer and every word.
+fn compared(lent: &mut Lent, calls: &[u32], others: &[u32]) -> Result<Answer, String> {
+    let Lent { left, right, pool } = lent;
+    let mut wanted = [&left, &right, &pool].map(|run| run.to_vec());
+    let [wanted_left, wanted_right, wanted_pool] = &mut wanted;
+    let expected = compare_lists(wanted_left, wanted_right, wanted_pool, calls, others);
+    let answer = told(library::compare_lists(left, right, pool, calls, others));
+    same("the answer", answer, expected)?;
+    same_words("the left run", left, wanted_left)?;
+    same_words("the right run", right, wanted_right)?;
+    same_words("the pool", pool, wanted_pool)?;
+    Ok(answer)
+}
+
+/// #103's lists: two that differ in one `H` leave different books, and with a `C` after it equal ones.
+fn lists_that_differ_in_one_h() -> Result<(), String> {
+    let mut random = Random::new(0);
+    let list = "M 4 / O 7 / C 7 2400 / L 7 5 50";
+    let examples = [
+        ("H 7 2399 2400", 0),
+        ("H 7 2400 2401", 0),
+        ("H 7 200 10000", 0),
+        ("H 7 200 10000 / C 7 2400", 1),
+        ("H 7 200 10000 / H 7 2400 2400", 1),
+        ("H 7 2401 10000 / H 7 200 2399 / H 8 2400 2400", 1),
+    ];
+    for (more, value) in examples {
+        let [calls, others] = [list.to_string(), format!("{list} / {more}")].map(|list| {
+            let calls: Vec<Call> = list
+                .split(" / ")
+                .map(|line| parse_line(line.as_bytes()))
+                .collect();
+            records::written(&mut random, &calls)
+        });
+        let [left, right, pool] = [64, 64, 0].map(|length| random.words(length));
+        let mut lent = Lent { left, right, pool };
+        let number = 0;
+        compared(&mut lent, &calls, &others)
+            .and_then(|answer| same("the answer", answer, Answer { number, value }))
+            .map_err(|text| format!("`{more}` at the end of one list: {text}"))?;
+    }
+    Ok(())
 }
 
 fn one(seed: u64, pairs: &mut Pairs) -> Result<(), String> {
@@ -164,37 +253,29 @@ fn one(seed: u64, pairs: &mut Pairs) -> Result<(), String> {
     let others = records::written(&mut random, &others);
 
     let room = random.pick(&[0, 5, 30, 512]);
-    let [mut left, mut right, mut pool] = [left, right, room].map(|count| random.words(count));
-    let (mut wanted_left, mut wanted_right) = (left.clone(), right.clone());
-    let lent = pool.clone();
-    let mut wanted_pool = pool.clone();
-    let wanted = compare_lists(
-        &mut wanted_left,
-        &mut wanted_right,
-        &mut wanted_pool,
-        &calls,
-        &others,
-    );
-    let reply = library::compare_lists(&mut left, &mut right, &mut pool, &calls, &others);
-    let answer = told(reply);
-    same("the answer", answer, wanted)?;
-    same_words("the left run", &left, &wanted_left)?;
-    same_words("the right run", &right, &wanted_right)?;
-    same_words("the pool", &pool, &wanted_pool)?;
-    pairs.pools += u64::from(pool != lent);
+    let [left, right, pool] = [left, right, room].map(|count| random.words(count));
+    let before = pool.clone();
+    let mut lent = Lent { left, right, pool };
+    let answer = compared(&mut lent, &calls, &others)?;
+    pairs.pools += u64::from(lent.pool != before);
     match (answer.number, answer.value) {
         (0, 1) => {
             pairs.equal += 1;
-            let has_strikes = !places(&left, STRIKE).is_empty();
+            let has_strikes = !places(&lent.left, STRIKE).is_empty();
             pairs.by_other_lists += u64::from(differ && has_strikes);
         }
-        (0, _) => pairs.unequal += 1,
+        (0, _) => {
+            pairs.unequal += 1;
+            let [left, right] = [&lent.left, &lent.right].map(|run| without_low_high(run));
+            pairs.by_low_high += u64::from(left == right);
+        }
         _ => pairs.refused += 1,
     }
     Ok(())
 }
 
 pub fn compare() -> Result<(), String> {
+    lists_that_differ_in_one_h()?;
     let mut pairs = Pairs::default();
     for seed in 0..PAIRS {
         one(seed, &mut pairs).map_err(|text| format!("two lists, seed {seed}, {text}"))?;
@@ -204,11 +285,13 @@ pub fn compare() -> Result<(), String> {
         unequal,
         refused,
         by_other_lists,
+        by_low_high,
         pools,
     } = pairs;
     println!("two lists: {equal} pairs equal, {unequal} unequal, {refused} refused");
     println!("  {by_other_lists} equal by different lists that leave strikes, {pools} with a pool written");
-    let rarest = [equal, unequal, refused, by_other_lists, pools]
+    println!("  {by_low_high} unequal in lows and highs alone");
+    let rarest = [equal, unequal, refused, by_other_lists, by_low_high, pools]
         .into_iter()
         .min();
     match rarest {

@@ -1,7 +1,9 @@
 //! Whether a run is a book: one pass, 64 words at a time.
 
 use crate::program::PROGRAMS;
-use crate::word::{head, strike, CLOSE, EXPIRATION, KEY, STRIKE, UNMARKED, VOLUME};
+use crate::word::{
+    head, strike, CLASS_WORDS, CLOSE, EXPIRATION, KEY, LOW_HIGH, STRIKE, UNMARKED, VOLUME,
+};
 
 /// Makes a fresh book of the run, whatever it held; false, and nothing changed, where its length is bad.
 pub fn fresh(run: &mut [u32]) -> bool {
@@ -23,10 +25,23 @@ fn is_next_strike(before: u32, w: u32) -> bool {
     ((w & UNMARKED) as i32 <= last) & ((w & KEY) as i32 > (before & KEY) as i32)
 }
 
-/// False for a strike above 19,999.
+/// False for a strike above 19,999. It is asked of the word before an expiration, the first of a class
+/// excepted.
 #[inline(always)]
 fn is_strike_low(w: u32) -> bool {
     w & KEY <= STRIKE + 19_999
+}
+
+/// The same of the word before a class, and of the last one: either may be a high.
+#[inline(always)]
+fn is_end_low(w: u32) -> bool {
+    (w & KEY).wrapping_sub(STRIKE + 20_000) > 0x7fff - 20_000
+}
+
+/// Whether a class may have these: all 0, or the close between the low, which is at least 1, and the high.
+#[inline(always)]
+fn are_prices(low: u32, close: u32, high: u32) -> bool {
+    (low <= close) & (close <= high) & (high <= 999_999) & ((low != 0) | (high == 0))
 }
 
 /// One bit for each word, from the lowest, that is no next strike.
@@ -54,23 +69,21 @@ struct Passed {
 }
 
 impl Passed {
-    /// An expiration between two words.
+    /// An expiration, and the word after it.
     #[inline(always)]
-    fn expiration(&mut self, before: u32, w: u32, after: u32) -> bool {
+    fn expiration(&mut self, w: u32, after: u32) -> bool {
         let month = w - EXPIRATION;
-        let good = (month >= self.least_month)
-            & (month <= self.latest)
-            & (after & KEY > STRIKE)
-            & is_strike_low(before);
+        let good = (month >= self.least_month) & (month <= self.latest) & (after & KEY > STRIKE);
         self.least_month = month + 1;
         good
     }
 
-    /// The three words of a class, at `at`, and its first expiration where one follows. Answers how many
-    /// words these are; none where they are no class's.
+    /// The words of a class, at `at`, and its first expiration where one follows. Answers how many words
+    /// these are; none where they are no class's.
     #[inline(always)]
     fn class(&mut self, words: &[u32], at: usize) -> Option<usize> {
-        let &[before, w, close, volume] = words.get(at - 1..at + 3)? else {
+        let end = at + CLASS_WORDS;
+        let &[before, w, close, volume, low, high] = words.get(at - 1..end)? else {
             return None;
         };
         let class = w & 16_383;
@@ -83,19 +96,24 @@ impl Passed {
         let good = (w >> 20 == 2 << 8)
             & (class > self.class)
             & designated
-            & (close.wrapping_sub(CLOSE) <= 999_999)
+            & are_prices(
+                low.wrapping_sub(LOW_HIGH),
+                close.wrapping_sub(CLOSE),
+                high.wrapping_sub(LOW_HIGH),
+            )
             & (volume.wrapping_sub(VOLUME) <= 9_999_999)
-            & is_strike_low(before);
+            & is_end_low(before);
         if !good {
             return None;
         }
         self.class = class;
         self.least_month = self.now;
-        match words.get(at + 3).map(|next| next >> 28) {
-            None | Some(2) => Some(3),
+        match words.get(end).map(|next| next >> 28) {
+            None | Some(2) => Some(CLASS_WORDS),
             Some(5) => {
-                let after = *words.get(at + 4)?;
-                self.expiration(volume, words[at + 3], after).then_some(4)
+                let after = *words.get(end + 1)?;
+                let good = self.expiration(words[end], after);
+                good.then_some(CLASS_WORDS + 1)
             }
             Some(_) => None,
         }
@@ -161,7 +179,7 @@ fn are_words(words: &[u32]) -> bool {
             let i = (bits.trailing_zeros() & 63) as usize;
             let w = part[i + 1];
             if w >> 28 == 5 {
-                if !passed.expiration(part[i], w, part[i + 2]) {
+                if !(is_strike_low(part[i]) & passed.expiration(w, part[i + 2])) {
                     return false;
                 }
                 bits &= bits - 1;
@@ -184,7 +202,7 @@ fn are_words(words: &[u32]) -> bool {
             let Some(&after) = words.get(at + 1) else {
                 return false;
             };
-            if !passed.expiration(before, w, after) {
+            if !(is_strike_low(before) & passed.expiration(w, after)) {
                 return false;
             }
             at += 1;
@@ -195,5 +213,5 @@ fn are_words(words: &[u32]) -> bool {
             at += count;
         }
     }
-    is_strike_low(words[words.len() - 1]) && passed.caps_hold()
+    is_end_low(words[words.len() - 1]) && passed.caps_hold()
 }

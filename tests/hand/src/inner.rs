@@ -1,12 +1,11 @@
-//! The eleven calls over a run that is known to be a book.
+//! The twelve calls over a run that is known to be a book.
 
 use crate::find::{class_or_close, class_place, expiration_from, strike_from};
 use crate::permitted;
 use crate::program::{Program, DOLLAR, HALF, TWO_FIFTY};
 use crate::rule::Terms;
-use crate::word::{
-    head, now, strike, used, CLASS, CLOSE, EXPIRATION, KEY, MARKS, STRIKE, UNMARKED, VOLUME,
-};
+use crate::word::{head, now, strike, used, CLASS, CLASS_WORDS, CLOSE, EXPIRATION, KEY};
+use crate::word::{LOW_HIGH, MARKS, STRIKE, UNMARKED, VOLUME};
 use crate::Answer;
 
 const DONE: Answer = Answer::accepted(0);
@@ -19,6 +18,11 @@ fn is_class(c: u32) -> bool {
 #[inline(always)]
 fn is_month(m: u32) -> bool {
     m <= 1_023
+}
+
+#[inline(always)]
+fn is_price(p: u32) -> bool {
+    p.wrapping_sub(1) < 999_999
 }
 
 #[inline(always)]
@@ -37,7 +41,7 @@ fn class_at(run: &[u32], c: u32) -> Option<usize> {
 /// Where a strike of an open class stands, or would be put; and whether its expiration stands.
 #[inline(always)]
 fn strike_at(run: &[u32], class: usize, m: u32, h: u32) -> (usize, bool) {
-    let place = expiration_from(run, class + 3, m);
+    let place = expiration_from(run, class + CLASS_WORDS, m);
     if place < run.len() && run[place] == EXPIRATION | m {
         (strike_from(run, place + 1, h), true)
     } else {
@@ -67,7 +71,7 @@ pub fn set_month(run: &mut [u32], m: u32) -> Answer {
     let end = used(run);
     let (mut written, mut kept, mut at) = (1, 1, 1);
     while at < end {
-        let first = at + 3;
+        let first = at + CLASS_WORDS;
         let stays = if word(run, first).wrapping_sub(EXPIRATION) < m {
             let stays = expiration_from(run, first, m);
             if written != kept {
@@ -100,24 +104,49 @@ pub fn open_class(run: &mut [u32], c: u32) -> Answer {
     if place < end && run[place] & 16_383 == c {
         return Answer::refused(3);
     }
-    if end + 3 > run.len() {
+    if end + CLASS_WORDS > run.len() {
         return Answer::refused(15);
     }
-    run.copy_within(place..end, place + 3);
-    run[place..place + 3].copy_from_slice(&[CLASS | c, CLOSE, VOLUME]);
-    run[0] += 3 << 10;
+    let after = place + CLASS_WORDS;
+    run.copy_within(place..end, after);
+    run[place..after].copy_from_slice(&[CLASS | c, CLOSE, VOLUME, LOW_HIGH, LOW_HIGH]);
+    run[0] += (CLASS_WORDS as u32) << 10;
     DONE
 }
 
 /// `C c P`
 pub fn set_close(run: &mut [u32], c: u32, p: u32) -> Answer {
-    if !(is_class(c) & (p.wrapping_sub(1) < 999_999)) {
+    if !(is_class(c) & is_price(p)) {
         return Answer::refused(2);
     }
     let Some(at) = class_at(run, c) else {
         return Answer::refused(4);
     };
-    run[at + 1] = CLOSE | p;
+    let class = &mut run[at..at + CLASS_WORDS];
+    class[1] = CLOSE | p;
+    class[3] = LOW_HIGH | p;
+    class[4] = LOW_HIGH | p;
+    DONE
+}
+
+/// `H c low high`
+pub fn set_low_high(run: &mut [u32], c: u32, low: u32, high: u32) -> Answer {
+    if !(is_class(c) & is_price(low) & is_price(high)) {
+        return Answer::refused(2);
+    }
+    let Some(at) = class_at(run, c) else {
+        return Answer::refused(4);
+    };
+    let class = &mut run[at..at + CLASS_WORDS];
+    let close = class[1] - CLOSE;
+    if close == 0 {
+        return Answer::refused(8);
+    }
+    if (low > close) | (high < close) {
+        return Answer::refused(16);
+    }
+    class[3] = LOW_HIGH | low;
+    class[4] = LOW_HIGH | high;
     DONE
 }
 
@@ -195,13 +224,27 @@ fn judged(run: &[u32], c: u32, m: u32, h: u32) -> (Answer, usize, bool) {
     if above & KEY == STRIKE | h {
         return refused(6);
     }
-    if run[at + 1] == CLOSE {
+    let class = class_words(run, at);
+    if class[1] == CLOSE {
         return refused(8);
     }
-    let terms = Terms::of(run[at], run[at + 1], run[at + 2], ahead < 9);
     // The word before a new expiration may be a strike of the one before it.
     let below = if stands { run[place - 1] } else { 0 };
-    (terms.judge(h, below, above), place, stands)
+    let answer = match low_and_high(class) {
+        [low, high] if low == high => Terms::of(class, [low], ahead < 9).judge(h, below, above),
+        both => Terms::of(class, both, ahead < 9).judge(h, below, above),
+    };
+    (answer, place, stands)
+}
+
+#[inline(always)]
+fn class_words(run: &[u32], at: usize) -> &[u32; CLASS_WORDS] {
+    run[at..at + CLASS_WORDS].try_into().unwrap()
+}
+
+#[inline(always)]
+fn low_and_high(class: &[u32; CLASS_WORDS]) -> [u32; 2] {
+    [class[3] - LOW_HIGH, class[4] - LOW_HIGH]
 }
 
 /// `L c m h`
@@ -309,7 +352,7 @@ pub fn review_class(run: &mut [u32], c: u32) -> Answer {
         let h = (w & 0x7fff) as i32;
         (w & (1 << 15 | MARKS) == 1 << 15) & ((h < low) | (h > high))
     };
-    let from = at + 3;
+    let from = at + CLASS_WORDS;
     let to = class_or_close(run, from);
     let class = &mut run[from..to];
     if !class.iter().fold(false, |any, &w| any | may_go(w)) {
@@ -365,15 +408,24 @@ pub fn list_permitted(run: &[u32], second: &mut [u32], c: u32, m: u32) -> Answer
     if ahead.wrapping_sub(1) >= 39 {
         return Answer::refused(5);
     }
-    if run[at + 1] == CLOSE {
+    let class = class_words(run, at);
+    if class[1] == CLOSE {
         return Answer::refused(8);
     }
-    let terms = Terms::of(run[at], run[at + 1], run[at + 2], ahead < 9);
-    let place = expiration_from(run, at + 3, m);
+    let place = expiration_from(run, at + CLASS_WORDS, m);
     let standing = if word(run, place) == EXPIRATION | m {
         &run[place + 1..strike_from(run, place + 1, 0x7fff)]
     } else {
         &[]
     };
-    permitted::list(&terms, standing, second)
+    match low_and_high(class) {
+        [low, high] if low == high => {
+            let terms = Terms::of(class, [low], ahead < 9);
+            permitted::list(&terms, standing, second)
+        }
+        both => {
+            let terms = Terms::of(class, both, ahead < 9);
+            permitted::list(&terms, standing, second)
+        }
+    }
 }

@@ -63,6 +63,14 @@ pub fn set_close(run: &mut [u32], c: u32, p: u32) -> Answer {
     inner::set_close(run, c, p)
 }
 
+/// `H c low high`
+pub fn set_low_high(run: &mut [u32], c: u32, low: u32, high: u32) -> Answer {
+    if !is_book(run) {
+        return NO_BOOK;
+    }
+    inner::set_low_high(run, c, low, high)
+}
+
 /// `V c n`
 pub fn set_volume(run: &mut [u32], c: u32, n: u32) -> Answer {
     if !is_book(run) {

@@ -12,22 +12,25 @@ const PIECE: usize = 1 << 16;
 /// a space or the line end.
 const LONGEST: usize = 4_096;
 
-/// The lines of the answers without strikes: 0 to 15, and from 16 on the grounds. Each is its bytes, and how many.
-const LINES: [([u8; 4], usize); 21] = {
-    let mut lines = [([b'\n'; 4], 0); 21];
+/// The lines of the answers without strikes: 0 to 16, and then the grounds. Each is its bytes, and how many.
+const LINES: [([u8; 4], usize); GROUND_0 + 5] = {
+    let mut lines = [([b'\n'; 4], 0); GROUND_0 + 5];
     let mut i = 0;
     while i < lines.len() {
         lines[i] = if i < 10 {
             ([b'0' + i as u8, b'\n', 0, 0], 2)
-        } else if i < 16 {
+        } else if i < GROUND_0 {
             ([b'1', b'0' + (i - 10) as u8, b'\n', 0], 3)
         } else {
-            ([b'0', b' ', b'0' + (i - 16) as u8, b'\n'], 4)
+            ([b'0', b' ', b'0' + (i - GROUND_0) as u8, b'\n'], 4)
         };
         i += 1;
     }
     lines
 };
+
+/// The place of the line of ground 0 in them.
+const GROUND_0: usize = 17;
 
 /// A space and a number below 1,000, by number.
 const SHORT: [[u8; 4]; 1_000] = {
@@ -100,8 +103,12 @@ impl Printer {
             self.put([b'\n'; 4], 1);
         } else {
             let ground = number == 0 && (letter == b'L' || letter == b'J');
-            let line = if ground { 16 + value } else { number };
-            let (text, count) = LINES[line as usize % LINES.len()];
+            let (first, place) = if ground {
+                (GROUND_0, value)
+            } else {
+                (0, number)
+            };
+            let (text, count) = LINES[(first + place as usize) % LINES.len()];
             self.put(text, count);
         }
     }

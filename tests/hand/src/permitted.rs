@@ -1,8 +1,8 @@
 //! All permitted strikes of an expiration, for `A`: 128 of them as a set of bits, the others, which are
 //! higher, as stretches of the ladder between standing strikes. The set has those below $64; where the
-//! $2.50 program adds strikes beyond, it starts at the range.
+//! $2.50 program adds strikes beyond, it starts at the range, or there are two sets.
 
-use crate::rule::Terms;
+use crate::rule::{Range, Terms};
 use crate::word::{strike, AS_STANDARD, UNMARKED};
 use crate::Answer;
 
@@ -75,9 +75,19 @@ impl Standing {
     }
 }
 
+/// The strikes in range on grounds 0, 1 and 4.
+#[inline(always)]
+fn in_range<const PRICES: usize>(start: u32, terms: &Terms<PRICES>) -> u128 {
+    let strikes = |range: &Range| between(start, range.from, range.to);
+    terms
+        .ranges
+        .iter()
+        .fold(0, |all, range| all | strikes(range))
+}
+
 /// The strikes that ground 4 adds to Standard's.
 #[inline(always)]
-fn added(start: u32, terms: &Terms) -> u128 {
+fn added<const PRICES: usize>(start: u32, terms: &Terms<PRICES>) -> u128 {
     let is_in = |(from, to)| between(start, from, to);
     match terms.two_fifty_spans() {
         Some([below, about]) => ODD & (is_in(below) | is_in(about)),
@@ -85,13 +95,28 @@ fn added(start: u32, terms: &Terms) -> u128 {
     }
 }
 
+/// The wings of a $1 class at a price, in range.
+#[inline(always)]
+fn wings(range: &Range) -> u128 {
+    // The L that are in range with their L + $5.
+    let last = 90.min(range.to.saturating_sub(10));
+    let lower = TENS & between(0, range.from.max(10), last);
+    let from = ((range.price + 49) / 50).saturating_sub(10);
+    let rising = lower & between(0, from, 90);
+    let falling = match (range.price / 50).checked_sub(10) {
+        Some(to) => lower & between(0, 0, to),
+        None => 0,
+    };
+    rising << 4 | falling << 6
+}
+
 /// The permitted strikes below $64.
 #[inline(always)]
-fn low(terms: &Terms, standing: &[u32]) -> u128 {
-    let range = between(0, terms.low, terms.high);
+fn low<const PRICES: usize>(terms: &Terms<PRICES>, standing: &[u32]) -> u128 {
+    let range = in_range(0, terms);
     if terms.near {
         let half = if terms.half_program {
-            between(0, 1, terms.half_high())
+            between(0, 1, terms.half_highest())
         } else {
             0
         };
@@ -117,92 +142,111 @@ fn low(terms: &Terms, standing: &[u32]) -> u128 {
     } else {
         let Standing { all, .. } = Standing::of(0, standing);
         let mut grids = if terms.dollar { TENS } else { LADDER } & range;
-        if terms.dollar_program && terms.high >= 10 {
-            // The L that are in range with their L + $5.
-            let lower = TENS & range & between(0, 10, 90.min(terms.high - 10));
-            let from = ((terms.close + 49) / 50).saturating_sub(10);
-            let rising = lower & between(0, from, 90);
-            let falling = match (terms.close / 50).checked_sub(10) {
-                Some(to) => lower & between(0, 0, to),
-                None => 0,
-            };
-            grids |= rising << 4 | falling << 6;
+        if terms.dollar_program {
+            grids |= terms.ranges.iter().fold(0, |all, range| all | wings(range));
         }
         let near = all | beside(all) | all << 2 | all >> 2;
         grids & !near
     }
 }
 
-/// The start of the set where ground 4 may add strikes from $64 up. From half the close to $10 above it, or
-/// to $100, there are fewer strikes than a set has: so all that ground 4 adds in range are in it.
+/// The last strike that ground 4 adds, where it is at $64 or above: the close is then at least $54.
 #[inline(always)]
-fn start_about_close(terms: &Terms) -> Option<u32> {
+fn last_added<const PRICES: usize>(terms: &Terms<PRICES>) -> Option<u32> {
     let [_, (from, to)] = terms.two_fifty_spans()?;
-    (from <= to && to >= SIZE).then_some(terms.low / 10 * 10)
+    (from <= to && to >= SIZE).then_some(to)
 }
 
-/// The permitted strikes from that start on. The close is at least $54: Standard has the multiples of $5,
-/// and Dollar and Half have none.
+/// The permitted strikes from a start on, at $25 or above, where the close is at least $54: Standard has
+/// the multiples of $5, and Dollar and Half have none.
 #[inline(always)]
-fn about_close(start: u32, terms: &Terms, standing: &[u32]) -> u128 {
+fn about_close<const PRICES: usize>(start: u32, terms: &Terms<PRICES>, standing: &[u32]) -> u128 {
     let Standing { all, dollar, .. } = Standing::of(start, standing);
     let grids = TENS | added(start, terms) & !beside(dollar);
-    grids & between(start, terms.low, terms.high) & !all
+    grids & in_range(start, terms) & !all
 }
 
-/// Hands on the permitted strikes from `end` up, the end of the set, as stretches: the first strike, the
+/// Hands on the permitted strikes from `end` up, the end of the sets, as stretches: the first strike, the
 /// step and the count. Here only the ladder is left, by $5 to $200 and by $10 above.
 #[inline(always)]
-fn high(end: u32, terms: &Terms, standing: &[u32], mut each: impl FnMut(u32, u32, u32)) {
+fn high<const PRICES: usize>(
+    end: u32,
+    terms: &Terms<PRICES>,
+    standing: &[u32],
+    mut each: impl FnMut(u32, u32, u32),
+) {
     let reach = if terms.near { 0 } else { 2 };
     let mut at = 0;
-    for (from, to, step) in [(end, 400, 10), (401, 19_999, 20)] {
-        let mut next = from.max(terms.low).next_multiple_of(step);
-        let last = to.min(terms.high) / step * step;
-        while next <= last {
-            // The first standing strike that bars one of the others.
-            let barred = loop {
-                let Some(w) = standing.get(at) else {
-                    break last + step;
+    // All below it have been handed on.
+    let mut open = end;
+    for range in &terms.ranges {
+        open = open.max(range.from);
+        for (from, to, step) in [(0, 400, 10), (401, 19_999, 20)] {
+            let mut next = open.max(from).next_multiple_of(step);
+            let last = to.min(range.to) / step * step;
+            while next <= last {
+                // The first standing strike that bars one of the others.
+                let barred = loop {
+                    let Some(w) = standing.get(at) else {
+                        break last + step;
+                    };
+                    let h = w & 0x7fff;
+                    let near = (h + reach) / step * step;
+                    if near >= next && h.abs_diff(near) <= reach {
+                        break near.min(last + step);
+                    }
+                    if h > last {
+                        break last + step;
+                    }
+                    at += 1;
                 };
-                let h = w & 0x7fff;
-                let near = (h + reach) / step * step;
-                if near >= next && h.abs_diff(near) <= reach {
-                    break near.min(last + step);
+                if barred > next {
+                    each(next, step, (barred - next) / step);
                 }
-                if h > last {
-                    break last + step;
-                }
-                at += 1;
-            };
-            if barred > next {
-                each(next, step, (barred - next) / step);
+                next = barred + step;
             }
-            next = barred + step;
         }
+        open = open.max(range.to + 1);
     }
 }
 
 /// Writes the permitted strikes beside the standing ones.
-pub fn list(terms: &Terms, standing: &[u32], second: &mut [u32]) -> Answer {
-    match start_about_close(terms) {
-        Some(start) => {
-            let set = about_close(start, terms, standing);
-            write(start, set, terms, standing, second)
-        }
-        None => write(0, low(terms, standing), terms, standing, second),
+pub fn list<const PRICES: usize>(
+    terms: &Terms<PRICES>,
+    standing: &[u32],
+    second: &mut [u32],
+) -> Answer {
+    let Some(last) = last_added(terms) else {
+        let set = (0, low(terms, standing));
+        return write([set], terms, standing, second);
+    };
+    // From half the close to $10 above it, or to $100, there are fewer strikes than a set has. From half a
+    // low there may be more.
+    let start = terms.ranges[0].from / 10 * 10;
+    if start >= 50 && last < start + SIZE {
+        let set = (start, about_close(start, terms, standing));
+        return write([set], terms, standing, second);
     }
+    let first = (0, low(terms, standing) & between(0, 0, 119));
+    let next = (120, about_close(120, terms, standing));
+    write([first, next], terms, standing, second)
 }
 
-/// Writes the permitted strikes: those of a set, and all higher ones.
+/// Writes the permitted strikes: those of the sets, and all higher ones.
 #[inline(always)]
-fn write(start: u32, set: u128, terms: &Terms, standing: &[u32], second: &mut [u32]) -> Answer {
-    let end = start + SIZE;
-    let has_high = terms.high >= end;
-    let mut count = set.count_ones();
+fn write<const SETS: usize, const PRICES: usize>(
+    sets: [(u32, u128); SETS],
+    terms: &Terms<PRICES>,
+    standing: &[u32],
+    second: &mut [u32],
+) -> Answer {
+    let end = sets[SETS - 1].0 + SIZE;
+    let highest = terms.highest();
+    let has_high = highest >= end;
+    let mut count = sets.iter().map(|(_, set)| set.count_ones()).sum();
     if has_high {
         // At most the strikes of the ladder; they are counted only if need be.
-        let most = (terms.high.min(19_999) - terms.low.max(end)) / 10 + 1;
+        let most = (highest.min(19_999) - terms.ranges[0].from.max(end)) / 10 + 1;
         if (count + most) as usize > second.len() {
             high(end, terms, standing, |_, _, n| count += n);
         }
@@ -214,11 +258,13 @@ fn write(start: u32, set: u128, terms: &Terms, standing: &[u32], second: &mut [u
         };
     }
     let mut at = 0;
-    for (first, mut bits) in [(start, set as u64), (start + 64, (set >> 64) as u64)] {
-        while bits != 0 {
-            second[at] = first + bits.trailing_zeros();
-            at += 1;
-            bits &= bits - 1;
+    for (start, set) in sets {
+        for (first, mut bits) in [(start, set as u64), (start + 64, (set >> 64) as u64)] {
+            while bits != 0 {
+                second[at] = first + bits.trailing_zeros();
+                at += 1;
+                bits &= bits - 1;
+            }
         }
     }
     if has_high {

@@ -1,12 +1,48 @@
 //! Grids, range and spacing.
 
 use crate::program::{DOLLAR, HALF, TWO_FIFTY};
-use crate::word::{strike, AS_STANDARD, KEY, STRIKE, UNMARKED};
+use crate::word::{strike, AS_STANDARD, CLASS_WORDS, KEY, STRIKE, UNMARKED};
 use crate::Answer;
 
-/// What the rules read of a class and an expiration.
-pub struct Terms {
-    pub close: u32,
+/// The strikes in range at a price: the lowest and the highest on grounds 0, 1 and 4, and the ends of the
+/// range for a wing's two multiples of $5. In a near expiration the fifth strike above the price is at most
+/// $25 or at most twice the price, so that ground 4 gains nothing from it.
+pub struct Range {
+    pub price: u32,
+    pub from: u32,
+    pub to: u32,
+}
+
+impl Range {
+    #[inline(always)]
+    fn at(price: u32, near: bool, dollar: bool) -> Range {
+        let (from, to) = if price > 2_000 {
+            ((price + 99) / 100, 3 * price / 100)
+        } else {
+            (1, (price / 25).max(fifth_above(price / 50, near, dollar)))
+        };
+        Range { price, from, to }
+    }
+
+    #[inline(always)]
+    fn has(&self, h: u32) -> bool {
+        (self.from <= h) & (h <= self.to)
+    }
+
+    /// The highest strike in range on ground 2, whose grid ends at $5.50; 0 where none is.
+    #[inline(always)]
+    fn half_to(&self) -> u32 {
+        if self.price > 2_000 {
+            return 0;
+        }
+        (self.price / 25).max(self.price / 50 + 5).min(11)
+    }
+}
+
+/// What the rules read of a class and an expiration, with the ranges at the low and at the high, or at the
+/// one price that both are.
+pub struct Terms<const PRICES: usize> {
+    close: u32,
     pub near: bool,
     /// A $1 class.
     pub dollar: bool,
@@ -16,27 +52,20 @@ pub struct Terms {
     pub half_program: bool,
     /// Ground 4 may be had: near, a class of the $2.50 program.
     two_fifty_program: bool,
-    /// The lowest and the highest strike in range on grounds 0, 1 and 4, and the ends of the range for
-    /// a wing's two multiples of $5. In a near expiration the fifth strike above the close is at most $25
-    /// or at most twice the close, so that ground 4 gains nothing from it.
-    pub low: u32,
-    pub high: u32,
+    /// The one at the high begins where the one at the low does, or above.
+    pub ranges: [Range; PRICES],
 }
 
-impl Terms {
-    /// `class`, `close` and `volume` are the three words of a class that has a close.
+impl<const PRICES: usize> Terms<PRICES> {
+    /// `class` are the words of a class that has a close.
     #[inline(always)]
-    pub fn of(class: u32, close: u32, volume: u32, near: bool) -> Terms {
+    pub fn of(class: &[u32; CLASS_WORDS], prices: [u32; PRICES], near: bool) -> Terms<PRICES> {
+        let &[class, close, volume, ..] = class;
         let close = close & 0x000f_ffff;
         let volume = volume & 0x00ff_ffff;
         let dollar = DOLLAR.designation(class) != 0;
         let half = HALF.designation(class) != 0;
         let two_fifty = TWO_FIFTY.designation(class) != 0;
-        let (low, high) = if close > 2_000 {
-            ((close + 99) / 100, 3 * close / 100)
-        } else {
-            (1, (close / 25).max(fifth_above(close / 50, near, dollar)))
-        };
         Terms {
             close,
             near,
@@ -44,15 +73,32 @@ impl Terms {
             dollar_program: dollar & DOLLAR.qualifies(close, volume),
             half_program: near & half & HALF.qualifies(close, volume),
             two_fifty_program: near & two_fifty,
-            low,
-            high,
+            ranges: prices.map(|price| Range::at(price, near, dollar)),
         }
     }
 
-    /// The highest strike in range on ground 2, whose grid ends at $5.50.
+    /// Whether it holds at the low or at the high.
     #[inline(always)]
-    pub fn half_high(&self) -> u32 {
-        (self.close / 25).max(self.close / 50 + 5).min(11)
+    fn any(&self, holds: impl Fn(&Range) -> bool) -> bool {
+        self.ranges
+            .iter()
+            .fold(false, |any, range| any | holds(range))
+    }
+
+    /// The highest strike in range at the low or at the high.
+    #[inline(always)]
+    pub fn highest(&self) -> u32 {
+        self.ranges
+            .iter()
+            .fold(0, |highest, range| highest.max(range.to))
+    }
+
+    /// The same on ground 2.
+    #[inline(always)]
+    pub fn half_highest(&self) -> u32 {
+        self.ranges
+            .iter()
+            .fold(0, |highest, range| highest.max(range.half_to()))
     }
 
     /// From where to where ground 4, where it may be had, has the odd multiples of $2.50: above $25 and
@@ -85,7 +131,7 @@ impl Terms {
     #[inline(always)]
     pub fn judge(&self, h: u32, below: u32, above: u32) -> Answer {
         let rest = h % 10;
-        let in_range = (self.low <= h) & (h <= self.high);
+        let in_range = self.any(|range| range.has(h));
         let standard = if h > 400 {
             (rest == 0) & (h & 3 == 0)
         } else {
@@ -112,7 +158,7 @@ impl Terms {
                 }
             }
             let half = self.half_program & (h <= 11);
-            if half & (h <= self.half_high()) {
+            if half & (h <= self.half_highest()) {
                 return Answer::accepted(2);
             }
             // Standard, ground 4 and Dollar have the same range; Half has no spacing.
@@ -126,12 +172,14 @@ impl Terms {
         } else {
             // In a wing's stretch of $5, L is its lower end.
             let lower = h - rest;
-            let middle = 50 * (lower + 10);
-            let wing = self.dollar_program
-                & (10 <= lower)
-                & (lower <= 90)
-                & (((rest == 4) & (self.close <= middle)) | ((rest == 6) & (middle <= self.close)));
-            let wing_in_range = (self.low <= lower) & (lower + 10 <= self.high);
+            let upper = lower + 10;
+            let is_placed = |range: &Range| {
+                ((rest == 4) & (range.price <= 50 * upper))
+                    | ((rest == 6) & (50 * upper <= range.price))
+            };
+            let wing = self.dollar_program & (10 <= lower) & (lower <= 90) & self.any(is_placed);
+            let wing_in_range =
+                self.any(|range| is_placed(range) & range.has(lower) & range.has(upper));
             if !(standard | wing) {
                 return Answer::refused(11);
             }
@@ -149,7 +197,7 @@ impl Terms {
     }
 }
 
-/// The fifth of the lowest strikes above `q`, the close in half dollars, at most 40: on whole
+/// The fifth of the lowest strikes above `q`, a price in half dollars, at most 40: on whole
 /// dollars, on multiples of $5, or on the ladder.
 #[inline(always)]
 fn fifth_above(q: u32, near: bool, dollar: bool) -> u32 {

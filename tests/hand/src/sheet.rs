@@ -122,6 +122,10 @@ fn call(reader: &mut Reader, letter: u8, run: &mut [u32], second: &mut [u32]) ->
             let [c, p] = reader.numbers()?;
             inner::set_close(run, c, p)
         }
+        b'H' => {
+            let [c, low, high] = reader.numbers()?;
+            inner::set_low_high(run, c, low, high)
+        }
         b'V' => {
             let [c, n] = reader.numbers()?;
             inner::set_volume(run, c, n)

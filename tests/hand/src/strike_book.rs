@@ -34,6 +34,11 @@ macro_rules! calls_of {
             }
 
             #[inline(always)]
+            fn set_low_high(&mut self, c: u32, low: u32, high: u32) -> Answer {
+                told($($module)+::set_low_high(self.0, c, low, high))
+            }
+
+            #[inline(always)]
             fn set_volume(&mut self, c: u32, n: u32) -> Answer {
                 told($($module)+::set_volume(self.0, c, n))
             }

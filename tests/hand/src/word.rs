@@ -6,6 +6,10 @@ pub const CLOSE: u32 = 3 << 28;
 pub const VOLUME: u32 = 4 << 28;
 pub const EXPIRATION: u32 = 5 << 28;
 pub const STRIKE: u32 = 6 << 28;
+pub const LOW_HIGH: u32 = 7 << 28;
+
+/// The words of a class before its expirations: class, close, volume, low and high.
+pub const CLASS_WORDS: usize = 5;
 
 /// The kind and the widest number that orders words of one kind: h, or a month, or a class number
 /// with its designations.

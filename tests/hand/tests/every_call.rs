@@ -2,13 +2,13 @@
 
 use calls::books::{self, CROWDED};
 use calls::draw::{self, Mix};
-use calls::words::{number, places, CLASS, PROGRAMS, VOLUME};
-use calls::{runs, words, Call, Random, StrikeBook, Tally};
+use calls::words::{class_of, number, places, CLASS, PROGRAMS, VOLUME};
+use calls::{runs, Call, Random, StrikeBook, Tally, LETTERS};
 use hand::{inner, Known, Tested};
 use second::{make_on_words, PlainBook};
 use std::collections::BTreeMap;
 
-const WEIGHTS: [u32; 11] = [3, 7, 8, 5, 10, 30, 12, 8, 8, 5, 4];
+const WEIGHTS: [u32; LETTERS.len()] = [3, 7, 8, 8, 5, 10, 30, 12, 8, 8, 5, 4];
 
 /// A mix with few classes or many.
 fn any_mix(random: &mut Random) -> Mix {
@@ -103,17 +103,17 @@ fn caps() {
     let mut tally = Tally::default();
     for _ in 0..8 {
         let mix = Mix {
-            weights: [0, 4, 1, 1, 5, 1, 0, 0, 0, 0, 0],
+            weights: [0, 4, 1, 1, 1, 5, 1, 0, 0, 0, 0, 0],
             highest: random.pick(&[180, 16_383]),
         };
-        let mut run = fresh(600);
+        let mut run = fresh(books::CAPPED_WORDS);
         list(&mut random, &mut run, &mix, 1_200, &mut tally);
         let length = books::CAPPED_WORDS + random.index(100);
         let mut run = books::near_caps(&mut random, length);
         assert!(PlainBook::read(&run).is_some());
         list(&mut random, &mut run, &mix, 200, &mut tally);
         // All at once: the class after the last that a cap allows draws 10, and passes after a release.
-        let mut run = fresh(600);
+        let mut run = fresh(books::CAPPED_WORDS);
         for c in 1..=152 {
             let (p, n) = (400, 1_000);
             for call in [Call::O { c }, Call::C { c, p }, Call::V { c, n }] {
@@ -155,8 +155,8 @@ fn damaged_runs() {
     tally.print();
 }
 
-/// Every strike about the close judged and some listed, and all asked for, between standing strikes of
-/// any grounds.
+/// Strikes about the low and the high judged and some listed, and all asked for, between standing strikes
+/// of any grounds.
 #[test]
 fn crowded_expirations() {
     let mut random = Random::new(0x5eed_0006);
@@ -164,9 +164,11 @@ fn crowded_expirations() {
     for _ in 0..800 {
         let (mut run, m) = books::crowded(&mut random);
         assert!(PlainBook::read(&run).is_some());
-        let (c, p) = (CROWDED, words::close(run[2]));
+        let c = CROWDED;
+        let prices = class_of(&run, c).unwrap().prices;
+        let [first, last] = [prices.low / 100, 3 * prices.high / 100];
         for _ in 0..60 {
-            let h = 1 + p / 100 + random.below(p / 50 + 60);
+            let h = 1 + first + random.below(last - first + 60);
             let h = match random.below(3) {
                 0 => h / 5 * 5 + random.pick(&[0, 1, 4]),
                 _ => h,

@@ -1,6 +1,7 @@
 //! Whether a run is a book, against the plain implementation.
 
-use calls::words::{class, head, month, CLASS, CLOSE, EXPIRATION, HEAD, PROGRAMS, STRIKE, VOLUME};
+use calls::words::{class_words, head, month, strike, used, Prices, CLASS_WORDS, PROGRAMS};
+use calls::words::{CLASS, CLOSE, EXPIRATION, HEAD, LOW_HIGH, STRIKE, VOLUME};
 use calls::{books, runs, Random};
 use second::PlainBook;
 
@@ -52,7 +53,7 @@ fn every_bit() {
             for bit in 0..32 {
                 same(book[at] ^ 1 << bit);
             }
-            let kinds = [0, CLOSE, VOLUME, EXPIRATION | month(book[0])];
+            let kinds = [0, CLOSE, VOLUME, LOW_HIGH, EXPIRATION | month(book[0])];
             let heads = [HEAD | 1 << 10, CLASS | 5];
             let strikes = [0, 1, 19_999, 20_000].map(|h| STRIKE | h);
             for word in kinds.into_iter().chain(heads).chain(strikes) {
@@ -85,9 +86,9 @@ fn caps() {
         let mut designations = [0; PROGRAMS.len()];
         designations[place] = 1;
         for classes in program.cap - 1..program.cap + 2 {
-            let mut run = vec![head(0, 1 + 3 * classes as usize)];
+            let mut run = vec![head(0, 1 + CLASS_WORDS * classes as usize)];
             for c in 1..=classes {
-                run.extend([class(c, designations), CLOSE, VOLUME]);
+                run.extend(class_words(c, designations, Prices::at(0), 0));
             }
             assert_eq!(hand::is_book(&run), classes <= program.cap);
             assert_eq!(is_book(&run), classes <= program.cap);
@@ -102,9 +103,9 @@ fn fields() {
     let mut books = 0;
     for designations in 0..1 << 7 {
         for ground in 0..1 << 6 {
-            let class = CLASS | 7 | designations << 14;
-            let strike = STRIKE | 105 | ground << 15;
-            let run = [head(4, 6), class, CLOSE, VOLUME, EXPIRATION | 5, strike];
+            let mut run = one_strike(Prices::at(0));
+            run[1] |= designations << 14;
+            run[7] |= ground << 15;
             let told = hand::is_book(&run);
             assert_eq!(told, is_book(&run), "{run:x?}");
             books += u32::from(told);
@@ -112,4 +113,65 @@ fn fields() {
     }
     // Three values of each designation; five grounds and any marks.
     assert_eq!(books, 27 * 20);
+}
+
+/// A book of one class with one strike.
+fn one_strike(prices: Prices) -> Vec<u32> {
+    let mut run = vec![head(4, 8)];
+    run.extend(class_words(7, [0; PROGRAMS.len()], prices, 0));
+    run.extend([EXPIRATION | 5, strike(105, 0, 0, 0)]);
+    run
+}
+
+/// Every close, low and high about 0, about each other and about the limit.
+#[test]
+fn prices() {
+    let prices = [0, 1, 2, 199, 200, 201, 999_998, 999_999, 1_000_000, 1 << 20];
+    let mut books = 0;
+    for close in prices {
+        for low in prices {
+            for high in prices {
+                let run = one_strike(Prices { close, low, high });
+                let told = hand::is_book(&run);
+                assert_eq!(told, is_book(&run), "{close} {low} {high}");
+                books += u32::from(told);
+            }
+        }
+    }
+    // All 0; and of the seven from 1 to 999,999, three that rise or are equal.
+    assert_eq!(books, 1 + 84);
+}
+
+/// Each word of a class and of its neighbours gone, there twice or in the place of the next, with the count.
+#[test]
+fn words_out_of_place() {
+    let prices = Prices {
+        close: 200,
+        low: 150,
+        high: 250,
+    };
+    let mut book = one_strike(prices);
+    for number in [8, 9] {
+        book.extend(class_words(number, [0; PROGRAMS.len()], prices, 0));
+    }
+    book[0] = head(4, book.len());
+    assert!(hand::is_book(&book));
+    let mut books = 0;
+    for at in 1..book.len() {
+        let mut short = book.clone();
+        short.remove(at);
+        let mut long = book.clone();
+        long.insert(at, book[at]);
+        let mut swapped = book.clone();
+        swapped.swap(at - 1, at);
+        for mut run in [short, long, swapped] {
+            if used(&run) == book.len() {
+                run[0] = head(4, run.len());
+            }
+            let told = hand::is_book(&run);
+            assert_eq!(told, is_book(&run), "{run:x?}");
+            books += u32::from(told);
+        }
+    }
+    assert_eq!(books, 0);
 }

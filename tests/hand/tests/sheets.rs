@@ -10,7 +10,7 @@ use std::path::Path;
 /// A sheet of calls that suit the run as they change it, or noise; at times damaged.
 fn any_sheet(random: &mut Random, run: &[u32], count: usize) -> Vec<u8> {
     let mix = Mix {
-        weights: [3, 7, 8, 5, 10, 30, 12, 8, 8, 5, 4],
+        weights: [3, 7, 8, 8, 5, 10, 30, 12, 8, 8, 5, 4],
         highest: random.pick(&[1, 2, 4, 4, 10, 40, 200, 16_383]),
     };
     sheets::any(random, run.to_vec(), &mix, count, |run, call| {
@@ -84,7 +84,7 @@ fn noise() {
         assert_eq!(hand::run_sheet(&mut run, &mut [], sheet, &mut []), 6);
         run
     };
-    let bytes = b"MOCVDLJXIRA   0123457\n\n\r/:\x10\x80\xb0";
+    let bytes = b"MOCHVDLJXIRA   0123457\n\n\r/:\x10\x80\xb0";
     let mut count = 0;
     for _ in 0..150_000 {
         let length = random.below(25);
@@ -99,6 +99,7 @@ fn noise() {
         "V 7 10000000",
         "V 7 99999999",
         "C 7 999999",
+        "H 7 150 250",
         "A 7 5",
     ] {
         for at in 0..=line.len() {

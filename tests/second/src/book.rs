@@ -1,7 +1,7 @@
 //! "The plain book holds `now`, and for each open class its close, volume,
 //! two designations and a set of (month, h, ground, put, call). It holds the
 //! run's length too." #101: "equality of books now reads the third designation
-//! too."
+//! too." #103: "low and high being facts."
 
 use crate::units::*;
 use std::collections::{BTreeMap, BTreeSet};
@@ -17,6 +17,10 @@ pub struct PlainBook {
 pub struct Class {
     /// In cents, 0 when none has come.
     pub close: u32,
+    /// The day's low, in cents, 0 when no close has come.
+    pub low: u32,
+    /// The day's high, in cents, 0 when no close has come.
+    pub high: u32,
     pub volume: u32,
     /// 0 none, 1 ours, 2 another exchange's.
     pub dollar_designation: u32,
@@ -76,6 +80,20 @@ impl Class {
         self.close != 0
     }
 
+    /// "`C c P`: close." #103: "`C` sets both to the close", low and high.
+    pub fn set_close(&mut self, close: u32) {
+        self.close = close;
+        self.low = close;
+        self.high = close;
+    }
+
+    /// #103: "In every book all three are 0, or 1 ≤ low ≤ close ≤ high."
+    pub fn prices_hold(&self) -> bool {
+        let all_zero = self.close == 0 && self.low == 0 && self.high == 0;
+        let in_order = 1 <= self.low && self.low <= self.close && self.close <= self.high;
+        all_zero || in_order
+    }
+
     /// The months that have a strike.
     pub fn expirations(&self) -> BTreeSet<u32> {
         self.strikes.keys().map(|(month, _)| *month).collect()
@@ -104,11 +122,11 @@ impl PlainBook {
     }
 
     /// "The words the facts take are 1 + 3 × classes + expirations that have
-    /// strikes + strikes."
+    /// strikes + strikes." #103: "A class then takes five words"
     pub fn words_taken(&self) -> usize {
         let mut words = 1;
         for class in self.classes.values() {
-            words += 3;
+            words += 5;
             words += class.expirations().len();
             words += class.strikes.len();
         }

@@ -90,6 +90,22 @@ fn read_volume_word(word: u32) -> Option<u32> {
     Some(volume)
 }
 
+/// #103: low and high are "stored in two kind 7 words (bits 0–19)"
+fn low_or_high_word(price: u32) -> u32 {
+    of_kind(7) | price
+}
+
+fn read_low_or_high_word(word: u32) -> Option<u32> {
+    if kind(word) != 7 || bits(word, 20, 27) != 0 {
+        return None;
+    }
+    let price = bits(word, 0, 19);
+    if price != 0 && !is_price(price) {
+        return None;
+    }
+    Some(price)
+}
+
 /// "Kind 5, an expiration: month in bits 0–9"
 fn expiration_word(month: u32) -> u32 {
     of_kind(5) | month
@@ -153,15 +169,23 @@ fn read_classes(walk: &mut Walk) -> Option<BTreeMap<u32, Class>> {
         // "One of each follows its class word, close first."
         let close = read_close_word(walk.take()?)?;
         let volume = read_volume_word(walk.take()?)?;
+        // #103: "after the volume word, low first"
+        let low = read_low_or_high_word(walk.take()?)?;
+        let high = read_low_or_high_word(walk.take()?)?;
         let strikes = read_expirations(walk)?;
         let class = Class {
             close,
+            low,
+            high,
             volume,
             dollar_designation: dollar,
             half_designation: half,
             two_fifty_designation: two_fifty,
             strikes,
         };
+        if !class.prices_hold() {
+            return None;
+        }
         classes.insert(number, class);
     }
     Some(classes)
@@ -214,7 +238,8 @@ impl PlainBook {
     /// "A run is a book exactly when it has this form with every field in its
     /// limits, each expiration from `now` to `now` + 39, at most 150 classes
     /// with $1 designation 1 and at most 20 with $0.50 designation 1." #101: "a
-    /// run over the cap being no book"
+    /// run over the cap being no book" #103: "In every book all three are 0, or
+    /// 1 ≤ low ≤ close ≤ high."
     pub fn read(words: &[u32]) -> Option<PlainBook> {
         if !is_length(words.len()) {
             return None;
@@ -267,6 +292,8 @@ impl PlainBook {
             ));
             words.push(close_word(class.close));
             words.push(volume_word(class.volume));
+            words.push(low_or_high_word(class.low));
+            words.push(low_or_high_word(class.high));
             for month in class.expirations() {
                 words.push(expiration_word(month));
                 for (h, strike) in class.strikes_of(month) {

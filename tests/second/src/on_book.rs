@@ -43,6 +43,10 @@ impl StrikeBook for PlainBook {
         answer(self.try_set_close(c, p))
     }
 
+    fn set_low_high(&mut self, c: u32, low: u32, high: u32) -> Answer {
+        answer(self.try_set_low_high(c, low, high))
+    }
+
     fn set_volume(&mut self, c: u32, n: u32) -> Answer {
         answer(self.try_set_volume(c, n))
     }
@@ -120,6 +124,7 @@ impl PlainBook {
 
     /// "`O` adds a class with close, volume and designations 0 and no
     /// strike." "3 class already open"; "15 the words needed exceed the run"
+    /// #103: before a close low and high are 0 too.
     fn try_open_class(&mut self, c: u32) -> Answered {
         limits(is_class_number(c))?;
         if self.classes.contains_key(&c) {
@@ -136,7 +141,23 @@ impl PlainBook {
     /// "`C c P`: close."
     fn try_set_close(&mut self, c: u32, p: u32) -> Answered {
         limits(is_class_number(c) && is_price(p))?;
-        self.class_mut(c)?.close = p;
+        self.class_mut(c)?.set_close(p);
+        Ok(0)
+    }
+
+    /// #103: "`H c low high`" "refuses with 8 before any close, and with 16,
+    /// tested straight after 8, a low above the close or a high below it."
+    fn try_set_low_high(&mut self, c: u32, low: u32, high: u32) -> Answered {
+        limits(is_class_number(c) && is_price(low) && is_price(high))?;
+        let class = self.class_mut(c)?;
+        if !class.has_close() {
+            return Err(8);
+        }
+        if low > class.close || high < class.close {
+            return Err(16);
+        }
+        class.low = low;
+        class.high = high;
         Ok(0)
     }
 
@@ -295,7 +316,8 @@ fn qualifies(class: &Class, program: u32) -> Result<(), u32> {
 
 /// "It removes each strike of ground 1 or 3 with |K − P| above 500, both
 /// marks 0, and h above the highest or below the lowest marked strike of its
-/// expiration."
+/// expiration." #103: "The program's price conditions and the review keep the
+/// close."
 fn leaves_at_review(class: &Class, month: u32, h: u32, strike: &Strike) -> bool {
     let ground_of_program = strike.ground == DOLLAR || strike.ground == WING;
     ground_of_program

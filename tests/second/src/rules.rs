@@ -31,8 +31,14 @@ impl Setting<'_> {
         !self.is_long()
     }
 
-    fn price(&self) -> u32 {
+    /// #103: "The program's price conditions ... keep the close."
+    fn close(&self) -> u32 {
         self.class.close
+    }
+
+    /// #103: "at the low or at the high"
+    fn low_and_high(&self) -> [u32; 2] {
+        [self.class.low, self.class.high]
     }
 }
 
@@ -79,7 +85,7 @@ pub fn on_standard_grid(setting: &Setting, k: u32) -> bool {
 pub fn on_dollar_grid(setting: &Setting, k: u32) -> bool {
     setting.is_near()
         && setting.class.is_in(DOLLAR_PROGRAM)
-        && setting.price() < 5_000
+        && setting.close() < 5_000
         && is_multiple(k, ONE_DOLLAR)
         && (100..=5_000).contains(&k)
 }
@@ -89,21 +95,23 @@ pub fn on_dollar_grid(setting: &Setting, k: u32) -> bool {
 pub fn on_half_grid(setting: &Setting, k: u32) -> bool {
     setting.is_near()
         && setting.class.is_in(HALF_PROGRAM)
-        && setting.price() <= 500
+        && setting.close() <= 500
         && setting.class.volume >= 1_000
         && is_multiple(k, 50)
         && k <= 550
 }
 
-/// "3. Wing: long, $1 class, P below 5,000."
+/// "3. Wing: long, $1 class, P below 5,000." #103: "a wing's position is taken
+/// at the same price" as its range; "its grid asks the position at either."
 pub fn on_wing_grid(setting: &Setting, k: u32) -> bool {
+    let has_position = |p: u32| !wing_bases(p, k).is_empty();
     setting.is_long()
         && setting.class.is_in(DOLLAR_PROGRAM)
-        && setting.price() < 5_000
-        && !wing_bases(setting.price(), k).is_empty()
+        && setting.close() < 5_000
+        && setting.low_and_high().into_iter().any(has_position)
 }
 
-/// The L for which K is a wing: "For L a multiple of $5 from $5 to $45:
+/// The L for which K is a wing at P: "For L a multiple of $5 from $5 to $45:
 /// L + $2 if L is at or above P; L + $3 if L + $5 is at or below P; and
 /// L + $2 if L is the largest multiple of $5 strictly below P."
 fn wing_bases(p: u32, k: u32) -> Vec<u32> {
@@ -136,7 +144,7 @@ fn largest_five_strictly_below(p: u32) -> u32 {
 pub fn on_two_fifty_grid(setting: &Setting, k: u32) -> bool {
     let above_25_below_50 = 2_500 < k && k < 5_000;
     let from_50_to_100 = (5_000..=10_000).contains(&k);
-    let at_most_10_from_close = distance(k, setting.price()) <= TEN_DOLLARS;
+    let at_most_10_from_close = distance(k, setting.close()) <= TEN_DOLLARS;
     setting.is_near()
         && setting.class.is_in(TWO_FIFTY_PROGRAM)
         && is_multiple(k, TWO_DOLLARS_FIFTY)
@@ -159,22 +167,21 @@ pub fn passes_grid(setting: &Setting, ground: u32, k: u32) -> bool {
 /// "At P above 2,000, K is in range when P ≤ 2K ≤ 3P. At P of 2,000 or less,
 /// K is in range when K ≤ 2P, or when K is among the five lowest strikes
 /// above P of the *range grid*."
-fn in_range(setting: &Setting, ground: u32, k: u32) -> bool {
-    let p = setting.price();
+fn in_range(setting: &Setting, ground: u32, p: u32, k: u32) -> bool {
     if p > 2_000 {
         p <= 2 * k && 2 * k <= 3 * p
     } else {
-        k <= 2 * p || five_lowest_above(setting, ground).contains(&k)
+        k <= 2 * p || five_lowest_above(setting, ground, p).contains(&k)
     }
 }
 
 /// "the five lowest strikes above P of the *range grid*" (fewer where the
 /// grid holds fewer)
-fn five_lowest_above(setting: &Setting, ground: u32) -> Vec<u32> {
+fn five_lowest_above(setting: &Setting, ground: u32, p: u32) -> Vec<u32> {
     let mut five = Vec::new();
     for h in LOWEST_STRIKE..=HIGHEST_STRIKE {
         let k = cents(h);
-        if k > setting.price() && on_range_grid(setting, ground, k) {
+        if k > p && on_range_grid(setting, ground, k) {
             five.push(k);
         }
         if five.len() == 5 {
@@ -198,23 +205,31 @@ fn on_range_grid(setting: &Setting, ground: u32, k: u32) -> bool {
     }
 }
 
-/// "A wing is in range when L and L + $5 both are, as Standard."
-fn wing_in_range(setting: &Setting, k: u32) -> bool {
-    for l in wing_bases(setting.price(), k) {
-        if in_range(setting, STANDARD, l) && in_range(setting, STANDARD, l + 500) {
+/// "A wing is in range when L and L + $5 both are, as Standard." #103: "a wing's
+/// position is taken at the same price"
+fn wing_in_range(setting: &Setting, p: u32, k: u32) -> bool {
+    for l in wing_bases(p, k) {
+        if in_range(setting, STANDARD, p, l) && in_range(setting, STANDARD, p, l + 500) {
             return true;
         }
     }
     false
 }
 
-pub fn passes_range(setting: &Setting, ground: u32, k: u32) -> bool {
+fn passes_range_at(setting: &Setting, ground: u32, p: u32, k: u32) -> bool {
     match ground {
-        WING => wing_in_range(setting, k),
+        WING => wing_in_range(setting, p, k),
         // #101: "The range rule holds as for Standard."
-        TWO_FIFTY => in_range(setting, STANDARD, k),
-        _ => in_range(setting, ground, k),
+        TWO_FIFTY => in_range(setting, STANDARD, p, k),
+        _ => in_range(setting, ground, p, k),
     }
+}
+
+/// #103: "A strike or wing passes its range when it passes at the low or at the
+/// high"
+pub fn passes_range(setting: &Setting, ground: u32, k: u32) -> bool {
+    let passes_at = |p: u32| passes_range_at(setting, ground, p, k);
+    setting.low_and_high().into_iter().any(passes_at)
 }
 
 // ---- Spacing -----------------------------------------------------------

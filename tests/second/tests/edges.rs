@@ -615,6 +615,12 @@ fn two_before_all_else() {
         "C 7 0",
         "C 7 1000000",
         "C 0 5",
+        "H 0 5 5",
+        "H 16384 5 5",
+        "H 7 0 5",
+        "H 7 5 0",
+        "H 7 1000000 5",
+        "H 7 5 1000000",
         "V 7 10000000",
         "D 7 0 1",
         "D 7 4 1",
@@ -657,6 +663,7 @@ fn classes_open_or_not() {
     let mut book = fresh();
     for line in [
         "C 7 5",
+        "H 7 5 5",
         "V 7 5",
         "D 7 1 0",
         "L 7 0 5",
@@ -722,7 +729,9 @@ fn six_before_eight_on_a_read_book() {
     let mut book = at_close(200);
     accept(&mut book, &["L 7 5 5"]);
     let mut words = book.words();
-    words[2] = 3 << 28;
+    for (place, kind) in [(2, 3), (4, 7), (5, 7)] {
+        words[place] = kind << 28;
+    }
     let mut book = PlainBook::read(&words).unwrap();
     expect(
         &mut book,
@@ -738,9 +747,9 @@ fn six_before_eight_on_a_read_book() {
 
 #[test]
 fn fifteen_on_o_and_l() {
-    let mut book = PlainBook::fresh(3).unwrap();
+    let mut book = PlainBook::fresh(5).unwrap();
     expect(&mut book, &[("O 1", "15")]);
-    let mut book = PlainBook::fresh(4).unwrap();
+    let mut book = PlainBook::fresh(6).unwrap();
     expect(
         &mut book,
         &[
@@ -751,7 +760,7 @@ fn fifteen_on_o_and_l() {
             ("L 1 1 5", "15"),
         ],
     );
-    let mut book = PlainBook::fresh(5).unwrap();
+    let mut book = PlainBook::fresh(7).unwrap();
     expect(
         &mut book,
         &[
@@ -761,7 +770,7 @@ fn fifteen_on_o_and_l() {
             ("J 1 1 5", "0 0"),
         ],
     );
-    let mut book = PlainBook::fresh(7).unwrap();
+    let mut book = PlainBook::fresh(9).unwrap();
     expect(
         &mut book,
         &[

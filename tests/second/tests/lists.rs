@@ -51,6 +51,30 @@ fn the_third_designation_is_a_fact() {
     assert_eq!(compared(&calls, &released), (0, 1));
 }
 
+/// #103: "`H` joins the calls whose lists decide equal books, low and high
+/// being facts."
+#[test]
+fn low_and_high_are_facts() {
+    let with = |more: &str| records(&format!("{CALLS}{more}"));
+    let calls = with("");
+    for h in ["H 7 199 200", "H 7 200 201", "H 7 1 999999"] {
+        assert_eq!(compared(&calls, &with(&format!("\n{h}"))), (0, 0));
+        // "`C` sets both to the close"
+        assert_eq!(compared(&calls, &with(&format!("\n{h}\nC 7 200"))), (0, 1));
+        assert_eq!(
+            compared(&calls, &with(&format!("\n{h}\nH 7 200 200"))),
+            (0, 1)
+        );
+    }
+    let [low, high] = ["\nH 7 100 300", "\nH 7 100 301"].map(with);
+    assert_eq!(compared(&low, &high), (0, 0));
+    let twice = with("\nH 7 150 301\nH 7 100 300");
+    assert_eq!(compared(&low, &twice), (0, 1));
+    // Refused: it changes nothing.
+    let refused = with("\nH 7 201 300\nH 7 100 199\nH 7 0 300\nH 8 100 300");
+    assert_eq!(compared(&calls, &refused), (0, 1));
+}
+
 #[test]
 fn words_of_a_list() {
     let calls = records(CALLS);

@@ -19,6 +19,8 @@ fn well_formed_lines() {
     assert_eq!(parse_line(b"M 0"), Call::M { m: 0 });
     assert_eq!(parse_line(b"O 7"), Call::O { c: 7 });
     assert_eq!(parse_line(b"C 7 200"), Call::C { c: 7, p: 200 });
+    let (c, low, high) = (7, 150, 250);
+    assert_eq!(parse_line(b"H 7 150 250"), Call::H { c, low, high });
     assert_eq!(parse_line(b"V 7 0"), Call::V { c: 7, n: 0 });
     assert_eq!(parse_line(b"D 7 1 2"), Call::D { c: 7, p: 1, d: 2 });
     assert_eq!(parse_line(b"L 7 5 14"), Call::L { c: 7, m: 5, h: 14 });
@@ -73,6 +75,14 @@ fn malformed_lines() {
         b"O 7 7",
         b"C 7",
         b"C 7 200 1",
+        b"H",
+        b"H 7",
+        b"H 7 150",
+        b"H 7 150 250 1",
+        b"H 7 0150 250",
+        b"H 7 150  250",
+        b"H 7 150 250 ",
+        b"h 7 150 250",
         b"V 7",
         b"D 7 1",
         b"D 7 1 1 1",

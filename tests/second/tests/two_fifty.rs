@@ -1,7 +1,7 @@
 //! #101, the $2.50 program: the worked examples, and its edges.
 
 mod common;
-use calls::words::{head, strike, CLASS, CLOSE, EXPIRATION, VOLUME};
+use calls::words::{class_words, head, strike, Prices, CLASS, EXPIRATION};
 use common::*;
 use second::PlainBook;
 
@@ -316,14 +316,9 @@ fn the_range_is_standard() {
 #[test]
 fn ground_4_where_no_call_makes_it() {
     let with_ground_4 = |month: u32, h: u32| {
-        let words = [
-            head(4, 6),
-            CLASS + 7 + (2 << 14),
-            CLOSE + 1_300,
-            VOLUME,
-            EXPIRATION + month,
-            strike(h, 4, 0, 0),
-        ];
+        let mut words = vec![head(4, 8)];
+        words.extend(class_words(7, [2, 0, 0], Prices::at(1_300), 0));
+        words.extend([EXPIRATION + month, strike(h, 4, 0, 0)]);
         PlainBook::read(&words).unwrap()
     };
     expect(

@@ -1,28 +1,23 @@
 //! The layout: books, and words that are no book.
 
+mod books;
+
+use books::is_book;
 use calls::draw::{self, Mix};
 use calls::runs::damage;
-use calls::words::{head, CLASS, CLOSE, EXPIRATION, HEAD, STRIKE, VOLUME};
+use calls::words::{head, CLASS, CLOSE, EXPIRATION, HEAD, LOW_HIGH, STRIKE, VOLUME};
 use calls::{Call, Random, StrikeBook};
 use second::{make_on_words, PlainBook};
-
-fn is_book(words: &[u32]) -> bool {
-    match PlainBook::read(words) {
-        None => false,
-        Some(book) => {
-            assert_eq!(book.words(), words);
-            true
-        }
-    }
-}
 
 /// A small book: class 7, two expirations, three strikes; class 9, none.
 fn small() -> Vec<u32> {
     vec![
-        head(4, 12),
+        head(4, 16),
         CLASS + 7 + 16_384 + 2 * 65_536,
-        CLOSE + 999_999,
+        CLOSE + 999_998,
         VOLUME + 9_999_999,
+        LOW_HIGH + 1,
+        LOW_HIGH + 999_999,
         EXPIRATION + 4,
         STRIKE + 5,
         STRIKE + 19_999 + 3 * 32_768 + 262_144 + 524_288,
@@ -31,6 +26,8 @@ fn small() -> Vec<u32> {
         CLASS + 16_383,
         CLOSE,
         VOLUME,
+        LOW_HIGH,
+        LOW_HIGH,
         0,
         0,
     ]
@@ -41,15 +38,16 @@ fn the_small_book() {
     let words = small();
     assert!(is_book(&words));
     let book = PlainBook::read(&words).unwrap();
-    assert_eq!((book.now, book.length), (4, 14));
+    assert_eq!((book.now, book.length), (4, 18));
     let class = &book.classes[&7];
-    assert_eq!((class.close, class.volume), (999_999, 9_999_999));
+    assert_eq!((class.close, class.volume), (999_998, 9_999_999));
+    assert_eq!((class.low, class.high), (1, 999_999));
     assert_eq!((class.dollar_designation, class.half_designation), (1, 2));
     let strike = class.strikes[&(4, 19_999)];
     assert_eq!((strike.ground, strike.put, strike.call), (3, 1, 1));
     let strike = class.strikes[&(43, 1)];
     assert_eq!((strike.ground, strike.put, strike.call), (1, 0, 1));
-    assert_eq!(book.words_taken(), 12);
+    assert_eq!(book.words_taken(), 16);
 }
 
 /// #101's designation in bits 18–19, and its ground under any strike and
@@ -59,8 +57,8 @@ fn the_third_designation_and_ground_4() {
     for designation in 0..=2 {
         for h in [1, 5, 54, 55, 105, 19_999] {
             let mut words = small();
-            words[9] += designation << 18;
-            words[8] = STRIKE + h + 4 * 32_768;
+            words[11] += designation << 18;
+            words[10] = STRIKE + h + 4 * 32_768;
             assert!(is_book(&words));
             let book = PlainBook::read(&words).unwrap();
             assert_eq!(book.classes[&16_383].two_fifty_designation, designation);
@@ -104,18 +102,18 @@ fn damaged_words() {
     };
     let no_books = [
         ("no head", change(0, 0)),
-        ("head of another kind", change(0, head(4, 12) + HEAD)),
-        ("head's stray bit", change(0, head(4, 12) + (1 << 26))),
-        ("head's stray bit", change(0, head(4, 12) + (1 << 27))),
+        ("head of another kind", change(0, head(4, 16) + HEAD)),
+        ("head's stray bit", change(0, head(4, 16) + (1 << 26))),
+        ("head's stray bit", change(0, head(4, 16) + (1 << 27))),
         ("count 0", change(0, head(4, 0))),
-        ("count short by one", change(0, head(4, 11))),
-        ("count short by one class", change(0, head(4, 9))),
-        ("count long by one", change(0, head(4, 13))),
-        ("count beyond the run", change(0, head(4, 15))),
-        ("now above an expiration", change(0, head(5, 12))),
-        ("expiration above now + 39", change(0, head(3, 12))),
-        ("expiration above now + 39", change(7, EXPIRATION + 44)),
-        ("expiration below now", change(4, EXPIRATION + 3)),
+        ("count short by one", change(0, head(4, 15))),
+        ("count short by one class", change(0, head(4, 11))),
+        ("count long by one", change(0, head(4, 17))),
+        ("count beyond the run", change(0, head(4, 19))),
+        ("now above an expiration", change(0, head(5, 16))),
+        ("expiration above now + 39", change(0, head(3, 16))),
+        ("expiration above now + 39", change(9, EXPIRATION + 44)),
+        ("expiration below now", change(6, EXPIRATION + 3)),
         ("class 0", change(1, CLASS)),
         ("class designation 3", change(1, CLASS + 7 + 3 * 16_384)),
         ("class designation 3", change(1, CLASS + 7 + 3 * 65_536)),
@@ -123,37 +121,42 @@ fn damaged_words() {
         ("class stray bit", change(1, CLASS + 7 + (1 << 20))),
         ("class stray bit", change(1, CLASS + 7 + (1 << 27))),
         ("class twice", change(1, CLASS + 16_383)),
-        ("classes fall", change(9, CLASS + 6)),
+        ("classes fall", change(11, CLASS + 6)),
         ("close too high", change(2, CLOSE + 1_000_000)),
-        ("close stray bit", change(2, CLOSE + (1 << 20))),
+        ("close stray bit", change(2, CLOSE + 999_998 + (1 << 20))),
         ("close missing", change(2, VOLUME)),
         ("volume too high", change(3, VOLUME + 10_000_000)),
         ("volume stray bit", change(3, VOLUME + (1 << 24))),
         ("volume missing", change(3, CLOSE)),
+        ("low stray bit", change(4, LOW_HIGH + 1 + (1 << 20))),
+        ("low missing", change(4, EXPIRATION + 4)),
+        ("high too high", change(5, LOW_HIGH + 1_000_000)),
+        ("high stray bit", change(5, LOW_HIGH + 999_999 + (1 << 27))),
+        ("high missing", change(5, EXPIRATION + 4)),
         (
             "expiration stray bit",
-            change(4, EXPIRATION + 4 + (1 << 10)),
+            change(6, EXPIRATION + 4 + (1 << 10)),
         ),
-        ("expiration twice", change(7, EXPIRATION + 4)),
-        ("expiration missing", change(4, STRIKE + 4)),
-        ("expiration with no strike", change(5, EXPIRATION + 5)),
-        ("expiration with no strike", change(8, EXPIRATION + 44)),
-        ("strike 0", change(5, STRIKE)),
-        ("strike 20,000", change(6, STRIKE + 20_000)),
-        ("ground 5", change(5, STRIKE + 5 + 5 * 32_768)),
-        ("ground 6", change(5, STRIKE + 5 + 6 * 32_768)),
-        ("ground 7", change(5, STRIKE + 5 + 7 * 32_768)),
-        ("strike stray bit", change(5, STRIKE + 5 + (1 << 20))),
-        ("strike twice", change(6, STRIKE + 5)),
-        ("strikes fall", change(6, STRIKE + 4)),
-        ("word past those used", change(12, 1)),
-        ("word past those used", change(13, 1 << 31)),
-        ("kind 7", change(5, 7 << 28)),
-        ("kind 0 among the used", change(5, 0)),
-        ("a second head", change(9, head(4, 1))),
+        ("expiration twice", change(9, EXPIRATION + 4)),
+        ("expiration missing", change(6, STRIKE + 4)),
+        ("expiration with no strike", change(7, EXPIRATION + 5)),
+        ("expiration with no strike", change(10, EXPIRATION + 44)),
+        ("strike 0", change(7, STRIKE)),
+        ("strike 20,000", change(8, STRIKE + 20_000)),
+        ("ground 5", change(7, STRIKE + 5 + 5 * 32_768)),
+        ("ground 6", change(7, STRIKE + 5 + 6 * 32_768)),
+        ("ground 7", change(7, STRIKE + 5 + 7 * 32_768)),
+        ("strike stray bit", change(7, STRIKE + 5 + (1 << 20))),
+        ("strike twice", change(8, STRIKE + 5)),
+        ("strikes fall", change(8, STRIKE + 4)),
+        ("word past those used", change(16, 1)),
+        ("word past those used", change(17, 1 << 31)),
+        ("kind 8", change(7, 8 << 28)),
+        ("kind 0 among the used", change(7, 0)),
+        ("a second head", change(11, head(4, 1))),
         ("order of close and volume", {
             let mut words = small();
-            words.swap(10, 11);
+            words.swap(12, 13);
             words
         }),
     ];
@@ -173,33 +176,30 @@ fn damaged_words() {
         assert_eq!(changed, words);
         assert_eq!(second, [5, 6]);
     }
-    // An expiration last among the used words, with no strike.
-    assert!(!is_book(&[
-        head(0, 5),
+    // A class cut short, and an expiration last among the used words, with no strike.
+    let words = [
+        0,
         CLASS + 1,
         CLOSE,
         VOLUME,
-        EXPIRATION
-    ]));
-    assert!(is_book(&[
-        head(0, 6),
-        CLASS + 1,
-        CLOSE,
-        VOLUME,
+        LOW_HIGH,
+        LOW_HIGH,
         EXPIRATION,
-        STRIKE + 1
-    ]));
-    // A class cut short.
-    assert!(!is_book(&[head(0, 3), CLASS + 1, CLOSE]));
-    assert!(!is_book(&[head(0, 2), CLASS + 1]));
+        STRIKE + 1,
+    ];
+    for used in 1..=words.len() {
+        let mut words = words[..used].to_vec();
+        words[0] = head(0, used);
+        assert_eq!(is_book(&words), [1, 6, 8].contains(&used), "{used}");
+    }
 }
 
 #[test]
 fn caps_in_a_read_book() {
     let designated = |count: u32, bits: u32| {
-        let mut words = vec![head(0, 1 + 3 * count as usize)];
+        let mut words = vec![head(0, 1 + 5 * count as usize)];
         for c in 1..=count {
-            words.extend([CLASS + c + bits, CLOSE, VOLUME]);
+            words.extend([CLASS + c + bits, CLOSE, VOLUME, LOW_HIGH, LOW_HIGH]);
         }
         words
     };
@@ -220,7 +220,9 @@ fn caps_in_a_read_book() {
 fn single_bits() {
     let words = small();
     // The count of named bits of each word, all from bit 0.
-    let named = [26, 20, 20, 24, 10, 20, 20, 10, 20, 20, 20, 24, 0, 0];
+    let named = [
+        26, 20, 20, 24, 20, 20, 10, 20, 20, 10, 20, 20, 20, 24, 20, 20, 0, 0,
+    ];
     let mut books = 0;
     for at in 0..words.len() {
         for bit in 0..32 {
@@ -238,7 +240,7 @@ fn single_bits() {
 // ---- Random calls ------------------------------------------------------
 
 const MIX: Mix = Mix {
-    weights: [1, 3, 3, 2, 4, 15, 3, 2, 5, 1, 1],
+    weights: [1, 3, 3, 3, 2, 4, 15, 3, 2, 5, 1, 1],
     highest: 9,
 };
 
@@ -273,9 +275,9 @@ fn check_call(book: &mut PlainBook, words: &mut [u32], call: &Call, room: usize)
 #[test]
 fn random_lists() {
     let mut random = Random::new(0x5EED_0001);
-    let mut drawn = [0; 16];
+    let mut drawn = [0; 17];
     for _ in 0..150 {
-        let length = random.pick(&[1, 5, 12, 30, 60, 200, 500]);
+        let length = random.pick(&[1, 7, 16, 30, 60, 200, 500]);
         let mut book = PlainBook::fresh(length).unwrap();
         let mut words = book.words();
         for _ in 0..400 {

@@ -2,7 +2,7 @@
 -- contract is the answer. Assumes nothing.
 use mathlib.Core.Path.{refl}
 use borrow.Author.Tests.{ne-eqb}
-use Rattle.book.specs.Calls.{on, callD, callL, callJ, callX, effectOn}
+use Rattle.book.specs.Calls.{on, callD, callL, callJ, callX, callH, effectOn}
 use Rattle.book.proofs.Answered.{made-anyhow}
 use Rattle.dispatch.proofs.NamedCalls.{malformed-refused}
 use borrow.Author.Needs.{needs}
@@ -29,6 +29,10 @@ judging made = made .before .before .before
 abbrev delisting : tie.After-delist-strike → tie.At-match-keys4
 delisting made = made .before .before .before
 
+-- where it is `H`
+abbrev pricing : tie.After-set-low-high → tie.At-match-keys5
+pricing made = made .before .before .before
+
 designate-requires : tie.Need-designate-requires
 designate-requires c κs = search needs
 
@@ -40,6 +44,9 @@ judge-strike-requires c κs = search needs
 
 delist-strike-requires : tie.Need-delist-strike-requires
 delist-strike-requires c κs = search needs
+
+set-low-high-requires : tie.Need-set-low-high-requires
+set-low-high-requires c κs = search needs
 
 same-length : tie.Need-same-length
 same-length c = search needs
@@ -105,11 +112,33 @@ returns-4 c =
     made-anyhow (on (start .args .a) (callX (start .args .b) (start .args .c))) _ v (start .pre) refl
     (made .delist-strike .ensures))
 
+same-length-9 : tie.Need-same-length-9
+same-length-9 c = search needs
+
+same-length-10 : tie.Need-same-length-10
+same-length-10 c = search needs
+
 returns-5 : tie.Need-returns-5
+unfolding effectOn
 returns-5 c =
+    let made = c .before .before .before .before in
+    let start = entry (pricing made .before) in
+    rw (pricing made .match .keys5)
+    (λ v.
+    made-anyhow (on (start .args .a) (callH (start .args .b) (start .args .c))) _ v (start .pre) refl
+    (made .set-low-high .ensures))
+
+returns-6 : tie.Need-returns-6
+returns-6 c =
     let other = c .match .rest in
     let start = entry (c .before) in
-    simp (ne-eqb _ _ (other .0 .0 .0 .1), ne-eqb _ _ (other .0 .0 .1), ne-eqb _ _ (other .0 .1), ne-eqb _ _ (other .1))
+    simp (
+      ne-eqb _ _ (other .0 .0 .0 .0 .1),
+      ne-eqb _ _ (other .0 .0 .0 .1),
+      ne-eqb _ _ (other .0 .0 .1),
+      ne-eqb _ _ (other .0 .1),
+      ne-eqb _ _ (other .1),
+    )
     (λ v. malformed-refused (start .args .run .now) v (start .pre))
 
 pub make-of-three-spec : {M : Type 1} → statement M
@@ -120,6 +149,7 @@ make-of-three-spec =
     list-strike-requires
     judge-strike-requires
     delist-strike-requires
+    set-low-high-requires
     same-length
     same-length-2
     returns
@@ -132,4 +162,7 @@ make-of-three-spec =
     same-length-7
     same-length-8
     returns-4
-    returns-5)
+    same-length-9
+    same-length-10
+    returns-5
+    returns-6)

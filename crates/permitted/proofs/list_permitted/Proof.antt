@@ -1,7 +1,7 @@
 -- `list_permitted` writes the strikes where they have places: where it is not plain that they have, a first turn counts
 -- them (`Turn`). Assumes nothing.
-use Prim.Native.Nat.{_-_}
-use mathlib.Core.Path.{refl}
+use Prim.Native.Nat.{_-_, max}
+use mathlib.Core.Path.{_≡_, refl, ap, _∙_}
 use mathlib.Core.List.{map}
 use mathlib.Core.Logic.{inl, inr, ⊎-elim}
 use native.Mathlib.Omega.{arith}
@@ -9,29 +9,40 @@ use lib.ListN.{length}
 use borrow.Author.Needs.{needs}
 use Rattle.rule.specs.Spacing.{standingOf}
 use Rattle.rule.specs.Judgement.{permitted}
-use Rattle.rule.proofs.Bound.{high-strike}
+use Rattle.rule.specs.Ends.{topEnd}
+use Rattle.rule.proofs.Open.{top-strike}
+use Rattle.permitted.specs.declared.Ranges.{Ranges}
 use Rattle.rule.proofs.Most.{permitted-most}
 use Rattle.permitted.proofs.Filled.{Turn, turn-within, same-long, filled-not, filled-all, turn-less, turn-again}
 use Rattle.permitted.proofs.list_permitted.Statement.{statement}
 use Rattle.permitted.proofs.list_permitted.Tie as tie
 
 abbrev Inv-loop : tie.InvT-loop
-Inv-loop s standing second₀ high room₀ second room =
+Inv-loop s standing second₀ ranges high room₀ second room =
     Turn (permitted s (map standingOf standing)) second₀ second room
 
 abbrev μ-loop : tie.MeasureT-loop
-μ-loop s standing second₀ high room₀ second room = length second - room
+μ-loop s standing second₀ ranges high room₀ second room = length second - room
 
 -- ---- places
 
-abbrev start : tie.After-high-end Inv-loop μ-loop → tie.Start Inv-loop μ-loop
+abbrev start : tie.After-ranges-of Inv-loop μ-loop → tie.Start Inv-loop μ-loop
 start p = p .before .before .before
 
-high-end-requires : tie.Need-high-end-requires Inv-loop μ-loop
-high-end-requires c κs = search needs
+ranges-of-requires : tie.Need-ranges-of-requires Inv-loop μ-loop
+ranges-of-requires c κs = c .before .before .pre .measurable
+
+higher-of-requires : tie.Need-higher-of-requires Inv-loop μ-loop
+higher-of-requires c κs = search needs
+
+-- the end of both ranges
+ends : (p : tie.After-higher-of Inv-loop μ-loop) → p .higher-of .result ≡ topEnd (start (p .before) .args .s)
+ends p =
+    p .higher-of .ensures
+    ∙ ap (λ (r : Ranges). max (r .first .high) (r .second .high)) (p .before .ranges-of .ensures)
 
 most-open-requires : tie.Need-most-open-requires Inv-loop μ-loop
-most-open-requires c κs = rw (c .high-end .ensures) (high-strike (start c .args .s))
+most-open-requires c κs = rw (ends c) (top-strike (start (c .before) .args .s))
 
 cast-if1 : tie.Need-cast-if1 Inv-loop μ-loop
 cast-if1 c = search needs
@@ -40,13 +51,13 @@ loop-holds : tie.Need-loop-holds Inv-loop μ-loop
 loop-holds c =
     let most = c .before in
     let end = most .before in
-    let args = start end .args in
+    let args = start (end .before) .args in
     let few = permitted-most (args .s) (map standingOf (args .standing .now)) in
     record {
       same = refl;
       lent =
           ⊎-elim (λ w. inl (w .1))
-          (λ w. inr (w .1, omega (arith, w .0 .left, most .most-open .ensures, end .high-end .ensures)))
+          (λ w. inr (w .1, omega (arith, w .0 .left, most .most-open .ensures, ends end)))
           (c .if1 .came);
     }
 
@@ -101,7 +112,8 @@ list-permitted-spec =
     (tie.spec
     Inv-loop
     μ-loop
-    high-end-requires
+    ranges-of-requires
+    higher-of-requires
     most-open-requires
     cast-if1
     loop-holds

@@ -9,7 +9,7 @@ use lib.ListN.{length}
 use borrow.Author.Needs.{needs}
 use Rattle.place.proofs.Heads.{book-month, book-room, book-long}
 use Rattle.strike_call.proofs.Beside.{isStrikeAt, beside-within}
-use Rattle.strike_call.proofs.Judgements.{class-words, class-close, place-among, strike-most, found-outside, found-standing, found-no-close, found-judged}
+use Rattle.strike_call.proofs.Judgements.{class-words, class-prices, place-among, strike-most, found-outside, found-standing, found-no-close, found-judged}
 use Rattle.strike_call.proofs.judge_found.Statement.{statement}
 use Rattle.strike_call.proofs.judge_found.Tie as tie
 
@@ -139,8 +139,10 @@ judge-requires c κs =
     let j = c .before .before .before in
     let q = tested (j .before .before .before) in
     let s = start q in
+    let prices = class-prices (s .pre) _ (q .before .before .read .ensures) in
     record {
-      close = class-close (s .pre) _ (q .before .before .read .ensures);
+      low = omega (arith, prices .below, prices .above, prices .most);
+      high = prices .most;
       current = omega (arith, book-month (s .args .run .now) (s .pre .book), q .before .current .ensures);
       strike = strike-most (s .pre);
     }

@@ -122,6 +122,19 @@ impl Writer {
         self.write(Call::C { c, p: close })
     }
 
+    /// The day's low and high of a class: a few percent from its close, now and then on one side of it.
+    fn low_high(&mut self) -> Answer {
+        let (c, close, _) = self.random.pick(&self.classes);
+        let span = close / 16 + 2;
+        let (below, above) = (self.random.below(span), self.random.below(span));
+        let (low, high) = match self.random.below(40) {
+            0 => (close + below + 1, close + span),
+            1 => (close - span / 2, close - above / 2 - 1),
+            _ => (close - below, close + above),
+        };
+        self.write(Call::H { c, low, high })
+    }
+
     fn designate(&mut self) -> Answer {
         let (c, close, _) = self.random.pick(&self.classes);
         if close <= 500 && self.random.below(2) == 0 {
@@ -150,7 +163,7 @@ impl Writer {
                 // mostly don't stand.
                 let (open, m, h) = self.any_series();
                 let c = 1 + self.random.below(16_383);
-                match self.random.below(6) {
+                match self.random.below(7) {
                     0 => self.write(Call::L { c, m, h }),
                     1 => self.write(Call::C { c, p: 50 * h }),
                     2 => self.write(Call::O { c: open }),
@@ -161,6 +174,11 @@ impl Writer {
                         h,
                         a: 1,
                         b: 1,
+                    }),
+                    5 => self.write(Call::H {
+                        c: UNPRICED,
+                        low: 50 * h,
+                        high: 50 * h,
                     }),
                     _ => self.write(Call::J { c: UNPRICED, m, h }),
                 }
@@ -184,11 +202,12 @@ impl Writer {
                 let (a, b) = self.random.pick(&marks);
                 self.write(Call::I { c, m, h, a, b })
             }
-            378..=497 => {
+            378..=457 => {
                 let (c, m, h) = self.any_series();
                 self.write(Call::J { c, m, h })
             }
-            498..=577 => {
+            458..=537 => self.low_high(),
+            538..=577 => {
                 let (c, m, h) = self.permitted().unwrap_or((self.classes[0].0, 1_023, 50));
                 self.write(Call::J { c, m, h })
             }
@@ -222,7 +241,7 @@ fn main() -> Result<()> {
         line: String::new(),
     };
     hand::fresh(&mut writer.run);
-    let mut drawn = [0u32; 16];
+    let mut drawn = [0u32; 17];
     let mut letters = [0u32; 128];
     let (mut used_sum, mut nearly_full, mut permitted) = (0, 0, 0u64);
     let mut waiting = Vec::new();
@@ -290,7 +309,7 @@ fn main() -> Result<()> {
             "words used, on average {}; lines with at most 5 words left {nearly_full}",
             used_sum / LINES as usize
         );
-        eprintln!("drawn, 0 to 15: {drawn:?}");
+        eprintln!("drawn, 0 to 16: {drawn:?}");
         for (letter, count) in letters.iter().enumerate().filter(|(_, count)| **count > 0) {
             eprint!("{} {count}  ", letter as u8 as char);
         }

@@ -1,4 +1,4 @@
--- `expiration_at` searches the words after the three of the class, to the last one used. Assumes nothing.
+-- `expiration_at` searches the words after the class's figures, to the last one used. Assumes nothing.
 use Prim.Native.Nat.{_+_, _≤_}
 use native.Mathlib.Omega.{arith}
 use lib.Dec.{leb→le}

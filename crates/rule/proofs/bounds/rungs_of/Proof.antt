@@ -3,8 +3,8 @@ use borrow.Author.Needs.{needs}
 use Rattle.rule.proofs.bounds.rungs_of.Statement.{statement}
 use Rattle.rule.proofs.bounds.rungs_of.Tie as tie
 
-half-end-requires : tie.Need-half-end-requires
-half-end-requires c κs = search needs
+half-top-requires : tie.Need-half-top-requires
+half-top-requires c κs = search needs
 
 dollar-end-requires : tie.Need-dollar-end-requires
 dollar-end-requires c κs = search needs
@@ -32,14 +32,14 @@ returns c =
       ladder .ladder-end .ensures,
       long .is-long .ensures,
       long .before .dollar-end .ensures,
-      long .before .before .half-end .ensures,
+      long .before .before .half-top .ensures,
     )
 
 pub rungs-of-spec : {M : Type 1} → statement M
 rungs-of-spec =
     tie.close
     (tie.spec
-    half-end-requires
+    half-top-requires
     dollar-end-requires
     is-long-requires
     ladder-end-requires

@@ -1,159 +1,71 @@
--- `rows_of` answers the rows with no ground found: each call ensures a grid or an end, on each grid the ends tell the
--- range, and the grids that are left out are empty. Assumes nothing.
-use mathlib.Core.Path.{_≡_, sym, _∙_}
-use mathlib.Core.Bool.{Bool, true, false, _&&_, and-assoc}
-use mathlib.Core.List.{[], _∷_}
-use Prim.Native.Nat.{ℕ, _+_, _≤_}
+-- `rows_of` answers the rows with no ground found: those at the low and those at the high, joined (`Joined`). Assumes
+-- nothing.
+use Prim.Native.Nat.{ℕ}
+use mathlib.Core.Path.{_≡_, refl, ap, _∙_}
+use mathlib.Core.Bool.{cond}
 use native.Mathlib.Omega.{arith}
-use lib.Dec.{leb}
-use lib.ListN.{length}
+use lib.Dec.{eqb}
+use borrow.Author.Tests.{eq-eqb, ne-eqb}
 use borrow.Author.Needs.{needs}
-use Rattle.logic.proofs.Tests.{T-true, and-where}
-use Rattle.word.specs.Limits.{highestStrike, cents}
-use Rattle.rule.specs.declared.terms.Setting.{Setting}
-use Rattle.rule.specs.Terms.{inHalves, isLong, price}
-use Rattle.rule.specs.Grids.{grounds, gridOf, wingBase}
-use Rattle.rule.specs.Ranges.{rangeOf}
-use Rattle.rule.specs.Ends.{halfEnd, lowEnd, highEnd}
-use Rattle.rule.specs.Judgement.{foundRows}
-use Rattle.rule.proofs.Bound.{standard-ends, dollar-ends, half-ends, wing-ends, two-fifty-ends}
+use Rattle.rule.specs.Judgement.{rowsAt, eitherRows}
+use Rattle.rule.proofs.Rows.{Joined, none, joined-price, joined-next, joined-all}
 use Rattle.rule.proofs.judgement.rows_of.Statement.{statement}
 use Rattle.rule.proofs.judgement.rows_of.Tie as tie
 
--- grid and range of each ground, by the ends
-module _ (s : Setting) (h : ℕ) where
-  abbrev between : Bool
-  between = leb (lowEnd (price s)) h && leb h (highEnd s)
+abbrev Inv-loop : tie.InvT-loop
+Inv-loop s strike high p₀ rows₀ p rows = Joined s (strike .0) p rows
 
-  standard-row : h ≤ highestStrike → (gridOf s 0 h && between) ≡ (gridOf s 0 h && rangeOf s 0 h)
-  standard-row most = and-where (gridOf s 0 h) between (rangeOf s 0 h) (λ t. sym (standard-ends s h (T-true _ t) most))
+-- the low is read once
+abbrev μ-loop : tie.MeasureT-loop
+μ-loop s strike high p₀ rows₀ p rows = cond {A = ℕ} (eqb p (s .class .high)) 0 1
 
-  dollar-row : h ≤ highestStrike → (gridOf s 1 h && between) ≡ (gridOf s 1 h && rangeOf s 1 h)
-  dollar-row most = and-where (gridOf s 1 h) between (rangeOf s 1 h) (λ t. sym (dollar-ends s h (T-true _ t) most))
+-- what is joined after the price is read
+is-joined :
+    (q : tie.After-either-rows Inv-loop μ-loop)
+    → let at = q .before .before in
+    let args = at .before .args in
+    q .either-rows .result ≡ eitherRows (at .loop .rows) (rowsAt (args .s) (at .loop .p) (args .strike .0))
+is-joined q =
+    q .either-rows .ensures ∙ ap (eitherRows (q .before .before .loop .rows)) (q .before .rows-at .ensures)
 
-  half-row : (gridOf s 2 h && leb h (halfEnd s)) ≡ (gridOf s 2 h && rangeOf s 2 h)
-  half-row = and-where (gridOf s 2 h) (leb h (halfEnd s)) (rangeOf s 2 h) (λ t. sym (half-ends s h (T-true _ t)))
+loop-holds : tie.Need-loop-holds Inv-loop μ-loop
+loop-holds c = none
 
-  wing-row : {base : ℕ} → base ≡ inHalves (wingBase (cents h)) →
-      (gridOf s 3 h && leb (lowEnd (price s)) base && leb (base + 10) (highEnd s)) ≡ (gridOf s 3 h && rangeOf s 3 h)
-  wing-row {base} e =
-      let low : Bool = leb (lowEnd (price s)) base in
-      let high : Bool = leb (base + 10) (highEnd s) in
-      and-assoc (gridOf s 3 h) low high
-      ∙ and-where (gridOf s 3 h) (low && high) (rangeOf s 3 h) (λ t. sym (wing-ends s h (T-true _ t) ∙ rw e))
+rows-at-requires : tie.Need-rows-at-requires Inv-loop μ-loop
+rows-at-requires c κs =
+    let start = c .before in
+    (start .pre, joined-price (start .args .s) (start .args .strike .0) (c .loop .inv) (start .pre))
 
-  two-fifty-row : h ≤ highestStrike → (gridOf s 4 h && between) ≡ (gridOf s 4 h && rangeOf s 4 h)
-  two-fifty-row most =
-      and-where (gridOf s 4 h) between (rangeOf s 4 h) (λ t. sym (two-fifty-ends s h (T-true _ t) most))
+either-rows-requires : tie.Need-either-rows-requires Inv-loop μ-loop
+either-rows-requires c κs = search needs
 
-  -- where the expiration is long Dollar, Half and ground 4 are empty
-  long-rows : {base : ℕ} → isLong s ≡ true → h ≤ highestStrike → base ≡ inHalves (wingBase (cents h)) →
-      (gridOf s 0 h ∷ (gridOf s 0 h && between) ∷ false ∷ []) ∷ (false ∷ false ∷ false ∷ [])
-      ∷ (false ∷ false ∷ false ∷ [])
-      ∷ (gridOf s 3 h ∷ (gridOf s 3 h && leb (lowEnd (price s)) base && leb (base + 10) (highEnd s)) ∷ false ∷ [])
-      ∷ (false ∷ false ∷ false ∷ []) ∷ []
-      ≡ foundRows s h (length grounds)
-  long-rows long most e = rw (standard-row most, wing-row e, long)
-
-cents-requires : tie.Need-cents-requires
-cents-requires c κs = search needs
-
-low-end-requires : tie.Need-low-end-requires
-low-end-requires c κs = search needs
-
-high-end-requires : tie.Need-high-end-requires
-high-end-requires c κs = search needs
-
-on-standard-requires : tie.Need-on-standard-requires
-on-standard-requires c κs = search needs
-
-is-long-requires : tie.Need-is-long-requires
-is-long-requires c κs = search needs
-
-on-wing-requires : tie.Need-on-wing-requires
-on-wing-requires c κs = search needs
-
-mul-base : tie.Need-mul-base
-mul-base c = search needs
-
-add-t17 : tie.Need-add-t17
-add-t17 c = search needs
-
-returns : tie.Need-returns
+returns : tie.Need-returns Inv-loop μ-loop
 returns c =
-    let long = c .before .before in
-    let standard = long .before in
-    let high = standard .before in
-    let low = high .before in
-    let cents = low .before in
-    let start = cents .before in
-    let args = start .args in
-    rw (
-      c .on-wing .ensures,
-      standard .on-standard .ensures,
-      high .high-end .ensures,
-      low .low-end .ensures,
-      cents .cents .ensures,
-    )
-    (long-rows (args .s) (args .strike .0) (sym (long .is-long .ensures) ∙ c .before .if1 .taken) (start .pre .strike)
-    (omega arith))
+    let joined = c .before in
+    let s = joined .before .before .before .args .s in
+    is-joined joined ∙ joined-all s _ (joined .before .before .loop .inv) (c .if1 .taken)
 
-on-dollar-requires : tie.Need-on-dollar-requires
-on-dollar-requires c κs = search needs
+loop-less : tie.Need-loop-less Inv-loop μ-loop
+loop-less c =
+    let at = c .before .before .before in
+    let high = at .before .args .s .class .high in
+    rw (eq-eqb high high refl, ne-eqb (at .loop .p) high (c .if1 .left)) (omega arith)
 
-on-half-requires : tie.Need-on-half-requires
-on-half-requires c κs = search needs
-
-on-two-fifty-requires : tie.Need-on-two-fifty-requires
-on-two-fifty-requires c κs = search needs
-
-half-end-requires : tie.Need-half-end-requires
-half-end-requires c κs = search needs
-
-returns-2 : tie.Need-returns-2
-returns-2 c =
-    let two-fifty = c .before in
-    let half = two-fifty .before in
-    let dollar = half .before in
-    let long = dollar .before .before in
-    let standard = long .before in
-    let high = standard .before in
-    let low = high .before in
-    let cents = low .before in
-    let start = cents .before in
-    let args = start .args in
-    let most = start .pre .strike in
-    rw (
-      c .half-end .ensures,
-      two-fifty .on-two-fifty .ensures,
-      half .on-half .ensures,
-      dollar .on-dollar .ensures,
-      standard .on-standard .ensures,
-      high .high-end .ensures,
-      low .low-end .ensures,
-      cents .cents .ensures,
-      standard-row (args .s) (args .strike .0) most,
-      dollar-row (args .s) (args .strike .0) most,
-      half-row (args .s) (args .strike .0),
-      two-fifty-row (args .s) (args .strike .0) most,
-      sym (long .is-long .ensures) ∙ dollar .before .if1 .left,
-    )
+loop-again : tie.Need-loop-again Inv-loop μ-loop
+loop-again c =
+    let joined = c .before in
+    let s = joined .before .before .before .args .s in
+    rw (is-joined joined) (joined-next s _ (joined .before .before .loop .inv) (c .if1 .left))
 
 pub rows-of-spec : {M : Type 1} → statement M
 rows-of-spec =
     tie.close
     (tie.spec
-    cents-requires
-    low-end-requires
-    high-end-requires
-    on-standard-requires
-    is-long-requires
-    on-wing-requires
-    mul-base
-    add-t17
+    Inv-loop
+    μ-loop
+    loop-holds
+    rows-at-requires
+    either-rows-requires
     returns
-    on-dollar-requires
-    on-half-requires
-    on-two-fifty-requires
-    half-end-requires
-    returns-2)
+    loop-less
+    loop-again)

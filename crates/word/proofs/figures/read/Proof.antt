@@ -1,6 +1,6 @@
 -- `read` gives the figures of a class: each field is what its call gives. Assumes nothing.
-use mathlib.Core.List.{[], _∷_}
 use borrow.Author.Needs.{needs}
+use mathlib.Core.List.{[], _∷_}
 use Rattle.word.proofs.figures.read.Statement.{statement}
 use Rattle.word.proofs.figures.read.Tie as tie
 
@@ -64,9 +64,35 @@ shared-slice-read-key-of-3 c = search needs
 key-of-requires-3 : tie.Need-key-of-requires-3
 key-of-requires-3 c κs = search needs
 
+add-key-of-3 : tie.Need-add-key-of-3
+add-key-of-3 c = search needs
+
+mul-key-of-4 : tie.Need-mul-key-of-4
+mul-key-of-4 c = search needs
+
+shared-slice-read-key-of-4 : tie.Need-shared-slice-read-key-of-4
+shared-slice-read-key-of-4 c = search needs
+
+key-of-requires-4 : tie.Need-key-of-requires-4
+key-of-requires-4 c κs = search needs
+
+add-key-of-4 : tie.Need-add-key-of-4
+add-key-of-4 c = search needs
+
+mul-key-of-5 : tie.Need-mul-key-of-5
+mul-key-of-5 c = search needs
+
+shared-slice-read-key-of-5 : tie.Need-shared-slice-read-key-of-5
+shared-slice-read-key-of-5 c = search needs
+
+key-of-requires-5 : tie.Need-key-of-requires-5
+key-of-requires-5 c κs = search needs
+
 returns : tie.Need-returns
 returns c =
-    let volume = c in
+    let high = c in
+    let low = high .before .before in
+    let volume = low .before .before in
     let close = volume .before .before in
     let number = close .before .before in
     let twoFifty = number .before .before in
@@ -77,6 +103,8 @@ returns c =
       number = number .key-of .ensures i;
       close = close .key-of2 .ensures i;
       volume = volume .key-of3 .ensures i;
+      low = low .key-of4 .ensures i;
+      high = high .key-of5 .ensures i;
       designations = dollar .field-of .ensures i ∷ half .field-of2 .ensures i ∷ twoFifty .field-of3 .ensures i ∷ [];
     }
 
@@ -104,4 +132,12 @@ read-spec =
     mul-key-of-3
     shared-slice-read-key-of-3
     key-of-requires-3
+    add-key-of-3
+    mul-key-of-4
+    shared-slice-read-key-of-4
+    key-of-requires-4
+    add-key-of-4
+    mul-key-of-5
+    shared-slice-read-key-of-5
+    key-of-requires-5
     returns)
