@@ -7,11 +7,11 @@ use mathlib.Core.List.{List, [], _∷_, _++_, map, append-assoc}
 use native.Mathlib.Omega.{arith}
 use lib.Dec.{T, eqb, ltb→lt}
 use borrow.Author.Tests.{eq-eqb, ne-eqb}
-use Rattle.word.specs.Codec.{Word, Head}
+use Rattle.word.specs.Codec.{Word}
 use Rattle.logic.specs.Lists.{every, only}
 use Rattle.book.specs.Facts.{OpenClass, Facts, number, isOpen, classOf, putClass, isBelow, inMonth}
 use Rattle.word.specs.Figures.{figuresWords}
-use Rattle.book.specs.Layout.{strikeWord, expirationUnless, seriesWords, classesWords, used}
+use Rattle.book.specs.Layout.{strikeWord, expirationUnless, seriesWords, classesWords, headWords}
 use Rattle.book.specs.Books.{isClass, isWellFormed}
 use Rattle.book.specs.Views.{class}
 use Rattle.book.specs.Places.{hasExpiration}
@@ -95,14 +95,14 @@ module _ (n : ℕ) (f : Facts) (c : ℕ) (w : T (isWellFormed n f)) (o : T (isOp
 
   -- the words of the book, by a class
   pub class-words :
-      Head (f .now) (used f) ∷ classesWords (f .classes) []
-      ≡ (Head (f .now) (used f) ∷ classesWords (only (isUnder number c) (f .classes)) [])
+      headWords f ++ classesWords (f .classes) []
+      ≡ (headWords f ++ classesWords (only (isUnder number c) (f .classes)) [])
       ++ (figuresWords (class f c .figures) []
       ++ (seriesWords 0 (class f c .series) [] ++ classesWords (only (isOver number c) (f .classes)) []))
   class-words =
       let lower = only (isUnder number c) (f .classes) in
       let upper = only (isOver number c) (f .classes) in
-      ap (λ (l : List Word). Head (f .now) (used f) ∷ l)
+      ap (λ (l : List Word). headWords f ++ l)
       (ap (λ (l : List OpenClass). classesWords l []) class-parts
       ∙ classes-apart lower (class f c ∷ upper) []
       ∙ ap (λ (l : List Word). classesWords lower [] ++ figuresWords (class f c .figures) l)
@@ -111,8 +111,8 @@ module _ (n : ℕ) (f : Facts) (c : ℕ) (w : T (isWellFormed n f)) (o : T (isOp
   -- .. and by an expiration of it
   pub book-words :
       (m : ℕ)
-      → Head (f .now) (used f) ∷ classesWords (f .classes) []
-      ≡ (Head (f .now) (used f) ∷ classesWords (only (isUnder number c) (f .classes)) [])
+      → headWords f ++ classesWords (f .classes) []
+      ≡ (headWords f ++ classesWords (only (isUnder number c) (f .classes)) [])
       ++ (figuresWords (class f c .figures) []
       ++ (seriesWords 0 (only (isUnder monthOf m) (class f c .series)) []
       ++ (expirationUnless (not (hasExpiration c m f)) m []
@@ -123,7 +123,7 @@ module _ (n : ℕ) (f : Facts) (c : ℕ) (w : T (isWellFormed n f)) (o : T (isOp
       class-words
       ∙ ap
       (λ (l : List Word).
-      (Head (f .now) (used f) ∷ classesWords (only (isUnder number c) (f .classes)) [])
+      (headWords f ++ classesWords (only (isUnder number c) (f .classes)) [])
       ++ (figuresWords (class f c .figures) [] ++ (l ++ classesWords (only (isOver number c) (f .classes)) [])))
       (series-words (f .now) m (class f c .series) series-good [])
       ∙ go (hasExpiration c m f)
@@ -138,7 +138,7 @@ module _ (n : ℕ) (f : Facts) (c : ℕ) (w : T (isWellFormed n f)) (o : T (isOp
       late = seriesWords 0 (only (isOver monthOf m) (class f c .series)) []
 
       lower : List Word
-      lower = Head (f .now) (used f) ∷ classesWords (only (isUnder number c) (f .classes)) []
+      lower = headWords f ++ classesWords (only (isUnder number c) (f .classes)) []
 
       figures : List Word
       figures = figuresWords (class f c .figures) []

@@ -17,7 +17,7 @@ use Rattle.word.proofs.Words.{reading-packed}
 use Rattle.word.proofs.RawWords.{figures-legal}
 use Rattle.book.specs.Facts.{Series, OpenClass, Facts, fresh, expirations, wordsTaken, wordsOf}
 use Rattle.word.specs.Figures.{figuresWords}
-use Rattle.book.specs.Layout.{strikeWord, expirationUnless, seriesWords, classesWords, used, layout, Tail, tailOf, addClass, addSeries, setClose, setVolume, addDayPrice, readFrom, factsIn, factsOf}
+use Rattle.book.specs.Layout.{strikeWord, expirationUnless, seriesWords, classesWords, used, headWords, layout, Tail, tailOf, addClass, addSeries, setClose, setVolume, addDayPrice, readFrom, factsIn, factsOf}
 use Rattle.book.specs.Books.{isSeries, isClass, isWellFormed, sameWords, isBook}
 use Rattle.book.proofs.LegalWords.{strike-legal, month-legal}
 
@@ -55,7 +55,7 @@ read-classes (x ∷ xs) rest ends q =
 -- reading the words of any facts, before words that add none, gives the facts back
 pub factsIn-layout :
     (f : Facts) (rest : List Word) → ((q : ℕ) → readFrom q rest ≡ tailOf [] [])
-    → factsIn (Head (f .now) (used f) ∷ classesWords (f .classes) rest) ≡ f
+    → factsIn (headWords f ++ classesWords (f .classes) rest) ≡ f
 factsIn-layout f rest ends =
     ap (λ (t : Tail). record { now = f .now; classes = t .classes }) (read-classes (f .classes) rest ends 0)
 

@@ -9,14 +9,14 @@ use lib.ListN.{length, take, drop, getD, replicate, length-append, length-map}
 use lib.Seq.{take-at, drop-at, getD-append-add}
 use lib.Dec.{T, eqb, ltb}
 use borrow.Author.Tests.{ltb-true, ltb-false, lt-ltb, le-ltb}
-use Rattle.word.specs.Codec.{Word, Head, packed}
+use Rattle.word.specs.Codec.{Word, packed}
 use Rattle.word.specs.Strikes.{marks, isMarkedIn}
 use Rattle.word.proofs.Words.{strike-fields}
 use Rattle.logic.specs.Lists.{every, some, only}
 use Rattle.rule.specs.Spacing.{standingOf}
 use Rattle.book.specs.Facts.{Series, Facts, number, isOpen, isAt, isMarked, inMonth}
 use Rattle.word.specs.Figures.{figuresWords}
-use Rattle.book.specs.Layout.{strikeWord, expirationUnless, seriesWords, classesWords, used, layout}
+use Rattle.book.specs.Layout.{strikeWord, expirationUnless, seriesWords, classesWords, used, headWords, layout}
 use Rattle.book.specs.Books.{isSeries, isWellFormed}
 use Rattle.book.specs.Views.{viewOf, class, isStanding, hasOpenInterest, standingIn}
 use Rattle.book.specs.Places.{hasExpiration, strikesPlace, strikesEnd, strikePlace}
@@ -35,7 +35,7 @@ use Rattle.book.proofs.ClassWords.{series-good, book-words}
 
 module _ (n : ℕ) (f : Facts) where
   abbrev pub bookWords : List Word
-  bookWords = Head (f .now) (used f) ∷ classesWords (f .classes) []
+  bookWords = headWords f ++ classesWords (f .classes) []
 
   pub run-parts :
       (ws mid rest : List Word) → bookWords ≡ ws ++ (mid ++ rest)
@@ -98,7 +98,7 @@ module _ (n : ℕ) (f : Facts) (c m : ℕ) (w : T (isWellFormed n f)) (o : T (is
   -- the words before the strikes of the expiration
   abbrev beforeStrikes : List Word
   beforeStrikes =
-      (Head (f .now) (used f) ∷ classesWords (only (isUnder number c) (f .classes)) [])
+      (headWords f ++ classesWords (only (isUnder number c) (f .classes)) [])
       ++ (figuresWords (class f c .figures) []
       ++ (seriesWords 0 (only (isUnder monthOf m) (class f c .series)) []
       ++ expirationUnless (not (hasExpiration c m f)) m []))

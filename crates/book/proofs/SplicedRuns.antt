@@ -8,7 +8,7 @@ use lib.Dec.{T}
 use lib.ListN.{length, replicate, length-map}
 use Rattle.word.specs.Codec.{Word, Head, packed}
 use Rattle.book.specs.Facts.{Facts}
-use Rattle.book.specs.Layout.{used, layout, factsOf}
+use Rattle.book.specs.Layout.{used, headWords, layout, factsOf}
 use Rattle.book.specs.Books.{isBook}
 use Rattle.book.proofs.Layouts.{book-facts}
 use Rattle.book.proofs.Splices.{Spliced}
@@ -21,7 +21,7 @@ module _
   f = factsOf ws
 
   abbrev pub front : List ℕ
-  front = map packed (Head (f .now) (used f) ∷ s .front)
+  front = map packed (headWords f ++ s .front)
 
   abbrev pub back : List ℕ
   back = map packed (s .back)
@@ -35,8 +35,8 @@ module _
   pub run-was : ws ≡ front ++ (map packed old ++ (back ++ zeros))
   run-was =
       sym (book-facts ws t .1)
-      ∙ run-parts (length ws) f (Head (f .now) (used f) ∷ s .front) old (s .back)
-      (ap (λ (l : List Word). Head (f .now) (used f) ∷ l) (s .was))
+      ∙ run-parts (length ws) f (headWords f ++ s .front) old (s .back)
+      (ap (λ (l : List Word). headWords f ++ l) (s .was))
 
   -- the run after an edit that leaves `count` words used
   pub run-is :
@@ -46,8 +46,8 @@ module _
       ≡ layout (length ws) g
   run-is count e =
       sym
-      (run-parts (length ws) g (Head (g .now) (used g) ∷ s .front) new (s .back)
-      (ap (λ (l : List Word). Head (g .now) (used g) ∷ l) (s .is))
+      (run-parts (length ws) g (headWords g ++ s .front) new (s .back)
+      (ap (λ (l : List Word). headWords g ++ l) (s .is))
       ∙ (λ i.
       map packed (Head (s .month i) (e i) ∷ s .front)
       ++ (map packed new ++ (back ++ replicate (length ws - e i) 0))))

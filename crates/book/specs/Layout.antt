@@ -35,9 +35,13 @@ classesWords (x ∷ xs) rest = figuresWords (x .figures) (seriesWords 0 (x .seri
 abbrev pub used : Facts → ℕ
 used f = firstPlace + length (classesWords (f .classes) [])
 
--- the run of n words: "the head, first"; "Words past those used are zero."
+-- the words before the first class: "the head, first"
+abbrev pub headWords : Facts → List Word
+headWords f = Head (f .now) (used f) ∷ []
+
+-- the run of n words; "Words past those used are zero."
 unfoldable pub layout : ℕ → Facts → List ℕ
-layout n f = map packed (Head (f .now) (used f) ∷ classesWords (f .classes) []) ++ replicate (n - used f) 0
+layout n f = map packed (headWords f ++ classesWords (f .classes) []) ++ replicate (n - used f) 0
 
 -- ---- from words to facts
 

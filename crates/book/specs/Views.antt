@@ -11,7 +11,7 @@ use Rattle.word.specs.Answers.{answerValue}
 use Rattle.rule.specs.declared.terms.Setting.{Setting}
 use Rattle.logic.specs.Lists.{every, some, only}
 use Rattle.word.specs.Limits.{cents}
-use Rattle.rule.specs.Grids.{dollarGround, wingGround}
+use Rattle.word.specs.Grounds.{dollarGround, wingGround}
 use Rattle.rule.specs.Terms.{apart}
 use Rattle.rule.specs.Spacing.{Standing}
 use Rattle.rule.specs.Judgement.{rowsOf, judgement}

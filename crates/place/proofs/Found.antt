@@ -13,12 +13,12 @@ use Rattle.word.proofs.FigureWords.{figures-read}
 use Rattle.word.specs.Limits.{lastMonth, longestRun}
 use Rattle.word.specs.Head.{firstPlace}
 use Rattle.word.specs.Kinds.{keyOf, classKind, expirationKind, strikeKind, kindField}
-use Rattle.word.specs.Codec.{Word, Head, Class, Expiration, isLegal, packed}
+use Rattle.word.specs.Codec.{Word, Class, Expiration, isLegal, packed}
 use Rattle.word.proofs.Words.{legal-fits, kindIn, kind-packed}
 use Rattle.logic.specs.Lists.{every, only, firstAt}
 use Rattle.book.specs.Facts.{Series, OpenClass, Facts, number, isOpen, inMonth}
 use Rattle.word.specs.Figures.{figuresWords, figuresAt, figuresLength}
-use Rattle.book.specs.Layout.{strikeWord, expirationUnless, seriesWords, classesWords, used, factsOf}
+use Rattle.book.specs.Layout.{strikeWord, expirationUnless, seriesWords, classesWords, used, headWords, factsOf}
 use Rattle.book.specs.Books.{isBook}
 use Rattle.book.specs.Views.{viewOf, class, isStanding}
 use Rattle.book.specs.Places.{ClassBegins, classPlace, hasExpiration, expirationPlace, strikePlace}
@@ -106,7 +106,7 @@ module _ (ws : List ℕ) (b : T (isBook ws)) where
       (end : ℕ) → end ≡ used facts
       → take (end - firstPlace) (drop firstPlace ws) ≡ map packed (classesWords (facts .classes) [])
   body end e =
-      rest-part firstPlace end (Head (facts .now) (used facts) ∷ []) (classesWords (facts .classes) []) refl refl e
+      rest-part firstPlace end (headWords facts) (classesWords (facts .classes) []) refl refl e
 
   pub body-short : (end : ℕ) → end ≡ used facts → length (take (end - firstPlace) (drop firstPlace ws)) ≤ longestRun
   body-short end e =
@@ -170,10 +170,10 @@ module _ (ws : List ℕ) (b : T (isBook ws)) where
   class-parted :
       (c : ℕ)
       → bookWords (length ws) facts
-      ≡ (Head (facts .now) (used facts) ∷ classesWords (only (isUnder number c) (facts .classes)) [])
+      ≡ (headWords facts ++ classesWords (only (isUnder number c) (facts .classes)) [])
       ++ classesWords (only (isEqual number c) (facts .classes) ++ only (isOver number c) (facts .classes)) []
   class-parted c =
-      ap (λ (l : List Word). Head (facts .now) (used facts) ∷ l)
+      ap (λ (l : List Word). headWords facts ++ l)
       (two-parts number (classKind .number) (λ xs. classesWords xs []) classes-laid c (facts .classes) (numbers c)
       legal)
 
@@ -187,7 +187,7 @@ module _ (ws : List ℕ) (b : T (isBook ws)) where
       let test : ℕ → Bool = λ w. eqb (keyOf classKind w) c in
       let from =
       classesWords (only (isEqual number c) (facts .classes) ++ only (isOver number c) (facts .classes)) [] in
-      word-there test at (Head (facts .now) (used facts) ∷ classesWords (only (isUnder number c) (facts .classes)) [])
+      word-there test at (headWords facts ++ classesWords (only (isUnder number c) (facts .classes)) [])
       from (class-parted c) (omega (arith, e))
       ∙ ap (begins test) (sym (append-nil from))
       ∙ found number (classKind .number) (λ xs. classesWords xs []) classes-laid c (facts .classes) (numbers c) legal
@@ -198,7 +198,7 @@ module _ (ws : List ℕ) (b : T (isBook ws)) where
 
   module _ (c : ℕ) (o : T (isOpen c (facts .classes))) where
     abbrev lower : List Word
-    lower = Head (facts .now) (used facts) ∷ classesWords (only (isUnder number c) (facts .classes)) []
+    lower = headWords facts ++ classesWords (only (isUnder number c) (facts .classes)) []
 
     abbrev figures : List Word
     figures = figuresWords (class facts c .figures) []

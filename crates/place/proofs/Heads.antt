@@ -2,7 +2,7 @@
 -- word. Assumes nothing.
 use Prim.Native.Nat.{ℕ, _≤_}
 use mathlib.Core.Path.{_≡_, refl, sym}
-use mathlib.Core.List.{List, [], _∷_}
+use mathlib.Core.List.{List, [], _++_}
 use native.Mathlib.Omega.{arith}
 use lib.ListN.{length, getD}
 use lib.Dec.{T, leb→le}
@@ -10,7 +10,7 @@ use Rattle.word.specs.Limits.{lastMonth, longestRun}
 use Rattle.word.specs.Head.{firstPlace, monthIn, usedIn}
 use Rattle.word.specs.Codec.{Head, packed}
 use Rattle.word.proofs.Words.{head-fields}
-use Rattle.book.specs.Layout.{used, layout, factsOf, classesWords}
+use Rattle.book.specs.Layout.{used, headWords, layout, factsOf, classesWords}
 use Rattle.book.specs.Books.{isWellFormed, isBook}
 use Rattle.logic.proofs.Tests.{ands}
 use Rattle.book.proofs.Forms.{Well, well}
@@ -38,7 +38,7 @@ module _ (ws : List ℕ) (b : T (isBook ws)) where
   head-is : getD ws 0 0 ≡ packed (Head (factsOf ws .now) (used (factsOf ws)))
   head-is =
       let f = factsOf ws in
-      let e = run-word (length ws) f 0 0 [] (Head (f .now) (used f) ∷ classesWords (f .classes) []) refl refl in
+      let e = run-word (length ws) f 0 0 [] (headWords f ++ classesWords (f .classes) []) refl refl in
       rw book-is at e
 
   pub book-month : factsOf ws .now ≤ lastMonth

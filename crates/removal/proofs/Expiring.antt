@@ -15,7 +15,7 @@ use Rattle.word.specs.Codec.{Word, Head, packed}
 use Rattle.logic.specs.Lists.{every, firstAt}
 use Rattle.book.specs.Facts.{OpenClass, Facts}
 use Rattle.word.specs.Figures.{figuresWords, figuresLength}
-use Rattle.book.specs.Layout.{classesWords, used, layout, factsOf}
+use Rattle.book.specs.Layout.{classesWords, used, headWords, layout, factsOf}
 use Rattle.book.specs.Books.{isClass, isBook}
 use Rattle.book.specs.Changes.{monthSet}
 use Rattle.logic.proofs.Tests.{ands}
@@ -37,7 +37,7 @@ module _ (m : ℕ) (ws : List ℕ) where
 
   -- the old head, and the words that stay
   abbrev whole : List ℕ
-  whole = packed (Head (facts .now) (used facts)) ∷ left (facts .classes)
+  whole = map packed (headWords facts) ++ left (facts .classes)
 
   -- the index after the figures of a class
   abbrev listed : ℕ → ℕ
@@ -66,11 +66,11 @@ module _ (m : ℕ) (ws : List ℕ) where
   pub expire-start : T (isBook ws) → Expiring ws firstPlace firstPlace firstPlace
   expire-start book =
       let words = classesWords (facts .classes) [] in
-      let first : take firstPlace ws ≡ packed (Head (facts .now) (used facts)) ∷ [] =
+      let first : take firstPlace ws ≡ map packed (headWords facts) =
       ap (take firstPlace)
       (sym (book-is ws book)
-      ∙ run-parts (length ws) facts (Head (facts .now) (used facts) ∷ []) words []
-      (ap (λ (l : List Word). Head (facts .now) (used facts) ∷ l) (sym (append-nil words)))) in
+      ∙ run-parts (length ws) facts (headWords facts) words []
+      (ap (λ (l : List Word). headWords facts ++ l) (sym (append-nil words)))) in
       record {
         long = refl;
         begun = omega arith;
@@ -270,7 +270,7 @@ module _ (m : ℕ) (ws : List ℕ) where
     expire-done book end e l run′ r long M count zs z =
         let n = length ws in
         let g = monthSet m facts in
-        let words = Head (facts .now) (used facts) ∷ classesWords (facts .classes) [] in
+        let words = headWords facts ++ classesWords (facts .classes) [] in
         let passed = E .passed in
         let within = E .within in
         let behind = E .behind in

@@ -13,7 +13,7 @@ use Rattle.logic.proofs.Tests.{ands}
 use Rattle.logic.proofs.Lists.{every-true, only-same}
 use Rattle.logic.proofs.Parts.{only-both}
 use Rattle.word.specs.Limits.{isClassNumber, cents}
-use Rattle.rule.specs.Grids.{dollarGround, wingGround}
+use Rattle.word.specs.Grounds.{dollarGround, wingGround}
 use Rattle.rule.specs.Terms.{apart}
 use Rattle.book.specs.Facts.{Series, OpenClass, Facts, number, isOpen, isMarked, withSeries}
 use Rattle.book.specs.Layout.{layout, factsOf}

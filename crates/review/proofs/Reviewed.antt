@@ -12,7 +12,7 @@ use borrow.Author.Tests.{le-leb, lt-ltb}
 use Rattle.logic.specs.Lists.{every, only}
 use Rattle.word.specs.Limits.{highestStrike, cents}
 use Rattle.word.specs.Kinds.{strikeKind}
-use Rattle.rule.specs.Grids.{dollarGround, wingGround}
+use Rattle.word.specs.Grounds.{dollarGround, wingGround}
 use Rattle.rule.specs.Terms.{apart}
 use Rattle.book.specs.Facts.{Series, OpenClass, isMarked}
 use Rattle.book.specs.Books.{isSeries}

@@ -4,7 +4,7 @@ use Prim.Native.Nat.{ℕ}
 use mathlib.Core.Path.{_≡_, refl}
 use mathlib.Core.List.{[], _∷_, map}
 use Rattle.word.specs.Codec.{Expiration, Strike, packed}
-use Rattle.rule.specs.Grids.{dollarGround, standardGround}
+use Rattle.word.specs.Grounds.{dollarGround, standardGround}
 use Rattle.book.specs.Facts.{Series, OpenClass}
 use Rattle.review.specs.ReviewSteps.{goneCount, wordsAfter}
 

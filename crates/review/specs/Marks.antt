@@ -11,7 +11,7 @@ use Rattle.word.specs.Kinds.{kindOf, strikeKind}
 use Rattle.word.specs.Codec.{Word, Head, Class, Close, Volume, Expiration, Strike, DayPrice, Invalid, fieldsAs}
 use Rattle.word.specs.Strikes.{marks}
 use Rattle.word.specs.Limits.{halfDollar}
-use Rattle.rule.specs.Grids.{dollarGround, wingGround}
+use Rattle.word.specs.Grounds.{dollarGround, wingGround}
 use Rattle.book.specs.Facts.{Series, isMarked}
 use Rattle.book.specs.Views.{reviewDistance}
 use Rattle.review.specs.declared.marks.Bounds.{Bounds}

@@ -20,7 +20,8 @@ use Rattle.rule.specs.declared.terms.Setting.{Setting}
 use Rattle.word.specs.Limits.{halfDollar, cents}
 use Rattle.rule.specs.Terms.{isLong, apart}
 use Rattle.rule.specs.Ends.{reachOf}
-use Rattle.rule.specs.Grids.{oneDollar, dollarGround, grounds}
+use Rattle.word.specs.Grounds.{dollarGround}
+use Rattle.rule.specs.Grids.{oneDollar, grounds}
 use Rattle.rule.specs.Ranges.{onGrid, inRange}
 use Rattle.rule.specs.Spacing.{Standing, standingOf, crowds, countsAsStandard, clears, spacingOf}
 use Rattle.word.specs.Answers.{isAccepted}

@@ -6,6 +6,7 @@ use mathlib.Core.List.{List, [], _∷_}
 use lib.Dec.{leb, ltb, eqb}
 use Rattle.word.specs.declared.class.ClassRecord.{ClassRecord}
 use Rattle.rule.specs.declared.terms.Setting.{Setting}
+use Rattle.word.specs.Grounds.{standardGround, dollarGround, halfGround, wingGround, twoFiftyGround}
 use Rattle.word.specs.Programs.{dollarPrice, halfPrice, halfVolume}
 use Rattle.word.specs.Limits.{halfDollar, cents}
 use Rattle.rule.specs.Terms.{isDollarClass, isHalfClass, isLong, isNear, hasTwoFifties, apart}
@@ -117,22 +118,7 @@ twoFifties p k =
 abbrev pub twoFiftyGrid : Setting → ℕ → Bool
 twoFiftyGrid s k = hasTwoFifties s && (twoFifties (s .class .close) k && not (isBarred (s .class) k))
 
--- "Four grounds, each with its own grid", and #101: "This is ground 4, tried after Wing": their numbers
-abbrev pub standardGround : ℕ
-standardGround = 0
-
-abbrev pub dollarGround : ℕ
-dollarGround = 1
-
-abbrev pub halfGround : ℕ
-halfGround = 2
-
-abbrev pub wingGround : ℕ
-wingGround = 3
-
-abbrev pub twoFiftyGround : ℕ
-twoFiftyGround = 4
-
+-- "Four grounds, each with its own grid", and #101: "This is ground 4, tried after Wing"
 abbrev pub grounds : List ℕ
 grounds = standardGround ∷ dollarGround ∷ halfGround ∷ wingGround ∷ twoFiftyGround ∷ []
 

@@ -10,7 +10,8 @@ use Rattle.rule.specs.declared.terms.Setting.{Setting}
 use Rattle.logic.specs.Lists.{every}
 use Rattle.word.specs.Limits.{halfDollar, cents}
 use Rattle.rule.specs.Terms.{isLong, apart}
-use Rattle.rule.specs.Grids.{oneDollar, twoFifty, fiveDollars, standardGround, dollarGround, twoFiftyGround}
+use Rattle.word.specs.Grounds.{standardGround, dollarGround, twoFiftyGround}
+use Rattle.rule.specs.Grids.{oneDollar, twoFifty, fiveDollars}
 
 -- a strike that stands, in half dollars, and its ground
 pub record Standing : Type 0 where

@@ -28,15 +28,6 @@ use word::programs::HALF_VOLUME;
 use word::strike::HALF_DOLLAR;
 use word::strike::Strike;
 
-// The numbers of the grounds that rules name.
-pub const STANDARD_GROUND: u32 = 0;
-
-pub const DOLLAR_GROUND: u32 = 1;
-
-pub const WING_GROUND: u32 = 3;
-
-pub const TWO_FIFTY_GROUND: u32 = 4;
-
 fn on_ladder(k: u32) -> bool
     ensures { λ r. ⌜ r ≡ ladder k ⌝ }
 {

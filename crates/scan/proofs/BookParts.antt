@@ -17,7 +17,7 @@ use Rattle.word.specs.Codec.{Head, isLegal, packed}
 use Rattle.word.specs.Limits.{isLength, isMonth, longestRun, lastMonth}
 use Rattle.word.specs.Field.{end}
 use Rattle.book.specs.Facts.{OpenClass, Facts, number, wordsTaken}
-use Rattle.book.specs.Layout.{classesWords, used, layout, factsOf}
+use Rattle.book.specs.Layout.{classesWords, used, headWords, layout, factsOf}
 use Rattle.book.specs.Books.{isClass, isWellFormed, isBook}
 use Rattle.word.proofs.Words.{head-fields}
 use Rattle.word.proofs.RawWords.{fits, bare, head-packed, head-bare}
@@ -59,8 +59,8 @@ numbered now (x ∷ xs) legal = search ands depth 12
 module _ (ws : List ℕ) (f : Facts) (good : T (isWellFormed (length ws) f)) (laid : layout (length ws) f ≡ ws) where
   words :
       ws
-      ≡ packed (Head (f .now) (used f)) ∷
-      (map packed (classesWords (f .classes) []) ++ replicate (length ws - used f) 0)
+      ≡ map packed (headWords f)
+      ++ (map packed (classesWords (f .classes) []) ++ replicate (length ws - used f) 0)
   unfolding layout
   words = sym laid
 

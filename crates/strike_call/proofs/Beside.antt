@@ -11,13 +11,13 @@ use lib.Seq.{getD-take, getD-drop, length-take-le}
 use borrow.Author.Tests.{ltb-true, ltb-false, lt-ltb, le-ltb, eq-eqb, ne-eqb}
 use Rattle.word.specs.Limits.{lastMonth, longestRun}
 use Rattle.word.specs.Kinds.{kindOf, isOfKind, strikeKind}
-use Rattle.word.specs.Codec.{Word, Head, Class, Expiration, isLegal, packed}
+use Rattle.word.specs.Codec.{Word, Class, Expiration, isLegal, packed}
 use Rattle.word.proofs.Words.{legal-fits, kindIn, kind-packed}
 use Rattle.logic.specs.Lists.{every, only}
 use Rattle.book.proofs.Layouts.{seriesWords-append}
 use Rattle.book.specs.Facts.{Series, OpenClass, number, isOpen, inMonth}
 use Rattle.word.specs.Figures.{figuresWords}
-use Rattle.book.specs.Layout.{strikeWord, expirationUnless, seriesWords, classesWords, used, factsOf}
+use Rattle.book.specs.Layout.{strikeWord, expirationUnless, seriesWords, classesWords, used, headWords, factsOf}
 use Rattle.book.specs.Books.{isSeries, isBook}
 use Rattle.book.specs.Views.{class}
 use Rattle.book.specs.Places.{hasExpiration, strikesPlace, strikesEnd}
@@ -128,7 +128,7 @@ module _ (w : List ℕ) (book : T (isBook w)) (c m : ℕ) (o : T (isOpen c (fact
   -- the words of the book before the expiration, and those after its strikes
   abbrev before : List Word
   before =
-      (Head (factsOf w .now) (used (factsOf w)) ∷ classesWords (only (isUnder number c) (factsOf w .classes)) [])
+      (headWords (factsOf w) ++ classesWords (only (isUnder number c) (factsOf w .classes)) [])
       ++ (figuresWords (class (factsOf w) c .figures) []
       ++ seriesWords 0 (only (isUnder monthOf m) (class (factsOf w) c .series)) [])
 

@@ -1,3 +1,4 @@
+pub mod Grounds
 pub mod Limits
 pub mod Field
 pub mod Programs

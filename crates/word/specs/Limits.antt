@@ -3,6 +3,7 @@
 use Prim.Native.Nat.{ℕ, _+_, _*_, min}
 use mathlib.Core.Bool.{Bool, _&&_, _||_}
 use lib.Dec.{leb, eqb}
+use Rattle.word.specs.Grounds.{twoFiftyGround}
 
 abbrev pub between : ℕ → ℕ → ℕ → Bool
 between low high n = leb low n && leb n high
@@ -83,7 +84,7 @@ areDayPrices low close high =
 
 -- "ground in 15–17 (0 to 3)", and #101: "This is ground 4"
 abbrev pub highestGround : ℕ
-highestGround = 4
+highestGround = twoFiftyGround
 
 abbrev pub isGround : ℕ → Bool
 isGround g = leb g highestGround

@@ -6,6 +6,7 @@ pub mod class;
 pub mod codec;
 pub mod field;
 pub mod figures;
+pub mod grounds;
 pub mod head;
 pub mod kind;
 pub mod limits;

@@ -20,8 +20,6 @@ const LONGEST_RUN: usize = 65535;
 
 const HIGHEST_DESIGNATION: u32 = 2;
 
-pub const HIGHEST_GROUND: u32 = 4;
-
 // A price in cents.
 pub fn is_price(p: u32) -> bool
     ensures { λ r. ⌜ r ≡ isPrice p ⌝ }

@@ -5,11 +5,11 @@ ghost use Rattle.word.specs.Limits.{cents};
 ghost use Rattle.word.specs.Strikes.{isMarkedIn, signed, orderOf, unmarked, isNextStrike, isFirstStrike};
 use crate::field::Field;
 use crate::field::field_of;
+use crate::grounds::HIGHEST_GROUND;
 use crate::kind::KINDRED;
 use crate::kind::STRIKE;
 use crate::kind::key_of;
 use crate::kind::kind_of;
-use crate::limits::HIGHEST_GROUND;
 use std::num::wrapping_add_u32;
 
 // What a strike is counted in, in cents.

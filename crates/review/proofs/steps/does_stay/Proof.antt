@@ -4,7 +4,7 @@ use mathlib.Core.Bool.{Bool, not, _&&_, _||_}
 use lib.Dec.{eqb}
 use borrow.Author.Needs.{needs}
 use borrow.Author.Tests.{not-true, not-false}
-use Rattle.rule.specs.Grids.{dollarGround, wingGround}
+use Rattle.word.specs.Grounds.{dollarGround, wingGround}
 use Rattle.review.proofs.steps.does_stay.Statement.{statement}
 use Rattle.review.proofs.steps.does_stay.Tie as tie
 
