@@ -18,12 +18,13 @@
  * long when it is 9 months or more after the current month, and near otherwise.
  *
  * RUNS
- * A book lives in a run of 1 to 65,535 words of 32 bits that the caller lends for each call and
+ * A book lives in a run of 4 to 65,535 words of 32 bits that the caller lends for each call and
  * keeps: an array, a mapped file, any memory. strike_book_fresh makes a book of any run, and
  * strike_book_compare_lists of any two of one length. Every other call may be made on any words at
- * all: where they are no book it answers STRIKE_BOOK_NOT_A_BOOK and changes nothing. A book may be
- * copied, stored and lent again; to move it to a run of another length, the words past those used
- * must be zero there too.
+ * all: where they are no book it answers STRIKE_BOOK_NOT_A_BOOK and changes nothing, except that
+ * strike_book_read_known_counter does not ask whether they are one. A book may be copied, stored
+ * and lent again; to move it to a run of another length, the words past those used must be zero
+ * there too.
  *
  * What the caller owes:
  *   - A pointer is not null, is aligned for its type, and is valid for as many elements as its
@@ -40,7 +41,8 @@
  * that apply the first is given, in the order of enum strike_book_number, which is not everywhere
  * that of the numbers. A refusal changes no word of any run, and its value is 0, except where
  * strike_book_list_permitted is refused with STRIKE_BOOK_OUT_OF_WORDS. The value of an accepted
- * call is said with the call, and is 0 where nothing is said.
+ * call is said with the call, and is 0 where nothing is said. Where a counter is read, two counts
+ * stand in the place of the value, both 0 in a refusal.
  *
  * THE WORDS OF A BOOK, for readers
  * Bits 28 to 31 are a word's kind, bit 0 is the lowest, and bits that are not named are 0.
@@ -54,8 +56,13 @@
  *   6 strike       half dollars in bits 0 to 14, ground in 15 to 17, put mark in 18, call mark
  *                  in 19
  *   7 low or high  bits 0 to 19, 0 where no close has come
- * The head comes first. Classes rise by number, the expirations of a class by month, the strikes of
- * an expiration by height, none twice. Where a class has a close, its low is at least 1 and at most
+ *   8 counter      of a program: its classes of our own in bits 0 to 7, the standing strikes on its
+ *                  grounds in 8 to 23
+ * The head comes first, then the counters of the $1, the $0.50 and the $2.50 program, then the
+ * classes. The counters are true: over all classes, a class counts by its designation 1, and a
+ * strike by its own ground (see enum strike_book_program), whatever the designations of its class
+ * are now. Classes rise by number, the expirations of a class by month, the strikes of an
+ * expiration by height, none twice. Where a class has a close, its low is at least 1 and at most
  * the close, and its high at least the close. Expirations lie from the current month to 39 months
  * after it. Words past those used are 0.
  */
@@ -73,8 +80,8 @@ extern "C" {
 /* The number of an answer. Refusals stand in the order in which they are tested. */
 enum strike_book_number {
     STRIKE_BOOK_ACCEPTED = 0,
-    /* The run is no book; or strike_book_fresh or strike_book_compare_lists was lent a run of no
-     * word or of more than 65,535, or the second of these two runs of two lengths. */
+    /* The run is no book; or strike_book_fresh or strike_book_compare_lists was lent a run of fewer
+     * than 4 words or of more than 65,535, or the second of these two runs of two lengths. */
     STRIKE_BOOK_NOT_A_BOOK = 1,
     /* A number is beyond its limits, or a line of a sheet is malformed. */
     STRIKE_BOOK_BEYOND_LIMITS = 2,
@@ -140,7 +147,9 @@ enum strike_book_ground {
     STRIKE_BOOK_TWO_FIFTY = 4
 };
 
-/* The $1, the $0.50 and the $2.50 program. A class is in a program with designation 1 or 2. */
+/* The $1, the $0.50 and the $2.50 program. A class is in a program with designation 1 or 2. The
+ * grounds of the $1 program are DOLLAR and WING, that of the $0.50 program is HALF, that of the
+ * $2.50 program TWO_FIFTY; STANDARD is no program's. */
 enum strike_book_program {
     STRIKE_BOOK_DOLLAR_PROGRAM = 1,
     STRIKE_BOOK_HALF_PROGRAM = 2,
@@ -160,13 +169,20 @@ typedef struct strike_book_reply {
     uint32_t value;
 } strike_book_reply;
 
-/* Whether the run is a book: it has the form above with every field in its limits, at most 150
- * classes of our own in the $1 program, at most 20 in the $0.50 program and at most 60 in the
- * $2.50 program. */
+/* An answer with the two counts of a program; both are 0 in a refusal. */
+typedef struct strike_book_counter_reply {
+    uint32_t number;      /* an enum strike_book_number */
+    uint32_t own_classes; /* the classes of our own in the program */
+    uint32_t strikes;     /* the standing strikes on the program's grounds */
+} strike_book_counter_reply;
+
+/* Whether the run is a book: it has the form above with every field in its limits and counters that
+ * are true, at most 150 classes of our own in the $1 program, at most 20 in the $0.50 program and
+ * at most 60 in the $2.50 program. */
 bool strike_book_is_book(const uint32_t *run, size_t run_length);
 
-/* Makes a fresh book of the run, whatever it holds: current month 0 and no class. Refuses
- * NOT_A_BOOK where the length is 0 or above 65,535. */
+/* Makes a fresh book of the run, whatever it holds: current month 0 and no class. It takes 4 words.
+ * Refuses NOT_A_BOOK where the length is below 4 or above 65,535. */
 strike_book_reply strike_book_fresh(uint32_t *run, size_t run_length);
 
 /* Sets the current month, and removes the strikes of earlier months. The present month again is
@@ -242,6 +258,21 @@ strike_book_reply strike_book_list_permitted(const uint32_t *run, size_t run_len
                                              uint32_t *second, size_t second_length,
                                              uint32_t class_number, uint32_t month);
 
+/* Reads the counter of a program: how many classes of our own it has, and how many strikes stand on
+ * its grounds, over all classes and whatever their designations are now. It walks the run to test
+ * whether it is a book. Refuses NOT_A_BOOK, BEYOND_LIMITS. */
+strike_book_counter_reply strike_book_read_counter(const uint32_t *run, size_t run_length,
+                                                   uint32_t program);
+
+/* Answers what strike_book_read_counter does, at a constant cost, where the run is a book: for
+ * callers who know that it is, because strike_book_fresh made it or strike_book_is_book found it
+ * one, and since then only calls on this book have written it. On any other words it is safe too,
+ * and says only what stands there: it refuses NOT_A_BOOK where the run has fewer than 4 words, then
+ * BEYOND_LIMITS where the program is none, and else accepts with what the bits of that program's
+ * counter word hold, whether they are true or not. */
+strike_book_counter_reply strike_book_read_known_counter(const uint32_t *run, size_t run_length,
+                                                         uint32_t program);
+
 /* Reads a whole sheet, bytes of text with one call a line, makes the calls in turn, and returns how
  * many lines there are. A line is a letter and its numbers in base ten without leading zeros, with
  * single spaces between, and ends in the byte 10, which the last line may lack:
@@ -265,8 +296,8 @@ size_t strike_book_run_sheet(uint32_t *run, size_t run_length, uint32_t *second,
  * when the same facts stand in both (the current month; each open class with its close, its low,
  * its high, its volume, its designations and its strikes), and 0 where the books differ. `left` is
  * then the book that `calls` leaves, and `right` the book that `others` leaves. The answers of the
- * calls in the lists are not told. Refuses NOT_A_BOOK where a length is 0 or above 65,535, or the
- * two runs have not the same length; then nothing is written.
+ * calls in the lists are not told. Refuses NOT_A_BOOK where the length of a run is below 4 or above
+ * 65,535, or the two runs have not the same length; then nothing is written.
  *
  * A list of calls is words, eight a call, for any number of calls:
  *   word 0        the letter of the call, as a sheet writes it, in ASCII: 77 is M

@@ -1,5 +1,7 @@
-/* Makes document 01's sample calls, and prints what the sheet program prints for them. Then makes
- * them as two lists, one without its refusals: both leave the same book, or the exit is 1. */
+/* Makes document 01's sample calls, and prints what the sheet program prints for them, then number,
+ * own classes and strikes of the $1 program's counter before the first listing and after the last.
+ * Then makes them as two lists, one without its refusals: both leave the same book, or the exit
+ * is 1. */
 #include <inttypes.h>
 #include <stdio.h>
 #include <string.h>
@@ -45,6 +47,11 @@ static void print_permitted(strike_book_reply reply)
     printf("\n");
 }
 
+static void print_counter(strike_book_counter_reply reply)
+{
+    printf("%" PRIu32 " %" PRIu32 " %" PRIu32 "\n", reply.number, reply.own_classes, reply.strikes);
+}
+
 static bool same_book_by_lists(void)
 {
     strike_book_reply reply =
@@ -63,8 +70,13 @@ int main(void)
     print_number(strike_book_designate(book, 4096, 7, STRIKE_BOOK_DOLLAR_PROGRAM,
                                        STRIKE_BOOK_OURS));
     print_permitted(strike_book_list_permitted(book, 4096, second, 512, 7, 5));
+    strike_book_counter_reply before =
+        strike_book_read_counter(book, 4096, STRIKE_BOOK_DOLLAR_PROGRAM);
     print_ground(strike_book_list_strike(book, 4096, 7, 5, 14));
     print_ground(strike_book_list_strike(book, 4096, 7, 5, 16));
     print_ground(strike_book_list_strike(book, 4096, 7, 5, 14));
+    print_counter(before);
+    /* The calls have kept it a book, so it needs no test. */
+    print_counter(strike_book_read_known_counter(book, 4096, STRIKE_BOOK_DOLLAR_PROGRAM));
     return same_book_by_lists() ? 0 : 1;
 }

@@ -1,6 +1,6 @@
 //! Answers: the value of an accepted call, or a refusal.
 
-use crate::library::Reply;
+use crate::library::{CounterReply, Reply};
 use std::fmt;
 
 /// The ground on which a strike is listed.
@@ -18,6 +18,17 @@ pub enum Ground {
     /// Multiples of $2.50 above $25 and below $50 (in the $1 program only of $5), and from $50 to $100 those
     /// at most $10 from the close: near expirations, $2.50 program.
     TwoFifty = 4,
+}
+
+/// What a book counts of a program.
+#[derive(Clone, Copy, Debug, PartialEq, Eq)]
+pub struct Counter {
+    /// The classes of our own in the program: those that count against its cap.
+    pub own_classes: u32,
+    /// The standing strikes on the program's grounds, over all classes and whatever their
+    /// designations are now: [`Ground::Dollar`] and [`Ground::Wing`] for the $1 program,
+    /// [`Ground::Half`] for the $0.50 program, [`Ground::TwoFifty`] for the $2.50 program.
+    pub strikes: u32,
 }
 
 /// Why a call was refused. Of several reasons it is the one that stands first here.
@@ -164,4 +175,24 @@ pub(crate) fn ground(reply: Reply) -> Result<Ground, Refusal> {
         4 => Ground::TwoFifty,
         _ => unreachable!("no ground has the number {value}"),
     })
+}
+
+/// A counter that was read.
+pub(crate) fn counter(reply: CounterReply) -> Result<Counter, Refusal> {
+    done(Reply {
+        number: reply.number,
+        value: 0,
+    })?;
+    Ok(Counter {
+        own_classes: reply.own_classes,
+        strikes: reply.strikes,
+    })
+}
+
+/// The counter of a run that is a book, which is never refused.
+pub(crate) fn known_counter(reply: CounterReply) -> Counter {
+    match counter(reply) {
+        Ok(counter) => counter,
+        Err(refusal) => unreachable!("a book has a counter for each program: {refusal}"),
+    }
 }

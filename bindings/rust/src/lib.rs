@@ -1,13 +1,13 @@
 //! The strike book: which strike prices may be listed on individual stocks, by functions that are
 //! proved for every input (`include/strikebook.h` says what each means).
 //!
-//! A book lives in a run of 1 to 65,535 words that the caller lends. Classes are numbered 1 to
+//! A book lives in a run of 4 to 65,535 words that the caller lends. Classes are numbered 1 to
 //! 16,383, months 0 to 1,023, prices are in cents (1 to 999,999), volumes in contracts a day (0 to
 //! 9,999,999) and strikes in half dollars (1 to 19,999: 25 is $12.50). Any other number is refused
 //! with [`Refusal::BeyondLimits`]. A refused call changes nothing.
 //!
 //! ```
-//! use strikebook::{Book, Designation, Ground, Program, Refusal};
+//! use strikebook::{Book, Counter, Designation, Ground, Program, Refusal};
 //!
 //! let mut run = [0; 4096];
 //! let mut second = [0; 512];
@@ -20,6 +20,7 @@
 //! assert_eq!(book.list_strike(7, 5, 14), Ok(Ground::Dollar));
 //! assert_eq!(book.list_strike(7, 5, 16), Err(Refusal::OutOfRange));
 //! assert_eq!(book.list_strike(7, 5, 14), Err(Refusal::AlreadyStanding));
+//! assert_eq!(book.counter(Program::Dollar), Counter { own_classes: 1, strikes: 1 });
 //! # Ok::<(), Refusal>(())
 //! ```
 #![warn(missing_docs)]
@@ -29,9 +30,9 @@ pub mod library;
 #[cfg(test)]
 mod tests;
 
-pub use answer::{Ground, Refusal};
+pub use answer::{Counter, Ground, Refusal};
 
-use answer::{accepted, done, equal, ground};
+use answer::{accepted, counter, done, equal, ground, known_counter};
 
 /// A program that gives its classes more strikes.
 #[derive(Clone, Copy, Debug, PartialEq, Eq)]
@@ -60,6 +61,12 @@ pub fn is_book(run: &[u32]) -> bool {
     library::is_book(run)
 }
 
+/// Reads the counter of a program over any words, or refuses with [`Refusal::NotABook`]. It asks
+/// whether the run is a book; [`Book::counter`] has no need to.
+pub fn read_counter(run: &[u32], program: Program) -> Result<Counter, Refusal> {
+    counter(library::read_counter(run, program as u32))
+}
+
 /// A call of a list for [`compare_lists`]: its letter as a sheet writes it, its numbers, and the
 /// length of the second run that it is lent.
 pub type CallRecord = [u32; 8];
@@ -73,8 +80,8 @@ pub type CallRecord = [u32; 8];
 /// of the twelve, or another count of numbers, is a malformed line, which changes nothing. Each `A`
 /// writes to the front of the pool, and is lent as many of its words as it asks for, or all.
 ///
-/// [`Refusal::NotABook`] where the runs have no word, more than 65,535, or not the same length;
-/// then nothing is written.
+/// [`Refusal::NotABook`] where the runs have fewer than 4 words, more than 65,535, or not the same
+/// length; then nothing is written.
 ///
 /// ```
 /// use strikebook::{compare_lists, Refusal};
@@ -98,7 +105,7 @@ pub fn compare_lists(
     equal(library::compare_lists(left, right, pool, calls, others))
 }
 
-/// A book in a lent run of words.
+/// A book in a lent run of words. It stays one: as long as this lives, only its calls write the run.
 #[derive(Debug)]
 pub struct Book<'a> {
     run: &'a mut [u32],
@@ -106,7 +113,7 @@ pub struct Book<'a> {
 
 impl<'a> Book<'a> {
     /// Makes a fresh book of the run, whatever it holds: current month 0 and no class.
-    /// [`Refusal::NotABook`] where the run has no word or more than 65,535.
+    /// [`Refusal::NotABook`] where the run has fewer than 4 words or more than 65,535.
     pub fn fresh(run: &'a mut [u32]) -> Result<Book<'a>, Refusal> {
         done(library::fresh(run))?;
         Ok(Book { run })
@@ -124,6 +131,11 @@ impl<'a> Book<'a> {
     /// The words of the book.
     pub fn words(&self) -> &[u32] {
         self.run
+    }
+
+    /// The counter of a program, at a constant cost.
+    pub fn counter(&self, program: Program) -> Counter {
+        known_counter(library::read_known_counter(self.run, program as u32))
     }
 
     /// Sets the current month, and removes the strikes of earlier months.

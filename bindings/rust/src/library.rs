@@ -1,5 +1,6 @@
 //! The functions of the static library over any words, each with a safe one over it: for callers who hold a run
-//! and no [`Book`](crate::Book). Over words that are no book each call replies 1 and changes nothing.
+//! and no [`Book`](crate::Book). Over words that are no book each call replies 1 and changes nothing;
+//! [`read_known_counter`] alone doesn't ask whether they are one.
 //!
 //! They are safe for any slices: a slice's pointer is non-null, aligned and valid for its length (an
 //! empty slice's too, of which nothing is read or written), and Rust's borrows keep the slices of
@@ -15,8 +16,20 @@ pub struct Reply {
     pub value: u32,
 }
 
+/// The number of an answer and the two counts of a program. Both are 0 in a refusal.
+#[derive(Clone, Copy, Debug, PartialEq, Eq)]
+#[repr(C)]
+pub struct CounterReply {
+    /// 0 where the counter is read, else the number of the refusal.
+    pub number: u32,
+    /// The classes of our own in the program.
+    pub own_classes: u32,
+    /// The standing strikes on the program's grounds.
+    pub strikes: u32,
+}
+
 mod raw {
-    use super::Reply;
+    use super::{CounterReply, Reply};
 
     extern "C" {
         pub fn strike_book_is_book(run: *const u32, length: usize) -> bool;
@@ -73,6 +86,16 @@ mod raw {
             c: u32,
             m: u32,
         ) -> Reply;
+        pub fn strike_book_read_counter(
+            run: *const u32,
+            length: usize,
+            program: u32,
+        ) -> CounterReply;
+        pub fn strike_book_read_known_counter(
+            run: *const u32,
+            length: usize,
+            program: u32,
+        ) -> CounterReply;
         pub fn strike_book_run_sheet(
             run: *mut u32,
             length: usize,
@@ -196,6 +219,24 @@ pub fn list_permitted(run: &[u32], second: &mut [u32], c: u32, m: u32) -> Reply 
     // SAFETY: `run` is valid for reading and `second` for reading and writing their lengths. The
     // second is borrowed by us alone, so the two don't overlap; nobody writes the first.
     unsafe { raw::strike_book_list_permitted(run.as_ptr(), run.len(), at, length, c, m) }
+}
+
+/// Reads the counter of a program, and asks whether the run is a book: 1 where it is none, then 2
+/// where the program is none.
+#[inline]
+pub fn read_counter(run: &[u32], program: u32) -> CounterReply {
+    // SAFETY: the slice is valid for reading its length, and nobody writes it during the borrow.
+    unsafe { raw::strike_book_read_counter(run.as_ptr(), run.len(), program) }
+}
+
+/// Reads the counter of a program at a constant cost, for a run that is known to be a book: there it
+/// replies as [`read_counter`]. Over any other words it replies 1 where there are fewer than 4, then
+/// 2 where the program is none, else 0 and what the bits of the program's counter word hold, true or
+/// not.
+#[inline]
+pub fn read_known_counter(run: &[u32], program: u32) -> CounterReply {
+    // SAFETY: the slice is valid for reading its length, and nobody writes it during the borrow.
+    unsafe { raw::strike_book_read_known_counter(run.as_ptr(), run.len(), program) }
 }
 
 /// Reads a whole sheet, two words of `answers` a line; answers how many lines it has.

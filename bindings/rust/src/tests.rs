@@ -1,5 +1,7 @@
+use crate::library::CounterReply;
 use crate::{
-    compare_lists, is_book, library, Book, CallRecord, Designation, Ground, Program, Refusal,
+    compare_lists, is_book, library, read_counter, Book, CallRecord, Counter, Designation, Ground,
+    Program, Refusal,
 };
 
 /// A fresh book at month 4 with class 7 open at a close.
@@ -33,6 +35,7 @@ fn sample_sheet() {
     ];
     assert_eq!(answers, wanted);
     assert_eq!(second[..8], [2, 4, 6, 8, 10, 12, 14, 0]);
+    assert_eq!(counters(&book), [(1, 1), (0, 0), (0, 0)]);
 }
 
 #[test]
@@ -48,17 +51,23 @@ fn a_sheet_with_few_places_for_answers() {
 
 #[test]
 fn runs_that_are_no_books() {
-    assert!(!is_book(&[]));
-    assert_eq!(Book::fresh(&mut []).unwrap_err(), Refusal::NotABook);
+    let mut words = [5, 6, 7, 8, 9];
+    for length in 0..4 {
+        let short = &mut words[..length];
+        assert_eq!(Book::fresh(short).unwrap_err(), Refusal::NotABook);
+    }
     let mut long = vec![0; 65_536];
     assert_eq!(Book::fresh(&mut long).unwrap_err(), Refusal::NotABook);
-    let mut words = [5, 6, 7];
     assert_eq!(Book::open(&mut words).unwrap_err(), Refusal::NotABook);
-    assert_eq!(words, [5, 6, 7]);
+    assert_eq!(words, [5, 6, 7, 8, 9]);
     Book::fresh(&mut words).unwrap();
-    assert_eq!(words, [1 << 28 | 1 << 10, 0, 0]);
+    assert_eq!(words[..4], FRESH);
+    assert_eq!(words[4], 0);
     assert!(is_book(&words));
-    assert_eq!(Book::open(&mut words).unwrap().words().len(), 3);
+    assert_eq!(Book::open(&mut words).unwrap().words().len(), 5);
+    for length in 0..=4 {
+        assert_eq!(is_book(&FRESH[..length]), length == 4, "{length}");
+    }
 }
 
 #[test]
@@ -163,16 +172,22 @@ fn strikes_of_the_two_fifty_program() {
     assert_eq!(book.judge_strike(7, 5, 115), Ok(Ground::TwoFifty));
 }
 
+/// The words of a fresh book: its head, and a counter of each program.
+const FRESH: [u32; 4] = [1 << 28 | 4 << 10, 8 << 28, 8 << 28, 8 << 28];
+
 /// The words of `at_close`, whose class has no strike.
-fn words_of(close: u32, low: u32, high: u32) -> [u32; 6] {
-    let head = 1 << 28 | 6 << 10 | 4;
+fn words_of(close: u32, low: u32, high: u32) -> [u32; 9] {
+    let (head, counter) = (1 << 28 | 9 << 10 | 4, 8 << 28);
     let (class, close, volume) = (2 << 28 | 7, 3 << 28 | close, 4 << 28);
-    [head, class, close, volume, 7 << 28 | low, 7 << 28 | high]
+    let (low, high) = (7 << 28 | low, 7 << 28 | high);
+    [
+        head, counter, counter, counter, class, close, volume, low, high,
+    ]
 }
 
 #[test]
 fn a_close_sets_low_and_high() {
-    let mut run = [0; 6];
+    let mut run = [0; 9];
     let mut book = at_close(&mut run, 1_950);
     assert_eq!(book.words(), words_of(1_950, 1_950, 1_950));
     book.set_low_high(7, 1_900, 2_100).unwrap();
@@ -228,7 +243,7 @@ fn lows_and_highs_that_no_book_has() {
         assert_eq!(is_book(&words), is, "{close} {low} {high}");
     }
     let mut swapped = words_of(1_950, 1_950, 1_950);
-    swapped.swap(3, 4);
+    swapped.swap(6, 7);
     assert!(!is_book(&swapped));
 }
 
@@ -303,9 +318,228 @@ fn what_goes_by_the_close() {
     assert_eq!(book.judge_strike(7, 5, 16), Err(Refusal::AlreadyStanding));
 }
 
+/// The own classes and the strikes of each program.
+fn counters(book: &Book) -> [(u32, u32); 3] {
+    [Program::Dollar, Program::Half, Program::TwoFifty].map(|program| {
+        let counter = book.counter(program);
+        assert_eq!(read_counter(book.words(), program), Ok(counter));
+        (counter.own_classes, counter.strikes)
+    })
+}
+
+#[test]
+fn counters_follow_designations() {
+    let mut run = [0; 64];
+    let mut book = at_close(&mut run, 500);
+    book.open_class(8).unwrap();
+    assert_eq!(counters(&book), [(0, 0); 3]);
+    let refused = book.designate(7, Program::Half, Designation::Ours);
+    assert_eq!(refused, Err(Refusal::NotQualified));
+    assert_eq!(counters(&book), [(0, 0); 3]);
+    book.set_volume(7, 1_000).unwrap();
+    for (class, program, designation, own) in [
+        (7, Program::Dollar, Designation::Ours, [1, 0, 0]),
+        (7, Program::Dollar, Designation::Ours, [1, 0, 0]),
+        (7, Program::Half, Designation::Ours, [1, 1, 0]),
+        (7, Program::TwoFifty, Designation::Another, [1, 1, 0]),
+        (8, Program::TwoFifty, Designation::Ours, [1, 1, 1]),
+        (7, Program::TwoFifty, Designation::Ours, [1, 1, 2]),
+        (7, Program::Dollar, Designation::Another, [0, 1, 2]),
+        (7, Program::Half, Designation::None, [0, 0, 2]),
+        (8, Program::TwoFifty, Designation::None, [0, 0, 1]),
+        (7, Program::Dollar, Designation::None, [0, 0, 1]),
+    ] {
+        book.designate(class, program, designation).unwrap();
+        assert_eq!(counters(&book), own.map(|own| (own, 0)));
+    }
+}
+
+/// A book at month 4 with strikes on every ground. Class 7, close $13: in month 5 $0.50 on Half, $7
+/// and $19 on Dollar and $12.50 on Standard, in month 13 $12 on Wing. Class 8, close $48.50: in
+/// month 5 $52.50 on TwoFifty.
+fn on_each_ground(run: &mut [u32]) -> Book<'_> {
+    let mut book = at_close(run, 1_300);
+    let ours = |book: &mut Book, class, program| book.designate(class, program, Designation::Ours);
+    assert_eq!(book.list_strike(7, 5, 25), Ok(Ground::Standard));
+    assert_eq!(counters(&book), [(0, 0), (0, 0), (0, 0)]);
+    ours(&mut book, 7, Program::Dollar).unwrap();
+    assert_eq!(book.list_strike(7, 5, 14), Ok(Ground::Dollar));
+    assert_eq!(counters(&book), [(1, 1), (0, 0), (0, 0)]);
+    assert_eq!(book.list_strike(7, 5, 38), Ok(Ground::Dollar));
+    assert_eq!(book.list_strike(7, 13, 24), Ok(Ground::Wing));
+    assert_eq!(counters(&book), [(1, 3), (0, 0), (0, 0)]);
+    book.set_close(7, 500).unwrap();
+    book.set_volume(7, 1_000).unwrap();
+    ours(&mut book, 7, Program::Half).unwrap();
+    assert_eq!(book.list_strike(7, 5, 1), Ok(Ground::Half));
+    assert_eq!(counters(&book), [(1, 3), (1, 1), (0, 0)]);
+    book.set_close(7, 1_300).unwrap();
+    book.open_class(8).unwrap();
+    book.set_close(8, 4_850).unwrap();
+    ours(&mut book, 8, Program::TwoFifty).unwrap();
+    assert_eq!(book.list_strike(8, 5, 105), Ok(Ground::TwoFifty));
+    assert_eq!(counters(&book), [(1, 3), (1, 1), (1, 1)]);
+    book
+}
+
+#[test]
+fn counters_follow_strikes() {
+    let mut run = [0; 64];
+    let mut book = on_each_ground(&mut run);
+    let present = counters(&book);
+    assert_eq!(book.list_strike(7, 5, 14), Err(Refusal::AlreadyStanding));
+    assert_eq!(book.judge_strike(7, 5, 16), Ok(Ground::Dollar));
+    book.mark_strike(7, 5, 14, true, false).unwrap();
+    assert_eq!(book.delist_strike(7, 5, 14), Err(Refusal::OpenInterest));
+    book.mark_strike(7, 5, 14, false, false).unwrap();
+    book.delist_strike(7, 5, 25).unwrap();
+    assert_eq!(counters(&book), present);
+    book.delist_strike(7, 5, 14).unwrap();
+    assert_eq!(counters(&book), [(1, 2), (1, 1), (1, 1)]);
+    book.delist_strike(7, 13, 24).unwrap();
+    assert_eq!(counters(&book), [(1, 1), (1, 1), (1, 1)]);
+    book.delist_strike(7, 5, 1).unwrap();
+    assert_eq!(counters(&book), [(1, 1), (1, 0), (1, 1)]);
+    book.delist_strike(8, 5, 105).unwrap();
+    assert_eq!(counters(&book), [(1, 1), (1, 0), (1, 0)]);
+}
+
+#[test]
+fn strikes_count_by_their_own_ground() {
+    let mut run = [0; 64];
+    let mut book = on_each_ground(&mut run);
+    for (class, program) in [
+        (7, Program::Dollar),
+        (7, Program::Half),
+        (8, Program::TwoFifty),
+    ] {
+        book.designate(class, program, Designation::None).unwrap();
+    }
+    assert_eq!(counters(&book), [(0, 3), (0, 1), (0, 1)]);
+    // Standard in a class that is in all three.
+    book.set_close(8, 500).unwrap();
+    book.set_volume(8, 1_000).unwrap();
+    for program in [Program::Dollar, Program::Half, Program::TwoFifty] {
+        book.designate(8, program, Designation::Ours).unwrap();
+    }
+    assert_eq!(book.list_strike(8, 5, 10), Ok(Ground::Standard));
+    assert_eq!(counters(&book), [(1, 3), (1, 1), (1, 1)]);
+}
+
+#[test]
+fn counters_after_a_review_and_a_month() {
+    let mut run = [0; 64];
+    let mut book = on_each_ground(&mut run);
+    assert_eq!(book.review_class(8), Ok(0));
+    assert_eq!(counters(&book), [(1, 3), (1, 1), (1, 1)]);
+    // $7 and $19 go.
+    assert_eq!(book.review_class(7), Ok(2));
+    assert_eq!(counters(&book), [(1, 1), (1, 1), (1, 1)]);
+    book.set_month(5).unwrap();
+    assert_eq!(counters(&book), [(1, 1), (1, 1), (1, 1)]);
+    book.set_month(6).unwrap();
+    assert_eq!(counters(&book), [(1, 1), (1, 0), (1, 0)]);
+    book.set_month(14).unwrap();
+    assert_eq!(counters(&book), [(1, 0), (1, 0), (1, 0)]);
+}
+
+/// A reply that refuses with a number.
+fn refused(number: u32) -> CounterReply {
+    CounterReply {
+        number,
+        own_classes: 0,
+        strikes: 0,
+    }
+}
+
+/// A reply with what the bits of a counter word hold.
+fn held(word: u32) -> CounterReply {
+    CounterReply {
+        number: 0,
+        own_classes: word & 255,
+        strikes: word >> 8 & 65_535,
+    }
+}
+
+#[test]
+fn counters_that_are_refused() {
+    for program in [0, 1, 2, 3, 4, u32::MAX] {
+        let is_program = matches!(program, 1..=3);
+        for length in 0..4 {
+            let short = &FRESH[..length];
+            assert_eq!(library::read_counter(short, program), refused(1));
+            assert_eq!(library::read_known_counter(short, program), refused(1));
+        }
+        let wanted = if is_program { held(0) } else { refused(2) };
+        assert_eq!(library::read_counter(&FRESH, program), wanted);
+        assert_eq!(library::read_known_counter(&FRESH, program), wanted);
+        // Words that are no book, by their kinds and by their length.
+        for (words, word) in [(vec![u32::MAX; 4], u32::MAX), (vec![0; 65_536], 0)] {
+            let wanted = if is_program { held(word) } else { refused(2) };
+            assert_eq!(library::read_counter(&words, program), refused(1));
+            assert_eq!(library::read_known_counter(&words, program), wanted);
+        }
+    }
+    assert_eq!(read_counter(&[], Program::Half), Err(Refusal::NotABook));
+    let counter = Counter {
+        own_classes: 0,
+        strikes: 0,
+    };
+    assert_eq!(read_counter(&FRESH, Program::Half), Ok(counter));
+}
+
+#[test]
+fn damaged_counters() {
+    let mut run = [0; 64];
+    on_each_ground(&mut run);
+    let counter = |own_classes: u32, strikes: u32| 8 << 28 | strikes << 8 | own_classes;
+    assert_eq!(run[1..4], [counter(1, 3), counter(1, 1), counter(1, 1)]);
+    for program in 1..=3 {
+        for bit in 0..32 {
+            let mut damaged = run;
+            damaged[program] ^= 1 << bit;
+            assert!(!is_book(&damaged), "{program} {bit}");
+            for other in 1..=3 {
+                let reply = library::read_counter(&damaged, other);
+                assert_eq!(reply, refused(1), "{program} {bit}");
+                let reply = library::read_known_counter(&damaged, other);
+                assert_eq!(reply, held(damaged[other as usize]), "{program} {bit}");
+            }
+            let words = damaged;
+            assert_eq!(library::set_month(&mut damaged, 5).number, 1);
+            assert_eq!(damaged, words, "{program} {bit}");
+        }
+    }
+    let mut swapped = run;
+    swapped.swap(1, 2);
+    assert!(!is_book(&swapped));
+}
+
+#[test]
+fn counters_that_words_make_false() {
+    let mut run = [0; 64];
+    on_each_ground(&mut run);
+    // Class 7 is ours in the $1 program, and another exchange's or nobody's by these bits.
+    let class = run.iter().position(|&word| word >> 28 == 2).unwrap();
+    for designation in [0, 2] {
+        let mut other = run;
+        other[class] = run[class] & !(3 << 14) | designation << 14;
+        assert!(!is_book(&other), "{designation}");
+        other[1] -= 1;
+        assert!(is_book(&other), "{designation}");
+    }
+    // A strike on Dollar that moves to Wing stays with its program; to no other ground.
+    let dollar = run.iter().position(|&word| word == 6 << 28 | 1 << 15 | 14);
+    for (ground, is) in [(0, false), (2, false), (3, true), (4, false)] {
+        let mut other = run;
+        other[dollar.unwrap()] = 6 << 28 | ground << 15 | 14;
+        assert_eq!(is_book(&other), is, "{ground}");
+    }
+}
+
 #[test]
 fn words_that_are_needed() {
-    let mut run = [0; 7];
+    let mut run = [0; 10];
     let mut book = at_close(&mut run, 200);
     assert_eq!(book.open_class(8), Err(Refusal::OutOfWords { needed: 0 }));
     assert_eq!(
@@ -396,7 +630,8 @@ fn lists_that_leave_two_books() {
     );
     let answer = compare_lists(&mut left, &mut right, &mut [], &[], &[]);
     assert_eq!(answer, Ok(true));
-    assert_eq!(left[..2], [1 << 28 | 1 << 10, 0]);
+    assert_eq!(left[..4], FRESH);
+    assert_eq!(left[4], 0);
 }
 
 #[test]
@@ -466,8 +701,12 @@ fn lengths_that_are_refused() {
     let answer = compare_lists(&mut left, &mut right, &mut pool, &calls, &calls);
     assert_eq!(answer, Err(Refusal::NotABook));
     assert_eq!((left, right, pool), ([5; 64], [6; 63], [9; 10]));
-    let answer = compare_lists(&mut [], &mut [], &mut pool, &calls, &calls);
-    assert_eq!(answer, Err(Refusal::NotABook));
+    for length in 0..4 {
+        let (left, right) = (&mut left[..length], &mut right[..length]);
+        let answer = compare_lists(left, right, &mut pool, &calls, &calls);
+        assert_eq!(answer, Err(Refusal::NotABook), "{length}");
+    }
+    assert_eq!((left, right), ([5; 64], [6; 63]));
     let (mut left, mut right) = (vec![5; 65_536], vec![6; 65_536]);
     let answer = compare_lists(&mut left, &mut right, &mut pool, &calls, &calls);
     assert_eq!(answer, Err(Refusal::NotABook));

@@ -1,9 +1,9 @@
--- Document 01's examples of calls, a few that its own leave open, and those of request #103, computed over the plain
--- book. Assumes nothing.
+-- Document 01's examples of calls, a few that its own leave open, and those of requests #103 and #104, computed over
+-- the plain book. Assumes nothing.
 use Prim.Native.Nat.{ℕ, zero, suc}
 use mathlib.Core.Path.{_≡_, refl, ap}
 use mathlib.Core.Bool.{cond, not}
-use mathlib.Core.List.{List, [], _∷_, _++_}
+use mathlib.Core.List.{List, [], _∷_, _++_, map}
 use native.Mathlib.Omega.{arith}
 use lib.ListN.{length}
 use lib.Dec.{ltb}
@@ -12,7 +12,7 @@ use Rattle.word.specs.declared.answer.Answer.the-variants.{Listed}
 use Rattle.word.specs.declared.answer.Refusal.the-variants.{BeyondLimits, OutOfWords}
 use Rattle.word.specs.Answers.{answerNumber, answerValue, isAccepted}
 use Rattle.rule.specs.Ranges.{lowest, amongFive}
-use Rattle.book.specs.Facts.{OpenClass, Facts, fresh}
+use Rattle.book.specs.Facts.{OpenClass, Facts, fresh, owned, strikesOn}
 use Rattle.book.specs.Views.{class, viewOf}
 use Rattle.book.specs.Changes.{monthSet, classOpened, reviewedCount, classGrown}
 use Rattle.book.specs.Calls.{Call, callM, on, callO, callC, callH, callV, callD, callL, callJ, callX, callI, callR, callA, malformed, Condition, draws, firstOr, permittedIn, effect, answerTo, written, step, steps, after, effectOn}
@@ -228,10 +228,11 @@ qualification :
 unfolding numbers
 qualification = refl
 
--- ---- words: a class takes five (#103), a strike one, and the first of its expiration one more
+-- ---- words: head and counters take four (#104), a class five (#103), a strike one, and the first of its expiration
+-- one more
 
 words-left :
-    numbers 8
+    numbers 11
     (on 1 callO
     ∷ on 1 (callC 200)
     ∷ on 1 (callL 5 5)
@@ -349,3 +350,46 @@ low-high-forgotten :
     quoted (on 7 (callH 190 210) ∷ on 7 (callC 205) ∷ []) ≡ quoted (on 7 (callH 190 211) ∷ on 7 (callC 205) ∷ [])
 unfolding answers steps quoted
 low-high-forgotten = refl
+
+-- ---- #104: "Every call keeps them true"
+
+-- the own classes of each program, and its strikes
+counts : Facts → List (List ℕ)
+counts f =
+    map (λ (p : ℕ). owned p (f .classes) ∷ strikesOn p (f .classes) ∷ []) (1 ∷ 2 ∷ 3 ∷ [])
+
+-- class 1 in all three programs: $1 is Dollar, $1.50 Half; at $48.50 $52.50 is of the $2.50 program, and $47 a wing
+inPrograms : List Call
+inPrograms =
+    on 1 callO
+    ∷ on 1 (callC 200)
+    ∷ on 1 (callV 1000)
+    ∷ on 1 (callD 1 1)
+    ∷ on 1 (callD 2 1)
+    ∷ on 1 (callD 3 1)
+    ∷ on 1 (callL 5 2)
+    ∷ on 1 (callL 5 3)
+    ∷ on 1 (callL 6 4)
+    ∷ on 1 (callC 4850)
+    ∷ on 1 (callL 5 105)
+    ∷ on 1 (callL 9 94)
+    ∷ []
+
+-- listed; released, as strikes count by their ground; reviewed, which takes $1 and $2; a month that takes $1, $1.50 and
+-- $52.50, one of each program; $1.50 delisted
+counted :
+    map counts
+    (after 64 inPrograms
+    ∷ after 64 (inPrograms ++ (on 1 (callD 1 2) ∷ on 1 (callD 2 0) ∷ on 1 (callD 3 0) ∷ []))
+    ∷ after 64 (inPrograms ++ (on 1 callR ∷ []))
+    ∷ after 64 (inPrograms ++ (callM 6 ∷ []))
+    ∷ after 64 (inPrograms ++ (on 1 (callX 5 3) ∷ []))
+    ∷ [])
+    ≡ ((1 ∷ 3 ∷ []) ∷ (1 ∷ 1 ∷ []) ∷ (1 ∷ 1 ∷ []) ∷ [])
+    ∷ ((0 ∷ 3 ∷ []) ∷ (0 ∷ 1 ∷ []) ∷ (0 ∷ 1 ∷ []) ∷ [])
+    ∷ ((1 ∷ 1 ∷ []) ∷ (1 ∷ 1 ∷ []) ∷ (1 ∷ 1 ∷ []) ∷ [])
+    ∷ ((1 ∷ 2 ∷ []) ∷ (1 ∷ 0 ∷ []) ∷ (1 ∷ 0 ∷ []) ∷ [])
+    ∷ ((1 ∷ 3 ∷ []) ∷ (1 ∷ 0 ∷ []) ∷ (1 ∷ 1 ∷ []) ∷ [])
+    ∷ []
+unfolding steps step answerTo effectOn monthSet classOpened classGrown reviewedCount inPrograms counts lowest amongFive
+counted = refl

@@ -47,7 +47,7 @@ use Rattle.book.proofs.ClassLaws.{isNumbered, class-order, number-of, e
 -- ---- designations
 
 -- the designations of a class after one of them is set
-set-designation :
+pub set-designation :
     (p q d : ℕ) (r : ClassRecord) → T (isProgram p) → T (isProgram q) → T (areDesignations programs (r .designations))
     → (designation q (withDesignation p d r) ≡ designation q r)
     ⊎ ((designation q (withDesignation p d r) ≡ d) × (p ≡ q))

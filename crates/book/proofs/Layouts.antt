@@ -1,24 +1,31 @@
 -- A run is a book exactly when it is the layout of well-formed facts, which reading gives back: by induction on series
 -- and classes. Assumes nothing.
-use Prim.Native.Nat.{ℕ, zero, suc, _+_, _-_, _≤_}
+use Prim.Native.Nat.{ℕ, zero, suc, _+_, _-_, _^_, _≤_}
 use mathlib.Core.Path.{_≡_, refl, sym, ap, _∙_, subst}
 use mathlib.Core.Logic.{_↔_}
 use mathlib.Core.Bool.{Bool, true, false, cond}
 use mathlib.Core.List.{List, [], _∷_, _++_, map, map-append}
 use native.Mathlib.Omega.{arith}
 use lib.ListN.{length, replicate, length-append, length-map, length-replicate}
-use lib.Dec.{T, eqb, leb, leb→le, le→leb, eqb→eq, eqb-refl, eqb·suc-suc, eqb·zero-suc}
+use lib.Dec.{T, eqb, leb, ltb, leb→le, le→leb, lt→ltb, eqb→eq, eqb-refl, eqb·suc-suc, eqb·zero-suc}
 use borrow.Author.Tests.{eqb-true}
 use Rattle.logic.specs.Lists.{sum, every}
-use Rattle.word.specs.Codec.{Word, Head, Invalid, isLegal, packed, reading}
+use Rattle.word.specs.Codec.{Word, Invalid, isLegal, packed, reading}
 use Rattle.word.specs.Limits.{isLength, isMonth, longestRun}
+use Rattle.word.specs.Head.{firstPlace}
+use Rattle.word.specs.Kinds.{counterKind, strikesField}
+use Rattle.word.specs.Programs.{isProgram}
 use Rattle.logic.proofs.Tests.{and-intro, ands, parts, T-true}
 use Rattle.word.proofs.Words.{reading-packed}
 use Rattle.word.proofs.RawWords.{figures-legal}
-use Rattle.book.specs.Facts.{Series, OpenClass, Facts, fresh, expirations, wordsTaken, wordsOf}
+use Rattle.book.specs.Facts.{Series, OpenClass, Facts, fresh, owned, strikesOn, expirations, wordsTaken, wordsOf}
 use Rattle.word.specs.Figures.{figuresWords}
-use Rattle.book.specs.Layout.{strikeWord, expirationUnless, seriesWords, classesWords, used, headWords, layout, Tail, tailOf, addClass, addSeries, setClose, setVolume, addDayPrice, readFrom, factsIn, factsOf}
+use Rattle.book.specs.Layout.{strikeWord, expirationUnless, seriesWords, classesWords, used, counterOf, headWords, layout, Tail, tailOf, addClass, addSeries, setClose, setVolume, addDayPrice, readFrom, factsIn, factsOf}
 use Rattle.book.specs.Books.{isSeries, isClass, isWellFormed, sameWords, isBook}
+use Rattle.logic.proofs.Parts.{every-append}
+use Rattle.book.proofs.ProgramTable.{tabled}
+use Rattle.book.proofs.Forms.{well}
+use Rattle.book.proofs.Counted.{strikes-few}
 use Rattle.book.proofs.LegalWords.{strike-legal, month-legal}
 
 -- ---- reading the words of facts
@@ -172,28 +179,51 @@ invalid-ends : (k q : ℕ) → readFrom q (replicate k Invalid) ≡ tailOf [] []
 invalid-ends zero q = refl
 invalid-ends (suc k) q = refl
 
-head-legal : (n : ℕ) (f : Facts) → T (isWellFormed n f) → isLegal (Head (f .now) (used f)) ≡ true
-unfolding isWellFormed
+-- the counters of well-formed facts hold what they count
+pub counter-legal :
+    (n : ℕ) (f : Facts) → T (isWellFormed n f) → (p : ℕ) → T (isProgram p) → T (isLegal (counterOf (f .classes) p))
+counter-legal n f good p k =
+    let w = well n f good in
+    let long = w .run in
+    let xs = f .classes in
+    let own : T (ltb (owned p xs) (2 ^ counterKind .width)) =
+    lt→ltb (owned p xs) (2 ^ counterKind .width) (omega (arith, w .caps p k, tabled p k .cap)) in
+    let strikes : T (ltb (strikesOn p xs) (2 ^ strikesField .width)) =
+    lt→ltb (strikesOn p xs) (2 ^ strikesField .width)
+    (omega (arith, strikes-few p xs, used-taken f, w .room, leb→le n longestRun (search ands))) in
+    and-intro (ltb (owned p xs) (2 ^ counterKind .width)) (ltb (strikesOn p xs) (2 ^ strikesField .width)) own strikes
+
+head-legal : (n : ℕ) (f : Facts) → T (isWellFormed n f) → T (every isLegal (headWords f))
 head-legal n f good =
-    let month : T (isMonth (f .now)) = search ands in
-    let fits : wordsTaken f ≤ n = leb→le (wordsTaken f) n (search ands) in
-    let small : n ≤ longestRun = leb→le n longestRun (search ands) in
-    let low : T (leb 1 (used f)) = le→leb 1 (used f) (omega arith) in
-    let high : T (leb (used f) longestRun) = le→leb (used f) longestRun (omega (arith, used-taken f)) in
-    T-true (isLegal (Head (f .now) (used f))) (search and-intro)
+    let w = well n f good in
+    let long = w .run in
+    let month : T (isMonth (f .now)) = w .month in
+    let low : T (leb firstPlace (used f)) = le→leb firstPlace (used f) (omega arith) in
+    let high : T (leb (used f) longestRun) =
+    le→leb (used f) longestRun (omega (arith, w .room, used-taken f, leb→le n longestRun (search ands))) in
+    let first = counter-legal n f good 1 tt in
+    let second = counter-legal n f good 2 tt in
+    let third = counter-legal n f good 3 tt in
+    search and-intro
+
+-- every word of well-formed facts is legal
+pub facts-legal :
+    (n : ℕ) (f : Facts) → T (isWellFormed n f) → T (every isLegal (headWords f ++ classesWords (f .classes) []))
+facts-legal n f good =
+    every-append isLegal (headWords f) (classesWords (f .classes) []) (head-legal n f good)
+    (classes-legal (f .now) (f .classes) (well n f good .limits))
 
 pub factsOf-layout : (n : ℕ) (f : Facts) → T (isWellFormed n f) → factsOf (layout n f) ≡ f
-unfolding factsOf layout isWellFormed
+unfolding factsOf layout
 factsOf-layout n f good =
     let k = n - used f in
-    let ws = classesWords (f .classes) [] in
-    let head = reading-packed (Head (f .now) (used f)) (head-legal n f good) in
-    let words = read-words ws (words-legal (f .now) (f .classes) (search ands)) in
-    let after : map reading (map packed ws ++ replicate k 0) ≡ classesWords (f .classes) (replicate k Invalid) =
+    let ws = headWords f ++ classesWords (f .classes) [] in
+    let words :
+    map reading (map packed ws ++ replicate k 0) ≡ headWords f ++ classesWords (f .classes) (replicate k Invalid) =
     map-append reading (map packed ws) (replicate k 0)
-    ∙ (λ i. words i ++ read-zeros k i)
-    ∙ sym (classesWords-append (f .classes) (replicate k Invalid)) in
-    ap factsIn (λ i. head i ∷ after i) ∙ factsIn-layout f (replicate k Invalid) (invalid-ends k)
+    ∙ (λ i. read-words ws (T-true (every isLegal ws) (facts-legal n f good)) i ++ read-zeros k i)
+    ∙ ap (λ (l : List Word). headWords f ++ l) (sym (classesWords-append (f .classes) (replicate k Invalid))) in
+    ap factsIn words ∙ factsIn-layout f (replicate k Invalid) (invalid-ends k)
 
 pub layout-injective :
     (n : ℕ) (f g : Facts) → T (isWellFormed n f) → T (isWellFormed n g) → layout n f ≡ layout n g → f ≡ g
@@ -233,4 +263,4 @@ book-exactly ws = (
 
 pub fresh-well-formed : (n : ℕ) → T (isLength n) → T (isWellFormed n fresh)
 unfolding isWellFormed
-fresh-well-formed n long = let fits : T (leb 1 n) = search ands in search and-intro
+fresh-well-formed n long = let fits : T (leb firstPlace n) = search ands in search and-intro

@@ -2,6 +2,7 @@
 pub mod ProgramTable
 pub mod Forms
 pub mod LegalWords
+pub mod Counted
 pub mod SeriesLaws
 pub mod ClassLaws
 pub mod Layouts
@@ -20,5 +21,6 @@ pub mod ClassWords
 pub mod Splices
 pub mod Runs
 pub mod OpenPlaces
+pub mod Recounted
 pub mod SplicedRuns
 pub mod Followed

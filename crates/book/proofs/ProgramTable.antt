@@ -1,33 +1,32 @@
 -- The table of programs and the designations of a class: a program's place in both is its number. By a row for each
 -- program and by induction. Assumes nothing.
-use Prim.Native.Nat.{ℕ, zero, suc, _+_, _-_, _≤_, _<_}
+use Prim.Native.Nat.{ℕ, zero, suc, _+_, _-_, _^_, _≤_, _<_}
 use mathlib.Core.Path.{_≡_, refl, sym, ap, subst}
 use mathlib.Core.List.{List, [], _∷_}
 use native.Mathlib.Omega.{arith}
 use lib.ListN.{length, getD, set}
 use lib.Dec.{T, leb, leb→le, le→leb}
 use Rattle.logic.specs.Lists.{every}
-use Rattle.word.specs.Limits.{isDesignation, longestRun}
+use Rattle.word.specs.Limits.{isDesignation}
+use Rattle.word.specs.Kinds.{counterKind}
 use Rattle.word.specs.Caps.{isCapKept}
-use Rattle.word.specs.Field.{Readable}
 use Rattle.word.specs.Programs.{Program, programs, programCount, isProgram, program, dollarProgram, areDesignations}
 use Rattle.word.proofs.EachProgram.{each-program}
 use Rattle.logic.proofs.Tests.{and-left, and-right, and-intro, ands}
 use Rattle.logic.proofs.Lists.{every-at, every-places}
 
--- the program of a number has that number, a cap below the longest run's words, and bits that a word has
+-- the program of a number has that number, and a cap that its counter can hold, with one class more
 pub record Tabled (p : ℕ) : Type 0 where
   pub number : program p .number ≡ p
-  pub cap : program p .cap < longestRun
-  pub bits : Readable (program p .bits)
+  pub cap : program p .cap + 1 < 2 ^ counterKind .width
 
 pub tabled : (p : ℕ) → T (isProgram p) → Tabled p
 tabled =
     each-program Tabled (
-      record { number = refl; cap = omega arith; bits = (omega arith, omega arith) },
+      record { number = refl; cap = omega arith },
       (
-        record { number = refl; cap = omega arith; bits = (omega arith, omega arith) },
-        (record { number = refl; cap = omega arith; bits = (omega arith, omega arith) }, tt),
+        record { number = refl; cap = omega arith },
+        (record { number = refl; cap = omega arith }, tt),
       ),
     )
 

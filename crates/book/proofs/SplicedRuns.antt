@@ -2,13 +2,14 @@
 -- them, and the zeros. By the words of both. Assumes nothing.
 use Prim.Native.Nat.{ℕ, _-_}
 use mathlib.Core.Path.{_≡_, sym, ap, _∙_}
-use mathlib.Core.List.{List, _∷_, _++_, map}
+use mathlib.Core.List.{List, _∷_, _++_, map, map-append, append-assoc}
 use native.Mathlib.Omega.{arith}
 use lib.Dec.{T}
 use lib.ListN.{length, replicate, length-map}
 use Rattle.word.specs.Codec.{Word, Head, packed}
 use Rattle.book.specs.Facts.{Facts}
-use Rattle.book.specs.Layout.{used, headWords, layout, factsOf}
+use Rattle.book.specs.Layout.{used, counterWords, headWords, factsOf}
+use Rattle.book.specs.Uncounted.{uncounted}
 use Rattle.book.specs.Books.{isBook}
 use Rattle.book.proofs.Layouts.{book-facts}
 use Rattle.book.proofs.Splices.{Spliced}
@@ -38,16 +39,28 @@ module _
       ∙ run-parts (length ws) f (headWords f ++ s .front) old (s .back)
       (ap (λ (l : List Word). headWords f ++ l) (s .was))
 
-  -- the run after an edit that leaves `count` words used
+  -- the run after an edit that leaves `count` words used, and the counters as they were
   pub run-is :
       (count : ℕ) → used g ≡ count
       → packed (Head (f .now) count)
-      ∷ (map packed (s .front) ++ (map packed new ++ (back ++ replicate (length ws - count) 0)))
-      ≡ layout (length ws) g
+      ∷ (map packed (counterWords (f .classes))
+      ++ (map packed (s .front) ++ (map packed new ++ (back ++ replicate (length ws - count) 0))))
+      ≡ uncounted (length ws) f g
+  unfolding uncounted
   run-is count e =
+      let past : List ℕ = replicate (length ws - used g) 0 in
+      let parts :
+      map packed (s .front ++ (new ++ s .back)) ++ past
+      ≡ map packed (s .front) ++ (map packed new ++ (back ++ past)) =
+      simp (map-append, append-assoc) in
       sym
-      (run-parts (length ws) g (headWords g ++ s .front) new (s .back)
-      (ap (λ (l : List Word). headWords g ++ l) (s .is))
+      (ap
+      (λ (l : List Word). map packed (Head (g .now) (used g) ∷ (counterWords (f .classes) ++ l)) ++ past)
+      (s .is)
+      ∙ ap
+      (λ (l : List ℕ). packed (Head (g .now) (used g)) ∷ (map packed (counterWords (f .classes)) ++ l))
+      parts
       ∙ (λ i.
-      map packed (Head (s .month i) (e i) ∷ s .front)
-      ++ (map packed new ++ (back ++ replicate (length ws - e i) 0))))
+      packed (Head (s .month i) (e i))
+      ∷ (map packed (counterWords (f .classes))
+      ++ (map packed (s .front) ++ (map packed new ++ (back ++ replicate (length ws - e i) 0))))))

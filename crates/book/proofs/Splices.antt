@@ -227,6 +227,7 @@ module _ (n : ℕ) (f : Facts) (c : ℕ) (w : T (isWellFormed n f)) (o : T (isOp
   -- .. and taken out; its expiration's word goes with it where it is alone behind that
   pub record Delisting (m h : ℕ) (alone : Bool) : Type 0 where
     pub it : Series
+    pub limits : T (isSeries (f .now) it)
     pub spliced :
         Spliced (strikePlace c m h f - cond {A = ℕ} alone 1 0) (expirationUnless (not alone) m (strikeWord it ∷ [])) []
         f
@@ -245,6 +246,7 @@ module _ (n : ℕ) (f : Facts) (c : ℕ) (w : T (isWellFormed n f)) (o : T (isOp
       go alone (others ss m h) (e ∙ alone-says ss m h (f .now) series-limits (strikesPlace c m f) (x .it) (x .alone)) in
       record {
         it = x .it;
+        limits = x .limits;
         spliced =
             class-spliced n f c w o (withSeries (only (λ u. not (isAt m h u)) ss) (class f c))
             (figuresWords r (wordsBefore ss m h (not alone)))

@@ -8,6 +8,7 @@ use lib.Dec.{eqb, ltb}
 use Rattle.word.specs.declared.class.ClassRecord.{ClassRecord}
 use Rattle.word.specs.Class.{opened, designation}
 use Rattle.word.specs.Caps.{own}
+use Rattle.word.specs.Programs.{program, isOf}
 use Rattle.word.specs.Head.{firstPlace}
 use Rattle.word.specs.Figures.{figuresLength}
 use Rattle.logic.specs.Lists.{some, only, sum, inserted}
@@ -104,6 +105,10 @@ insertSeries s ss = inserted precedes s ss
 abbrev pub owned : ℕ → List OpenClass → ℕ
 owned p xs = sum (λ x. own (designation p (x .figures))) xs
 
+-- #104: "standing strikes on that program's grounds", of all classes, whatever their designations are
+abbrev pub strikesOn : ℕ → List OpenClass → ℕ
+strikesOn p xs = sum (λ x. length (only (λ s. isOf (s .ground) (program p)) (x .series))) xs
+
 -- ---- words
 
 -- how many months the series have, which rise
@@ -117,6 +122,6 @@ abbrev pub wordsOf : OpenClass → ℕ
 wordsOf x = figuresLength + expirations (x .series) + length (x .series)
 
 -- "The words the facts take are 1 + 3 × classes + expirations that have strikes + strikes."; #103: "A class then takes
--- five words"
+-- five words"; #104: "The words needed grow by three"
 abbrev pub wordsTaken : Facts → ℕ
 wordsTaken f = firstPlace + sum wordsOf (f .classes)

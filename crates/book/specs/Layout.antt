@@ -1,15 +1,16 @@
 -- Document 01, "the head, first", "One of each follows its class word, close first.", "Words past those used are
--- zero.", and request #103, "after the volume word, low first": the words that the layout gives to facts, and the facts
--- that it reads in words. Assumes nothing.
+-- zero.", and requests #103, "after the volume word, low first", and #104, "one kind 8 word per program after the
+-- head": the words that the layout gives to facts, and the facts that it reads in words. Assumes nothing.
 use Prim.Native.Nat.{ℕ, zero, suc, _+_, _-_}
 use mathlib.Core.Bool.{Bool, true, false}
 use mathlib.Core.List.{List, [], _∷_, _++_, map}
-use lib.ListN.{length, replicate}
+use lib.ListN.{length, drop, replicate}
 use lib.Dec.{eqb}
+use Rattle.word.specs.Programs.{programs, programCount}
 use Rattle.word.specs.Head.{firstPlace}
 use Rattle.word.specs.Figures.{figuresWords}
-use Rattle.word.specs.Codec.{Word, Head, Class, Close, Volume, Expiration, Strike, DayPrice, Invalid, packed, reading}
-use Rattle.book.specs.Facts.{Series, OpenClass, Facts}
+use Rattle.word.specs.Codec.{Word, Head, Class, Close, Volume, Expiration, Strike, DayPrice, Counter, Invalid, packed, reading}
+use Rattle.book.specs.Facts.{Series, OpenClass, Facts, owned, strikesOn}
 
 -- ---- from facts to words
 
@@ -31,13 +32,21 @@ abbrev pub classesWords : List OpenClass → List Word → List Word
 classesWords [] rest = rest
 classesWords (x ∷ xs) rest = figuresWords (x .figures) (seriesWords 0 (x .series) (classesWords xs rest))
 
--- the words used: the head and those of the classes
+-- the words used: the head, its counters and those of the classes
 abbrev pub used : Facts → ℕ
 used f = firstPlace + length (classesWords (f .classes) [])
 
--- the words before the first class: "the head, first"
+-- #104: "own classes in bits 0–7, standing strikes on that program's grounds in bits 8–23"
+abbrev pub counterOf : List OpenClass → ℕ → Word
+counterOf xs p = Counter (owned p xs) (strikesOn p xs)
+
+-- #104: "one kind 8 word per program after the head, program 1 first"
+abbrev pub counterWords : List OpenClass → List Word
+counterWords xs = map (λ g. counterOf xs (g .number)) programs
+
+-- the words before the first class: "the head, first", and its counters
 abbrev pub headWords : Facts → List Word
-headWords f = Head (f .now) (used f) ∷ []
+headWords f = Head (f .now) (used f) ∷ counterWords (f .classes)
 
 -- the run of n words; "Words past those used are zero."
 unfoldable pub layout : ℕ → Facts → List ℕ
@@ -125,7 +134,8 @@ abbrev pub monthBefore : ℕ → ℕ
 monthBefore zero = zero
 monthBefore (suc m) = m
 
--- the words after the head, to the first that is none; p is the expiration that the strikes belong to
+-- the words from the first class on, to the first that is none of theirs; p is the expiration that the strikes belong
+-- to
 abbrev pub readFrom : ℕ → List Word → Tail
 readFrom p [] = tailOf [] []
 readFrom p (Head now k ∷ ws) = tailOf [] []
@@ -136,6 +146,7 @@ readFrom p (Expiration m ∷ ws) = readFrom (suc m) ws
 readFrom p (Strike h g a b ∷ ws) =
     addSeries (record { month = monthBefore p; strike = h; ground = g; put = a; call = b }) (readFrom p ws)
 readFrom p (DayPrice price ∷ ws) = addDayPrice price (readFrom p ws)
+readFrom p (Counter own strikes ∷ ws) = tailOf [] []
 readFrom p (Invalid ∷ ws) = tailOf [] []
 
 abbrev pub headMonth : Word → ℕ
@@ -146,11 +157,13 @@ headMonth (Volume v) = 0
 headMonth (Expiration m) = 0
 headMonth (Strike h g a b) = 0
 headMonth (DayPrice price) = 0
+headMonth (Counter own strikes) = 0
 headMonth Invalid = 0
 
+-- the counters say nothing that the classes do not
 abbrev pub factsIn : List Word → Facts
 factsIn [] = record { now = 0; classes = [] }
-factsIn (w ∷ ws) = record { now = headMonth w; classes = readFrom 0 ws .classes }
+factsIn (w ∷ ws) = record { now = headMonth w; classes = readFrom 0 (drop programCount ws) .classes }
 
 -- "what the layout reads in a run"
 unfoldable pub factsOf : List ℕ → Facts

@@ -1,6 +1,8 @@
 pub mod Facts
 pub mod Layout
 pub mod Books
+pub mod Uncounted
+pub mod CounterReads
 pub mod Views
 pub mod Changes
 pub mod Calls

@@ -1,11 +1,19 @@
 // The calls over any lent words. Each tests the run once and then makes the call as `class_call` or `strike_call` does
-// on a book; a single call remembers no places.
+// on a book; a single call remembers no places. And what is read of the counters.
 ghost use mathlib.Core.List.{[]};
+ghost use mathlib.Core.Path.{_≡_};
+ghost use lib.Dec.{T};
+ghost use Rattle.book.specs.Books.{isBook};
 ghost use Rattle.book.specs.Calls.{callM, on, callO, callC, callH, callV, callD, callL, callJ, callX, callI, callR, callA};
+ghost use Rattle.book.specs.CounterReads.{counterRead, counterSaid};
 ghost use Rattle.book.specs.Made.{Made};
 use scan::is_book;
 use word::answer::Answer;
 use word::answer::Refusal;
+use word::counter;
+use word::counter::CounterAnswer;
+use word::head::FIRST;
+use word::programs::is_program;
 use word::strike::Marks;
 
 // `M`: sets the current month, and removes the strikes of earlier months.
@@ -127,4 +135,29 @@ pub fn list_permitted(run: &[u32], second: &mut [u32], c: u32, m: u32) -> Answer
         return Answer::Refused(Refusal::NotABook);
     }
     strike_call::list_permitted(run, second, c, m, &mut [])
+}
+
+// What a program counts over the whole book: its own classes, and the standing strikes on its grounds.
+pub fn read_counter(run: &[u32], p: u32) -> CounterAnswer
+    ensures { λ r. ⌜ r ≡ counterRead p (now (run .entry)) ⌝ }
+{
+    if !is_book(run) {
+        return CounterAnswer::Refused(Refusal::NotABook);
+    }
+    read_known_counter(run, p)
+}
+
+// The same of a run that is known to be a book, at a cost that does not grow with it. The run is not tested: of words
+// that are no book it says what stands there.
+pub fn read_known_counter(run: &[u32], p: u32) -> CounterAnswer
+    ensures { λ r. ⌜ (r ≡ counterSaid p (now (run .entry)))
+        × (T (isBook (now (run .entry))) → r ≡ counterRead p (now (run .entry))) ⌝ }
+{
+    if run.len() < FIRST {
+        return CounterAnswer::Refused(Refusal::NotABook);
+    }
+    if !is_program(p) {
+        return CounterAnswer::Refused(Refusal::BeyondLimits);
+    }
+    CounterAnswer::Counted(counter::read(run, p))
 }

@@ -2,33 +2,35 @@
 -- open class. Assumes nothing.
 use Prim.Native.Nat.{ℕ, _-_, _≤_}
 use mathlib.Core.Path.{_≡_, refl, sym, ap, _∙_}
+use mathlib.Core.Logic.{⊎-elim}
 use mathlib.Core.Bool.{true, false, not, _&&_}
 use mathlib.Core.List.{List, [], _∷_, _++_}
 use lib.ListN.{length}
-use lib.Dec.{T, leb→le}
-use borrow.Author.Tests.{not-true, not-false}
+use lib.Dec.{T, eqb, leb→le}
+use borrow.Author.Tests.{not-true, not-false, eqb-false}
 use Rattle.word.specs.declared.class.ClassRecord.{ClassRecord}
 use Rattle.word.specs.declared.answer.Answer.{Answer}
 use Rattle.word.specs.declared.answer.Answer.the-variants.{Done, Refused}
 use Rattle.word.specs.declared.answer.Refusal.the-variants.{NoClose, NotQualified, CapReached}
 use Rattle.word.specs.Limits.{isClassNumber, isDesignation}
-use Rattle.word.specs.Programs.{programs, programCount, isProgram, program}
-use Rattle.word.specs.Class.{withDesignation}
+use Rattle.word.specs.Programs.{programs, programCount, isProgram, program, areDesignations}
+use Rattle.word.specs.Class.{designation, withDesignation}
 use Rattle.word.specs.Answers.{isAccepted}
 use Rattle.book.specs.Facts.{Facts}
 use Rattle.book.specs.Layout.{factsOf}
 use Rattle.word.specs.Figures.{areFigures}
 use Rattle.book.specs.Books.{isBook}
-use Rattle.book.specs.Views.{isNew, lacksClose}
+use Rattle.book.specs.Views.{class, isNew, lacksClose}
 use Rattle.book.specs.Calls.{on, callD, Condition, firstOr, claiming, effectOn, isCapReached, capping, answerTo}
 use Rattle.book.specs.Made.{Made}
 use Rattle.logic.proofs.Tests.{ands, and-intro, passed}
 use Rattle.book.proofs.ProgramTable.{designations-set}
+use Rattle.book.proofs.Keep.{set-designation}
 use Rattle.book.proofs.Order.{granted-answer}
 use Rattle.book.proofs.Answered.{made-refused}
-use Rattle.edit.specs.EditsAsked.{Storable}
+use Rattle.edit.specs.EditsAsked.{Redesignable}
 use Rattle.class_call.proofs.Ways.{Found, found-seen, found-figures, found-limits}
-use Rattle.class_call.proofs.FigureWays.{Stored, storable, figures-set}
+use Rattle.class_call.proofs.FigureWays.{Stored, number, storable, figures-set}
 
 -- ---- what a claim draws
 
@@ -68,6 +70,13 @@ in-limits p d r old given =
     let each = designations-set programs (r .designations) (p - 1) d given (search ands) in
     search (ands, and-intro) depth 12
 
+-- another program keeps its own
+other :
+    (p q d : ℕ) (r : ClassRecord) → T (isProgram p) → T (isProgram q) → T (areDesignations programs (r .designations))
+    → eqb q p ≡ false → designation q (withDesignation p d r) ≡ designation q r
+other p q d r k j all apart =
+    ⊎-elim (λ e. e) (λ e. absurd (eqb-false q p apart (sym (e .1)))) (set-designation p q d r k j all)
+
 module _
     (c p d : ℕ) (w : List ℕ) (book : T (isBook w))
     (within : not (isClassNumber c && (isProgram p && isDesignation d)) ≡ false) where
@@ -87,11 +96,23 @@ module _
     designation-refused refused = made-refused (on c (callD p d)) w [] book claim refused answer
 
     module _ (new : ClassRecord) (e : new ≡ withDesignation p d r) where
-      pub designation-storable : Storable w at new
-      designation-storable =
+      pub designation-storable : (was : ℕ) → was ≡ designation p r → Redesignable w at new p was
+      designation-storable was told =
           let given = passed (isClassNumber c && (isProgram p && isDesignation d)) within in
-          storable w book c at r found (withDesignation p d) refl new e
-          (in-limits p d r (found-limits w book c at r found) (search ands))
+          let limits = found-limits w book c at r found in
+          let of : class (factsOf w) (new .number) .figures ≡ r =
+          ap (λ (k : ℕ). class (factsOf w) k .figures) (number w book c at r found (withDesignation p d) refl new e)
+          ∙ sym (found-figures w book c at r found) in
+          record {
+            storable =
+                storable w book c at r found (withDesignation p d) refl new e (in-limits p d r limits (search ands));
+            numbered = search ands;
+            before = told ∙ ap (designation p) (sym of);
+            others = λ q k apart.
+                ap (designation q) e
+                ∙ other p q d r (search ands) k (search ands) apart
+                ∙ ap (designation q) (sym of);
+          }
 
       pub designation-set :
           (w′ : List ℕ) → isAccepted claim ≡ true → Stored w new w′ → Made (on c (callD p d)) w [] Done w′ []

@@ -24,7 +24,7 @@ use Rattle.book.specs.Made.{over, Made}
 use Rattle.logic.proofs.Tests.{ands, and-intro, false-T, passed}
 use Rattle.book.proofs.Keep.{close-between, close-alone}
 use Rattle.book.proofs.Answered.{made-refused, made-accepted}
-use Rattle.edit.specs.EditsAsked.{Storable}
+use Rattle.edit.specs.EditsAsked.{Storable, Refigured}
 use Rattle.class_call.proofs.Ways.{Found, found-open, found-seen, found-place, found-figures, found-number, found-limits}
 
 -- what `store_figures` leaves
@@ -36,7 +36,7 @@ module _
     (w : List ℕ) (book : T (isBook w)) (c at : ℕ) (r : ClassRecord) (found : Found w c at r)
     (change : ClassRecord → ClassRecord) (keeps : change r .number ≡ r .number) (new : ClassRecord)
     (e : new ≡ change r) where
-  number : new .number ≡ c
+  pub number : new .number ≡ c
   number = ap (λ (y : ClassRecord). y .number) e ∙ keeps ∙ found-number w book c at r found
 
   pub storable : T (areFigures (change r)) → Storable w at new
@@ -47,6 +47,14 @@ module _
         is-open = rw number (found-open w c at r found);
         place = found-place w c at r found ∙ ap (λ (k : ℕ). classPlace k (factsOf w)) (sym number);
       }
+
+  -- .. with the designations that the class has
+  pub refigured : change r .designations ≡ r .designations → Refigured w new
+  refigured kept =
+      ap (λ (y : ClassRecord). y .designations) e
+      ∙ kept
+      ∙ ap (λ (y : ClassRecord). y .designations) (found-figures w book c at r found)
+      ∙ ap (λ (k : ℕ). class (factsOf w) k .figures .designations) (sym number)
 
   -- a call that makes this change
   pub figures-set :
@@ -67,12 +75,14 @@ module _
 module _
     (c p : ℕ) (w : List ℕ) (book : T (isBook w)) (within : not (isClassNumber c && isPrice p) ≡ false) (at : ℕ)
     (r : ClassRecord) (found : Found w c at r) (new : ClassRecord) (e : new ≡ withClose p r) where
-  pub close-storable : Storable w at new
+  pub close-storable : Storable w at new × Refigured w new
   close-storable =
       let old = found-limits w book c at r found in
       let given = passed (isClassNumber c && isPrice p) within in
-      let prices = close-alone p (search ands) in
-      storable w book c at r found (withClose p) refl new e (search (ands, and-intro) depth 12)
+      let prices = close-alone p (search ands) in (
+        storable w book c at r found (withClose p) refl new e (search (ands, and-intro) depth 12),
+        refigured w book c at r found (withClose p) refl new e refl,
+      )
 
   pub close-set : (w′ : List ℕ) → Stored w new w′ → Made (on c (callC p)) w [] Done w′ []
   unfolding answerTo effectOn
@@ -110,12 +120,14 @@ module _
     module _
         (inside : (ltb (r .close) low || ltb high (r .close)) ≡ false) (new : ClassRecord)
         (e : new ≡ withLowHigh low high r) where
-      pub low-high-storable : Storable w at new
+      pub low-high-storable : Storable w at new × Refigured w new
       low-high-storable =
           let old = found-limits w book c at r found in
           let given = passed (isClassNumber c && (isPrice low && isPrice high)) within in
-          let prices = close-between low (r .close) high (search ands) (search ands) (false-T _ inside) in
-          storable w book c at r found (withLowHigh low high) refl new e (search (ands, and-intro) depth 12)
+          let prices = close-between low (r .close) high (search ands) (search ands) (false-T _ inside) in (
+            storable w book c at r found (withLowHigh low high) refl new e (search (ands, and-intro) depth 12),
+            refigured w book c at r found (withLowHigh low high) refl new e refl,
+          )
 
       pub low-high-set : (w′ : List ℕ) → Stored w new w′ → Made (on c (callH low high)) w [] Done w′ []
       unfolding effectOn
@@ -128,11 +140,13 @@ module _
 module _
     (c n : ℕ) (w : List ℕ) (book : T (isBook w)) (within : not (isClassNumber c && isVolume n) ≡ false) (at : ℕ)
     (r : ClassRecord) (found : Found w c at r) (new : ClassRecord) (e : new ≡ withVolume n r) where
-  pub volume-storable : Storable w at new
+  pub volume-storable : Storable w at new × Refigured w new
   volume-storable =
       let old = found-limits w book c at r found in
-      let given = passed (isClassNumber c && isVolume n) within in
-      storable w book c at r found (withVolume n) refl new e (search (ands, and-intro) depth 12)
+      let given = passed (isClassNumber c && isVolume n) within in (
+        storable w book c at r found (withVolume n) refl new e (search (ands, and-intro) depth 12),
+        refigured w book c at r found (withVolume n) refl new e refl,
+      )
 
   pub volume-set : (w′ : List ℕ) → Stored w new w′ → Made (on c (callV n)) w [] Done w′ []
   unfolding answerTo effectOn

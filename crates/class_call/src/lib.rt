@@ -8,6 +8,7 @@ ghost use Rattle.book.specs.Calls.{callM, on, callO, callC, callH, callV, callD
 ghost use Rattle.book.specs.Made.{Made};
 use crate::programs::claim_of;
 use edit::insert_class;
+use edit::store_designation;
 use edit::store_figures;
 use place::head::current;
 use place::head::used;
@@ -141,7 +142,13 @@ pub fn designate(run: &mut [u32], c: u32, p: u32, d: u32, places: &mut [u32]) ->
     if !claim.is_accepted() {
         return claim;
     }
-    store_figures(run, at, figures.with_designation(p, d));
+    store_designation(
+        run,
+        at,
+        figures.with_designation(p, d),
+        p,
+        figures.designation(p),
+    );
     Answer::Done
 }
 

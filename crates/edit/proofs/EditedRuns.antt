@@ -9,7 +9,8 @@ use lib.ListN.{length, getD, set, take, drop, replicate, length-append, length-m
 use lib.Seq.{append-snoc, drop-append-add, getD-append-seam, set-append-seam, take-at, drop-at, sets}
 use Rattle.word.specs.Codec.{Word, Head, packed}
 use Rattle.book.specs.Facts.{Facts}
-use Rattle.book.specs.Layout.{used, layout, factsOf}
+use Rattle.book.specs.Layout.{used, counterWords, factsOf}
+use Rattle.book.specs.Uncounted.{uncounted}
 use Rattle.book.specs.Books.{isBook}
 use Rattle.book.proofs.Splices.{Spliced, used-spliced}
 use Rattle.book.proofs.SplicedRuns.{front, back, zeros, place-is, run-was, run-is}
@@ -74,14 +75,14 @@ module _
       ∙ ap (λ (l : List Word). getD (before ++ (map packed l ++ (after ++ past))) (length before) 0) e
       ∙ getD-append-seam before (packed w) (after ++ past) 0
 
-  pub stored : length old ≡ length new → sets ws at (map packed new) ≡ layout (length ws) g
+  pub stored : length old ≡ length new → sets ws at (map packed new) ≡ uncounted (length ws) f g
   stored e =
       (λ i. sets (run-was ws t s i) (place-is ws t s i) (map packed new))
       ∙ sets-between before (map packed old) (map packed new) (after ++ past)
       (length-map old packed ∙ e ∙ sym (length-map new packed))
       ∙ run-is ws t s (used f) (omega (arith, used-spliced s))
 
-  pub inserted : old ≡ [] → insertWords at (map packed new) ws ≡ layout (length ws) g
+  pub inserted : old ≡ [] → insertWords at (map packed new) ws ≡ uncounted (length ws) f g
   unfolding insertWords
   inserted none =
       ap
@@ -90,7 +91,9 @@ module _
       (run-was ws t s ∙ ap (λ (l : List Word). before ++ (map packed l ++ (after ++ past))) none)
       ∙ ap (λ (l : List ℕ). set l 0 head)
       (put-between before (map packed new) after past at (used f) (place-is ws t s) all)
-      ∙ ap (λ (l : List ℕ). head ∷ (map packed (s .front) ++ (map packed new ++ (after ++ l))))
+      ∙ ap
+      (λ (l : List ℕ).
+      head ∷ (map packed (counterWords (f .classes)) ++ (map packed (s .front) ++ (map packed new ++ (after ++ l)))))
       (drop-zeros k (length ws - used f) ∙ ap (λ (j : ℕ). replicate j 0) fewer)
       ∙ run-is ws t s (used f + k) (omega (arith, used-spliced s, ap length none, length-map new packed))
     where

@@ -1,17 +1,19 @@
 -- Inner: what each edit asks of the run ws. Assumes nothing.
 use Prim.Native.Nat.{ℕ, _+_, _≤_}
 use mathlib.Core.Path.{_≡_}
-use mathlib.Core.Bool.{Bool, cond, not}
+use mathlib.Core.Bool.{Bool, false, cond, not}
 use mathlib.Core.List.{List}
-use lib.Dec.{T}
+use lib.Dec.{T, eqb}
 use lib.ListN.{length}
 use Rattle.word.specs.declared.class.ClassRecord.{ClassRecord}
+use Rattle.word.specs.Class.{designation}
+use Rattle.word.specs.Programs.{isProgram}
 use Rattle.word.specs.Limits.{isClassNumber, isGround, isMark, isMonth, isStrike}
 use Rattle.book.specs.Facts.{isOpen}
 use Rattle.book.specs.Layout.{factsOf, used}
 use Rattle.word.specs.Figures.{areFigures, figuresLength}
 use Rattle.book.specs.Books.{isBook}
-use Rattle.book.specs.Views.{viewOf, isStanding}
+use Rattle.book.specs.Views.{class, viewOf, isStanding}
 use Rattle.book.specs.Places.{StrikeStands, classPlace, hasExpiration, strikePlace}
 
 -- figures can be stored at `at`: the class of their number is open, and its words begin there
@@ -20,6 +22,19 @@ pub record Storable (ws : List ℕ) (at : ℕ) (figures : ClassRecord) : Type 0 
   pub limits : T (areFigures figures)
   pub is-open : T (isOpen (figures .number) (factsOf ws .classes))
   pub place : at ≡ classPlace (figures .number) (factsOf ws)
+
+-- .. with the designations that the class has
+abbrev pub Refigured : List ℕ → ClassRecord → Type 0
+Refigured ws figures = figures .designations ≡ class (factsOf ws) (figures .number) .figures .designations
+
+-- .. with another designation in the program p, where it was `was`
+pub record Redesignable (ws : List ℕ) (at : ℕ) (figures : ClassRecord) (p was : ℕ) : Type 0 where
+  pub storable : Storable ws at figures
+  pub numbered : T (isProgram p)
+  pub before : was ≡ designation p (class (factsOf ws) (figures .number) .figures)
+  pub others :
+      (q : ℕ) → T (isProgram q) → eqb q p ≡ false
+      → designation q figures ≡ designation q (class (factsOf ws) (figures .number) .figures)
 
 -- marks can be stored at `at`: a strike stands there
 pub record Markable (ws : List ℕ) (at a b : ℕ) : Type 0 where

@@ -11,12 +11,16 @@ ghost use Rattle.book.specs.Changes.{classOpened, marksSet, newSeries, strikeAd
 ghost use Rattle.book.specs.Facts.{withFigures};
 ghost use Rattle.book.specs.Layout.{factsOf, layout};
 ghost use Rattle.book.specs.Places.{StrikeStands};
+ghost use Rattle.book.specs.Uncounted.{uncounted};
 ghost use Rattle.edit.specs.Insertion.{HasRoom, insertWords, pushed};
-ghost use Rattle.edit.specs.EditsAsked.{Storable, Markable, Openable, Insertable};
+ghost use Rattle.edit.specs.EditsAsked.{Storable, Refigured, Redesignable, Markable, Openable, Insertable};
 use place::head;
+use place::own::counts_of;
+use word::caps::own_class;
 use word::class::ClassRecord;
 use word::codec::expiration_word;
 use word::codec::strike_word;
+use word::counter;
 use word::field::field_of;
 use word::figures;
 use word::kind::STRIKE;
@@ -94,14 +98,26 @@ fn insert_figures(run: &mut [u32], at: usize, figures: ClassRecord)
     word::head::write(run, month, count + figures::LENGTH);
 }
 
-// The figures of the class whose word stands at `at`.
+// The figures of the class whose word stands at `at`, with its designations.
 pub fn store_figures(run: &mut [u32], at: usize, figures: ClassRecord)
-    requires { ⌜ Storable (now run) at figures ⌝ }
+    requires { ⌜ Storable (now run) at figures × Refigured (now run) figures ⌝ }
     ensures { λ _. ⌜ (let f = factsOf (now (run .entry)) in
         now (run .exit)
         ≡ layout (length (now (run .entry))) (update (withFigures figures (class f (figures .number))) f)) ⌝ }
 {
     figures::write(run, at, figures);
+}
+
+// The same with another designation in the program p, where it was `was`; the counter of p then counts it.
+pub fn store_designation(run: &mut [u32], at: usize, figures: ClassRecord, p: u32, was: u32)
+    requires { ⌜ Redesignable (now run) at figures p was ⌝ }
+    ensures { λ _. ⌜ (let f = factsOf (now (run .entry)) in
+        now (run .exit)
+        ≡ layout (length (now (run .entry))) (update (withFigures figures (class f (figures .number))) f)) ⌝ }
+{
+    let others = counts_of(run, p).own - own_class(was);
+    figures::write(run, at, figures);
+    counter::set_own(run, p, others + own_class(figures.designation(p)));
 }
 
 // The marks of the strike whose word stands at `at`.
@@ -125,7 +141,24 @@ pub fn insert_class(run: &mut [u32], at: usize, c: u32)
     insert_figures(run, at, ClassRecord::open(c));
 }
 
-// A strike with no marks. `stands` says whether its expiration has strikes already.
+// The words of a strike with no marks, which the counters do not count yet. `stands` says whether its expiration has
+// strikes already.
+fn insert_words(run: &mut [u32], at: usize, stands: bool, m: u32, h: u32, ground: u32)
+    requires { ⌜ Insertable (now run) at stands m h ground ⌝ }
+    ensures { λ _. ⌜ (let f = factsOf (now (run .entry)) in
+        (x : Insertable (now (run .entry)) at stands m h ground)
+        → now (run .exit)
+        ≡ uncounted (length (now (run .entry))) f
+        (update (strikeAdded (newSeries m h ground) (class f (x .class))) f)) ⌝ }
+{
+    if stands {
+        insert1(run, at, strike_word(h, ground, 0, 0));
+        return;
+    }
+    insert2(run, at, expiration_word(m), strike_word(h, ground, 0, 0));
+}
+
+// A strike with no marks.
 pub fn insert_strike(run: &mut [u32], at: usize, stands: bool, m: u32, h: u32, ground: u32)
     requires { ⌜ Insertable (now run) at stands m h ground ⌝ }
     ensures { λ _. ⌜ (let f = factsOf (now (run .entry)) in
@@ -134,9 +167,6 @@ pub fn insert_strike(run: &mut [u32], at: usize, stands: bool, m: u32, h: u32, g
         ≡ layout (length (now (run .entry)))
         (update (strikeAdded (newSeries m h ground) (class f (x .class))) f)) ⌝ }
 {
-    if stands {
-        insert1(run, at, strike_word(h, ground, 0, 0));
-        return;
-    }
-    insert2(run, at, expiration_word(m), strike_word(h, ground, 0, 0));
+    insert_words(run, at, stands, m, h, ground);
+    counter::add_strikes(run, counter::strike_among(strike_word(h, ground, 0, 0)));
 }

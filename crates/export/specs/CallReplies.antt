@@ -7,7 +7,10 @@ use Rattle.word.specs.declared.answer.Answer.{Answer}
 use Rattle.word.specs.Answers.{answerNumber, answerValue}
 use Rattle.book.specs.Calls.{Call}
 use Rattle.book.specs.Made.{Made, Begun}
+use Rattle.word.specs.declared.counter.CounterAnswer.{CounterAnswer}
+use Rattle.book.specs.CounterReads.{counterNumber, countsTold}
 use Rattle.export.specs.declared.Reply.{Reply}
+use Rattle.export.specs.declared.CounterReply.{CounterReply}
 
 -- the reply carries the answer's number and value
 pub record Carries (r : Reply) (a : Answer) : Type 0 where
@@ -25,3 +28,7 @@ pub record Started (w : List ℕ) (r : Reply) (w′ : List ℕ) : Type 0 where
   pub answer : Answer
   pub carried : Carries r answer
   pub begun : Begun w answer w′
+
+-- #104: the reply that carries what a reader of a counter is answered
+abbrev pub counterReply : CounterAnswer → CounterReply
+counterReply a = record { number = counterNumber a; own = countsTold a .own; strikes = countsTold a .strikes }

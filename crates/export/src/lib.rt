@@ -2,11 +2,14 @@
 // words.
 ghost use mathlib.Core.List.{[]};
 ghost use mathlib.Core.Path.{_≡_};
+ghost use lib.Dec.{T};
 ghost use Rattle.book.specs.Books.{isBook};
 ghost use Rattle.book.specs.Calls.{callM, on, callO, callC, callH, callV, callD, callL, callJ, callX, callI, callR, callA};
+ghost use Rattle.book.specs.CounterReads.{counterRead, counterSaid};
 ghost use Rattle.sheet_calls.specs.Sheets.{SheetRun};
-ghost use Rattle.export.specs.CallReplies.{Answered, Carries, Started};
+ghost use Rattle.export.specs.CallReplies.{Answered, Carries, Started, counterReply};
 use word::answer::Answer;
+use word::counter::CounterAnswer;
 
 // The number and the value of an answer, document 01's.
 #[repr(C)]
@@ -21,6 +24,31 @@ fn reply_of(answer: Answer) -> Reply
     Reply {
         number: answer.number(),
         value: answer.value(),
+    }
+}
+
+// What a reader of a counter is answered: the number, and the own classes and the strikes of the program.
+#[repr(C)]
+pub struct CounterReply {
+    pub number: u32,
+    pub own: u32,
+    pub strikes: u32,
+}
+
+fn counter_reply_of(answer: CounterAnswer) -> CounterReply
+    ensures { λ r. ⌜ r ≡ counterReply answer ⌝ }
+{
+    match answer {
+        CounterAnswer::Counted(counts) => CounterReply {
+            number: 0,
+            own: counts.own,
+            strikes: counts.strikes,
+        },
+        CounterAnswer::Refused(refusal) => CounterReply {
+            number: refusal.number(),
+            own: 0,
+            strikes: 0,
+        },
     }
 }
 
@@ -161,4 +189,21 @@ pub extern "C" fn strike_book_run_sheet(
         r (now (run .exit)) (now (second .exit)) (now (answers .exit)) ⌝ }
 {
     sheet_calls::sheet::run_sheet(run, second, sheet, answers)
+}
+
+// The counter of a program, over any words.
+#[no_mangle]
+pub extern "C" fn strike_book_read_counter(run: &[u32], p: u32) -> CounterReply
+    ensures { λ r. ⌜ r ≡ counterReply (counterRead p (now (run .entry))) ⌝ }
+{
+    counter_reply_of(call::read_counter(run, p))
+}
+
+// The same over a run that is known to be a book.
+#[no_mangle]
+pub extern "C" fn strike_book_read_known_counter(run: &[u32], p: u32) -> CounterReply
+    ensures { λ r. ⌜ (r ≡ counterReply (counterSaid p (now (run .entry))))
+        × (T (isBook (now (run .entry))) → r ≡ counterReply (counterRead p (now (run .entry)))) ⌝ }
+{
+    counter_reply_of(call::read_known_counter(run, p))
 }

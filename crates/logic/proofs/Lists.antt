@@ -2,8 +2,8 @@
 -- `rises` and sums, through the form in which each element stands before all later ones. Assumes nothing.
 use Prim.Native.Nat.{ℕ, zero, suc, _+_, _-_, _≤_, _<_, zero-le}
 use mathlib.Core.Path.{_≡_, refl, sym, ap, _∙_, subst}
-use mathlib.Core.Bool.{Bool, true, false, cond, not, _&&_, _||_, or-true}
-use mathlib.Core.List.{List, [], _∷_, map}
+use mathlib.Core.Bool.{Bool, true, false, cond, not, _&&_, _||_, or-true, true≢false}
+use mathlib.Core.List.{List, [], _∷_, _++_, map}
 use mathlib.Core.Logic.{_⊎_, inl, inr, ⊎-elim}
 use native.Mathlib.Omega.{arith}
 use lib.ListN.{length, getD}
@@ -125,6 +125,52 @@ module _ {A : Type 0} where
       (size : A → ℕ) (g : A → A) → ((x : A) → size (g x) ≤ size x) → (xs : List A) → sum size (map g xs) ≤ sum size xs
   sum-map size g l [] = zero-le
   sum-map size g l (x ∷ xs) = omega (arith, l x, sum-map size g l xs)
+
+  pub sum-append : (size : A → ℕ) (xs ys : List A) → sum size (xs ++ ys) ≡ sum size xs + sum size ys
+  sum-append size [] ys = omega arith
+  sum-append size (x ∷ xs) ys = omega (arith, sum-append size xs ys)
+
+  -- where each adds at most one, they add at most as many as they are
+  pub sum-few : (size : A → ℕ) → ((x : A) → size x ≤ 1) → (xs : List A) → sum size xs ≤ length xs
+  sum-few size l [] = zero-le
+  sum-few size l (x ∷ xs) = omega (arith, l x, sum-few size l xs)
+
+  -- how many pass a test where some are gone that pass it, and where some are gone that do not
+  module _ (test gone : A → Bool) where
+    abbrev left : List A → List A
+    left xs = only (λ x. not (gone x)) xs
+
+    pub passing-gone :
+        ((x : A) → gone x ≡ true → test x ≡ true) → (xs : List A)
+        → length (only test (left xs)) + length (only gone xs) ≡ length (only test xs)
+    passing-gone pass [] = refl
+    passing-gone pass (x ∷ xs) = go (gone x) refl (test x) refl (passing-gone pass xs)
+      where
+        go :
+            (g : Bool) → gone x ≡ g → (t : Bool) → test x ≡ t
+            → length (only test (left xs)) + length (only gone xs) ≡ length (only test xs)
+            → length (only test (cond (not g) (x ∷ left xs) (left xs)))
+            + length (cond g (x ∷ only gone xs) (only gone xs))
+            ≡ length (cond t (x ∷ only test xs) (only test xs))
+        go true d true e r = omega arith
+        go true d false e r = absurd (true≢false (sym (pass x d) ∙ e))
+        go false d true e r = rw e (omega arith)
+        go false d false e r = rw e (omega arith)
+
+    pub others-gone :
+        ((x : A) → gone x ≡ true → test x ≡ false) → (xs : List A)
+        → length (only test (left xs)) ≡ length (only test xs)
+    others-gone fail [] = refl
+    others-gone fail (x ∷ xs) = go (gone x) refl (test x) refl (others-gone fail xs)
+      where
+        go :
+            (g : Bool) → gone x ≡ g → (t : Bool) → test x ≡ t → length (only test (left xs)) ≡ length (only test xs)
+            → length (only test (cond (not g) (x ∷ left xs) (left xs)))
+            ≡ length (cond t (x ∷ only test xs) (only test xs))
+        go true d true e r = absurd (true≢false (sym e ∙ fail x d))
+        go true d false e r = r
+        go false d true e r = rw e (omega arith)
+        go false d false e r = rw e r
 
 -- ---- lists that rise
 

@@ -125,7 +125,7 @@ module _ (ws : List ℕ) (b : T (isBook ws)) where
 
   -- the next class word
   pub next-class-word :
-      (from end : ℕ) → 0 < from → from ≤ end → end ≡ used facts
+      (from end : ℕ) → firstPlace ≤ from → from ≤ end → end ≡ used facts
       → firstAt (isUpTo classKind 0) (take (end - from) (drop from ws))
       ≡ firstAt (isFrom classKind 0) (take (end - from) (drop from ws))
   next-class-word from end l h e =

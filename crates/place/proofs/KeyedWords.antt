@@ -9,8 +9,8 @@ use lib.ListN.{take, drop}
 use lib.Dec.{T, eqb, leb, ltb, leb→le}
 use borrow.Author.Tests.{eqb-true, eqb-false, leb-true, leb-false, ltb-true, ltb-false, le-leb, lt-leb}
 use Rattle.word.specs.declared.kind.Kind.{Kind}
-use Rattle.word.specs.Codec.{Word, Head, Class, Close, Volume, Expiration, Strike, DayPrice, Invalid, isLegal, packed, Fits}
-use Rattle.word.specs.Kinds.{kindField, kindOf, keyOf, isOfKind, gradeAt, gradeOf, headKind, classKind, closeKind, volumeKind, expirationKind, strikeKind, dayPriceKind}
+use Rattle.word.specs.Codec.{Word, Head, Class, Close, Volume, Expiration, Strike, DayPrice, Counter, Invalid, isLegal, packed, Fits}
+use Rattle.word.specs.Kinds.{kindField, kindOf, keyOf, isOfKind, gradeAt, gradeOf, headKind, classKind, closeKind, volumeKind, expirationKind, strikeKind, dayPriceKind, counterKind}
 use Rattle.word.proofs.Fields.{field-less}
 use Rattle.word.proofs.Words.{class-fields, legal-fits, kindIn, kind-packed}
 use Rattle.logic.specs.Lists.{every, firstAt}
@@ -55,6 +55,7 @@ keyIn (Volume contracts) = contracts
 keyIn (Expiration month) = month
 keyIn (Strike h ground put call) = h
 keyIn (DayPrice price) = price
+keyIn (Counter own strikes) = own
 keyIn Invalid = 0
 
 -- the width of the key of a word of the kind of this number, and that kind
@@ -65,7 +66,8 @@ widthOf n =
     (cond {A = ℕ} (eqb n (closeKind .number)) (closeKind .width)
     (cond {A = ℕ} (eqb n (volumeKind .number)) (volumeKind .width)
     (cond {A = ℕ} (eqb n (expirationKind .number)) (expirationKind .width)
-    (cond {A = ℕ} (eqb n (dayPriceKind .number)) (dayPriceKind .width) (strikeKind .width))))))
+    (cond {A = ℕ} (eqb n (dayPriceKind .number)) (dayPriceKind .width)
+    (cond {A = ℕ} (eqb n (counterKind .number)) (counterKind .width) (strikeKind .width)))))))
 
 abbrev pub kindNumbered : ℕ → Kind
 kindNumbered n = record { number = n; width = widthOf n }
@@ -78,6 +80,7 @@ key-packed (Volume contracts) fits = omega arith
 key-packed (Expiration month) fits = omega arith
 key-packed (Strike h ground put call) fits = omega arith
 key-packed (DayPrice price) fits = omega arith
+key-packed (Counter own strikes) fits = omega arith
 key-packed Invalid fits = omega arith
 
 -- a word of the kind whose lowest field holds at least the key

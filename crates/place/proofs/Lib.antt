@@ -7,4 +7,3 @@ pub mod Laid
 pub mod Rising
 pub mod Found
 pub mod LookedUp
-pub mod Owned

@@ -1,8 +1,9 @@
 -- Inner: what the lookups of a class, an expiration and a strike ask, and say of the facts. Assumes nothing.
-use Prim.Native.Nat.{ℕ, _<_, _≤_}
+use Prim.Native.Nat.{ℕ, _≤_}
 use mathlib.Core.List.{List}
 use lib.Dec.{T}
 use Rattle.word.specs.Limits.{isMonth}
+use Rattle.word.specs.Head.{firstPlace}
 use Rattle.book.specs.Facts.{Facts}
 use Rattle.book.specs.Layout.{factsOf, used}
 use Rattle.book.specs.Books.{isBook}
@@ -11,10 +12,10 @@ use Rattle.book.specs.Places.{ClassBegins, hasExpiration, strikesPlace, strikes
 use Rattle.place.specs.declared.lookup.Expiration.{Expiration}
 use Rattle.place.specs.declared.lookup.StrikeSearch.{StrikeSearch}
 
--- an index after the head of a book, and not after its words
+-- an index from the first class of a book on, and not after its words
 pub record AfterHead (ws : List ℕ) (at : ℕ) : Type 0 where
   pub book : T (isBook ws)
-  pub after : 0 < at
+  pub after : firstPlace ≤ at
   pub within : at ≤ used (factsOf ws)
 
 -- the month m can be looked up in the class whose words begin at `class`

@@ -1,6 +1,6 @@
 -- The words of a class whose earlier months go: those of its figures and of the months from m on, where the search for
 -- what stays and the search for the next class stop. Assumes nothing.
-use Prim.Native.Nat.{ℕ, _^_, _<_}
+use Prim.Native.Nat.{ℕ, _+_, _^_, _<_}
 use mathlib.Core.Path.{_≡_, refl, sym, ap, _∙_, subst}
 use mathlib.Core.Bool.{Bool, not}
 use mathlib.Core.List.{List, [], _∷_, _++_, map}
@@ -10,14 +10,15 @@ use lib.Dec.{T, leb, ltb→lt, leb·zero, eqb·zero-suc}
 use borrow.Author.Tests.{lt-leb}
 use Rattle.word.specs.Kinds.{kindField, classKind, expirationKind}
 use Rattle.word.specs.Codec.{Word, isLegal, packed}
-use Rattle.logic.specs.Lists.{every, only, firstAt}
-use Rattle.book.specs.Facts.{Series, inMonth, OpenClass, number, withSeries}
+use Rattle.logic.specs.Lists.{every, only, sum, firstAt}
+use Rattle.book.specs.Facts.{Series, inMonth, OpenClass, number, withSeries, owned, strikesOn}
 use Rattle.word.specs.Figures.{figuresWords}
 use Rattle.book.specs.Layout.{seriesWords, classesWords}
 use Rattle.book.specs.Books.{isClass}
 use Rattle.logic.proofs.Tests.{ands, T-true, true-T, ltb-not}
-use Rattle.logic.proofs.Lists.{every-imply, every-true}
+use Rattle.logic.proofs.Lists.{every-imply, every-true, sum-append}
 use Rattle.book.proofs.Forms.{areSeries}
+use Rattle.book.proofs.Counted.{strikeBy, words-strikes}
 use Rattle.book.proofs.Layouts.{seriesWords-append, words-legal}
 use Rattle.logic.proofs.Parts.{every-kept, isUnder, isEqual, isOver, not-under}
 use Rattle.logic.proofs.Splits.{every-split}
@@ -112,6 +113,12 @@ module _ (m : ℕ) where
         ≡ figuresWords (x .figures) [] ++ (staying ++ classesWords (map keptFrom xs) [])
     pub stays : firstAt (isUpTo expirationKind m) (map packed (going ++ (staying ++ classesWords xs []))) ≡ length going
     pub next : firstAt (isUpTo classKind 0) (map packed (staying ++ classesWords xs [])) ≡ length staying
+    pub legal : T (every isLegal going)
+    -- of the strikes of any program those that go are counted once
+    pub counted :
+        (p : ℕ)
+        → strikesOn p (x ∷ xs) + strikesOn p (map keptFrom xs)
+        ≡ sum (strikeBy p) going + (strikesOn p (map keptFrom (x ∷ xs)) + strikesOn p xs)
 
   pub class-parts :
       m < 2 ^ kindField .low → (now : ℕ) (x : OpenClass) (xs : List OpenClass) → T (every (isClass now) (x ∷ xs))
@@ -136,16 +143,38 @@ module _ (m : ℕ) where
       (subst (λ (l : List Word). T (every isLegal l)) are
       (true-T (every isLegal (classesWords (x ∷ xs) [])) (words-legal now (x ∷ xs) good)))
       .1 in
+      let left :
+      classesWords (map keptFrom (x ∷ xs)) [] ≡ figures ++ (staying ++ classesWords (map keptFrom xs) []) =
+      ap (λ (l : List Word). figures ++ l)
+      (seriesWords-append 0 (later ss) [] (classesWords (map keptFrom xs) [])) in
       record {
         going = going;
         staying = staying;
         are = are;
-        left =
-            ap (λ (l : List Word). figures ++ l)
-            (seriesWords-append 0 (later ss) [] (classesWords (map keptFrom xs) []));
+        left = left;
         stays =
             first-after (isUpTo expirationKind m) isLaterWord
             (up-to-packed (expirationKind .number) m small (omega arith)) going (staying ++ rest) legal
             (passes-earlier earlier before) (ap (firstAt isLaterWord) (sym apart) ∙ stops-later (later ss) xs kept);
         next = next-class (later ss) xs (every-split isLegal going (staying ++ rest) legal .1);
+        legal = every-split isLegal going (staying ++ rest) legal .0;
+        counted = λ p.
+            let adds = strikeBy p in
+            omega (
+              arith,
+              words-strikes p (x ∷ xs),
+              words-strikes p xs,
+              words-strikes p (map keptFrom (x ∷ xs)),
+              words-strikes p (map keptFrom xs),
+              ap (sum adds) are ∙ sum-append adds figures (going ++ (staying ++ rest)),
+              sum-append adds going (staying ++ rest),
+              sum-append adds staying rest,
+              ap (sum adds) left ∙ sum-append adds figures (staying ++ classesWords (map keptFrom xs) []),
+              sum-append adds staying (classesWords (map keptFrom xs) []),
+            );
       }
+
+  -- no own class goes
+  pub kept-own : (p : ℕ) (xs : List OpenClass) → owned p (map keptFrom xs) ≡ owned p xs
+  kept-own p [] = refl
+  kept-own p (x ∷ xs) = omega (arith, kept-own p xs)

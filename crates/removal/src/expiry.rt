@@ -1,4 +1,5 @@
-// Expiry: in each class the months before the new one stand first, so that what stays moves down in stretches.
+// Expiry: in each class the months before the new one stand first, so that what stays moves down in stretches. The
+// strikes of each stretch that goes are counted as it is passed.
 ghost use mathlib.Core.Path.{_≡_};
 ghost use Prim.Native.Nat.{_+_, _-_, _≤_};
 ghost use lib.Dec.{T};
@@ -12,6 +13,10 @@ use gap::move_down_by;
 use gap::zeros::zero_all;
 use place::head;
 use place::search::first;
+use word::counter::NO_STRIKES;
+use word::counter::strikes_among;
+use word::counter::take_strikes;
+use word::counter::together;
 use word::figures;
 use word::head::FIRST;
 use word::kind::CLASS;
@@ -39,10 +44,13 @@ pub fn expire(run: &mut [u32], m: u32)
     let mut written = FIRST;
     let mut kept = FIRST;
     let mut at = FIRST;
+    let mut gone = NO_STRIKES;
     while at < end {
         let start = at + figures::LENGTH;
         let stays = start + first(&run[start..end], EXPIRATION, m);
         if start < stays {
+            let more = together(gone, strikes_among(&run[start..stays]));
+            gone = more;
             written = move_to(run, written, kept, start);
             kept = stays;
         }
@@ -51,4 +59,5 @@ pub fn expire(run: &mut [u32], m: u32)
     written = move_to(run, written, kept, end);
     zero_all(&mut run[written..end]);
     word::head::write(run, m, written);
+    take_strikes(run, gone);
 }

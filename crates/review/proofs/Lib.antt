@@ -9,5 +9,6 @@ pub mod Lifts
 pub mod StepTaken
 pub mod HighestSeries
 pub mod StepsCounted
+pub mod Uncounting
 pub mod ReviewedRuns
 pub mod ReviewLaws

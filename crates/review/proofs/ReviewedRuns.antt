@@ -1,5 +1,5 @@
--- Steps of the review on the run of a book, and the free words closed up, give the layout of the class after them;
--- after all steps that is the layout after `R`. On the run's parts. Assumes nothing.
+-- Steps of the review on the run of a book, and the free words closed up, give the words of the class after them, with
+-- the counters of before; all steps are those of `R`. On the run's parts. Assumes nothing.
 use Prim.Native.Nat.{ℕ, _+_, _-_, _≤_}
 use mathlib.Core.Path.{_≡_, refl, sym, ap, _∙_}
 use mathlib.Core.List.{List, [], _∷_, _++_, map, append-assoc}
@@ -14,7 +14,8 @@ use Rattle.word.specs.Codec.{Head, packed}
 use Rattle.gap.specs.Gaps.{closed}
 use Rattle.gap.proofs.GapsInside.{closed-inside}
 use Rattle.book.specs.Facts.{Series, OpenClass, Facts, withSeries}
-use Rattle.book.specs.Layout.{seriesWords, used, layout, factsOf}
+use Rattle.book.specs.Layout.{seriesWords, used, counterWords, layout, factsOf}
+use Rattle.book.specs.Uncounted.{uncounted}
 use Rattle.book.specs.Books.{isClass}
 use Rattle.book.specs.Views.{class}
 use Rattle.book.specs.Changes.{update, classReviewed, reviewedCount}
@@ -206,13 +207,15 @@ module _ {ws : List ℕ} {from to price : ℕ} (X : Reviewable ws from to price)
 
     closed-up :
         set (putMid at (used f - at) between (closed gap (midOf at (used f - at) between))) 0 head
-        ≡ layout (length ws) (update (afterSteps n x) f)
+        ≡ uncounted (length ws) f (update (afterSteps n x) f)
     closed-up =
         (λ i. set (putMid at (used f - at) (between-is i) (closed gap (midOf at (used f - at) (between-is i)))) 0 head)
         ∙ ap (λ (l : List ℕ). set l 0 head)
         (closed-inside (a ++ low) free (high ++ c) d at (used f - at) gap place size (length-replicate gap 0))
         ∙ ap (λ (l : List ℕ). set l 0 head) (regroup-after a low free high c (free ++ d))
-        ∙ (λ i. head ∷ (map packed (S .front) ++ (kept-words i ++ (c ++ past i))))
+        ∙ (λ i.
+        head
+        ∷ (map packed (counterWords (f .classes)) ++ (map packed (S .front) ++ (kept-words i ++ (c ++ past i)))))
         ∙ run-is ws (X .book) S (used f - gap) less
 
     -- by what the code's parts give
@@ -220,7 +223,7 @@ module _ {ws : List ℕ} {from to price : ℕ} (X : Reviewable ws from to price)
         (end month : ℕ) → end ≡ used f → month ≡ f .now → (zs : List ℕ)
         → zs ≡ closed gap (midOf at (end - at) between)
         → set (putMid at (end - at) between zs) 0 (packed (Head month (end - gap)))
-        ≡ layout (length ws) (update (afterSteps n x) f)
+        ≡ uncounted (length ws) f (update (afterSteps n x) f)
     highest-reviewed end month all now zs e =
         ap (λ (l : List ℕ). set (putMid at (end - at) between l) 0 (packed (Head month (end - gap)))) e
         ∙ (λ i.

@@ -4,7 +4,7 @@ use Prim.Native.Nat.{ℕ}
 use mathlib.Core.Path.{_≡_, refl, ap}
 use lib.Dec.{T, eqb}
 use borrow.Author.Tests.{ne-eqb}
-use Rattle.word.specs.Kinds.{kindOf, headKind, classKind, closeKind, volumeKind, expirationKind, strikeKind, dayPriceKind}
+use Rattle.word.specs.Kinds.{kindOf, headKind, classKind, closeKind, volumeKind, expirationKind, strikeKind, dayPriceKind, counterKind}
 use Rattle.word.specs.Codec.{Word, isLegal, packed, fieldsAs}
 use Rattle.word.proofs.Words.{fields-packed}
 use Rattle.word.proofs.RawWords.{fits}
@@ -34,4 +34,5 @@ by-other {A} strike other w n =
     (λ t. choose P (eqb k (closeKind .number)) _ _ (λ t. refl)
     (λ t. choose P (eqb k (volumeKind .number)) _ _ (λ t. refl)
     (λ t. choose P (eqb k (expirationKind .number)) _ _ (λ t. refl)
-    (λ t. choose P (eqb k (dayPriceKind .number)) _ _ (λ t. refl) (λ t. refl)))))))
+    (λ t. choose P (eqb k (dayPriceKind .number)) _ _ (λ t. refl)
+    (λ t. choose P (eqb k (counterKind .number)) _ _ (λ t. refl) (λ t. refl))))))))

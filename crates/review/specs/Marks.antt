@@ -8,7 +8,7 @@ use lib.Dec.{eqb, leb, ltb}
 use lib.ListN.{length}
 use Rattle.logic.specs.Lists.{only}
 use Rattle.word.specs.Kinds.{kindOf, strikeKind}
-use Rattle.word.specs.Codec.{Word, Head, Class, Close, Volume, Expiration, Strike, DayPrice, Invalid, fieldsAs}
+use Rattle.word.specs.Codec.{Word, Head, Class, Close, Volume, Expiration, Strike, DayPrice, Counter, Invalid, fieldsAs}
 use Rattle.word.specs.Strikes.{marks}
 use Rattle.word.specs.Limits.{halfDollar}
 use Rattle.word.specs.Grounds.{dollarGround, wingGround}
@@ -33,6 +33,7 @@ module _ {A : Type 0} (strike : (h ground put call : ℕ) → A) (other : A) whe
   byKind (Expiration month) = other
   byKind (Strike h ground put call) = strike h ground put call
   byKind (DayPrice price) = other
+  byKind (Counter own strikes) = other
   byKind Invalid = other
 
 -- a strike in its field is below the lowest

@@ -9,12 +9,14 @@ ghost use Rattle.review.specs.ReviewsAsked.{Reviewable};
 use crate::steps::review_steps;
 use gap::close_gap;
 use place::head;
+use word::counter::take_strikes;
 
 pub mod marks;
 pub mod steps;
 
 // The first n steps of the review of the class whose series have the words from `from` to `to`, or all of them. Then
-// the words after the free ones move down, so that the run is a book again. Returns how many strikes are removed.
+// the words after the free ones move down, and the counter of the $1 program, to which both grounds belong that a
+// review removes, counts those less that are removed: so that the run is a book again. Returns how many these are.
 fn review_highest(run: &mut [u32], from: usize, to: usize, close: u32, n: usize) -> usize
     requires { ⌜ Reviewable (now run) from to close ⌝ }
     ensures { λ r. ⌜ (let f = factsOf (now (run .entry)) in
@@ -29,7 +31,10 @@ fn review_highest(run: &mut [u32], from: usize, to: usize, close: u32, n: usize)
     let free = k.written - k.read;
     close_gap(&mut run[at..end], free);
     word::head::write(run, month, end - free);
-    free - k.emptied
+    let removed = free - k.emptied;
+    let dollars = removed as u32;
+    take_strikes(run, [dollars, 0, 0]);
+    removed
 }
 
 // `R`: of the class whose series have the words from `from` to `to`, those go that its review at its close removes.

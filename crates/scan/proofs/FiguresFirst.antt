@@ -26,11 +26,11 @@ use Rattle.scan.proofs.Series.{rises-first}
 
 -- the words of figures at i pass their test, and the words after them are those of the class's series and of classes
 -- that may follow it
-pub record FiguresThen (now last : ℕ) (counts : ℕ → ℕ) (i : ℕ) (ws : List ℕ) : Type 0 where
+pub record FiguresThen (now last : ℕ) (counts said : ℕ → ℕ) (i : ℕ) (ws : List ℕ) : Type 0 where
   pub figures : T (areFiguresAt last i ws)
   pub rest :
       let w = getD ws i 0 in
-      ClassesWhere now (keyOf classKind w) (λ p. counts p + own (designationIn (program p) w))
+      ClassesWhere now (keyOf classKind w) (λ p. counts p + own (designationIn (program p) w)) said
       (λ xs. SeriesThen now 0 (mayFollow 0) xs (drop (i + figuresLength) ws))
 
 -- any series may come first
@@ -38,22 +38,22 @@ any-first : (ss : List Series) → T (leads (mayFollow 0) ss)
 any-first [] = tt
 any-first (s ∷ ss) = le→leb 0 (s .month) zero-le
 
-module _ (now last : ℕ) (counts : ℕ → ℕ) (i : ℕ) (ws : List ℕ) (room : i + figuresLength ≤ length ws) where
-  figures-from : Classes now last counts (drop i ws) → FiguresThen now last counts i ws
-  figures-from r = go (r .classes) (r .holds) (r .legal) (r .rising) (r .leading) (r .capped)
+module _ (now last : ℕ) (counts said : ℕ → ℕ) (i : ℕ) (ws : List ℕ) (room : i + figuresLength ≤ length ws) where
+  figures-from : Classes now last counts said (drop i ws) → FiguresThen now last counts said i ws
+  figures-from r = go (r .classes) (r .holds) (r .legal) (r .rising) (r .leading) (r .counted)
     where
       go :
           (xs : List OpenClass) → map packed (classesWords xs []) ≡ drop i ws → T (every (isClass now) xs)
           → T (rises isBelow xs) → T (leads (λ x. ltb last (number x)) xs)
-          → ((p : ℕ) → T (isProgram p) → counts p + owned p xs ≤ program p .cap)
-          → FiguresThen now last counts i ws
-      go [] e legal rising leading capped = absurd (omega (arith, ap length e, length-drop i ws))
-      go (x ∷ xs) e legal rising leading capped =
+          → ((p : ℕ) → T (isProgram p) → counts p + owned p xs ≡ said p)
+          → FiguresThen now last counts said i ws
+      go [] e legal rising leading counted = absurd (omega (arith, ap length e, length-drop i ws))
+      go (x ∷ xs) e legal rising leading counted =
           let f = x .figures in
           let limits : T (areFigures f) = search ands in
           let told =
           figures-tested i ws room last f (seriesWords 0 (x .series) (classesWords xs [])) limits leading e in
-          let said : (p : ℕ) → T (isProgram p) → designationIn (program p) (getD ws i 0) ≡ designation p f =
+          let same : (p : ℕ) → T (isProgram p) → designationIn (program p) (getD ws i 0) ≡ designation p f =
           λ p k. designation-said (getD ws i 0) p k ∙ ap (λ ds. getD ds (p - 1) 0) (told .designations) in
           let order : T (leads (isBelow x) xs && rises isBelow xs) = rw (rises-first isBelow x xs) at rising in
           record {
@@ -72,40 +72,42 @@ module _ (now last : ℕ) (counts : ℕ → ℕ) (i : ℕ) (ws : List ℕ) (room
                   legal = search ands;
                   rising = search ands;
                   leading = rw (told .number) (search ands);
-                  capped = λ p k. rw (said p k) (omega (arith, capped p k));
+                  counted = λ p k. rw (same p k) (omega (arith, counted p k));
+                  capped = r .capped;
                 };
           }
 
-  figures-to : FiguresThen now last counts i ws → Classes now last counts (drop i ws)
+  figures-to : FiguresThen now last counts said i ws → Classes now last counts said (drop i ws)
   figures-to r =
       let xs = r .rest .classes in
       let s = r .rest .holds in
       let x : OpenClass = record { figures = figuresAt i ws; series = s .series } in
       let test : T (areFiguresAt last i ws) = r .figures in
-      let said = figures-said i ws room last test in
-      let figures : T (areFigures (figuresAt i ws)) = said .0 in
+      let told = figures-said i ws room last test in
+      let figures : T (areFigures (figuresAt i ws)) = told .0 in
       let series : T (every (isSeries now) (s .series)) = s .legal in
       let rising : T (rises precedes (s .series)) = s .rising in
       let rest : T (every (isClass now) xs) = r .rest .legal in
       record {
         classes = x ∷ xs;
-        holds = said .1 (seriesWords 0 (s .series) (classesWords xs [])) (s .words);
+        holds = told .1 (seriesWords 0 (s .series) (classesWords xs [])) (s .words);
         legal = search and-intro;
         rising =
             rw (rises-first isBelow x xs)
             (and-intro (leads (isBelow x) xs) (rises isBelow xs) (r .rest .leading) (r .rest .rising));
         leading = search ands;
-        capped = λ p k. rw (← designation-said (getD ws i 0) p k) (omega (arith, r .rest .capped p k));
+        counted = λ p k. rw (← designation-said (getD ws i 0) p k) (omega (arith, r .rest .counted p k));
+        capped = r .rest .capped;
       }
 
-  pub figures : Classes now last counts (drop i ws) ↔ FiguresThen now last counts i ws
+  pub figures : Classes now last counts said (drop i ws) ↔ FiguresThen now last counts said i ws
   figures = (figures-from, figures-to)
 
 -- words of classes are none, or those of figures at least
 pub classes-length :
-    (now last : ℕ) (counts : ℕ → ℕ) (ws : List ℕ) → Classes now last counts ws → 0 < length ws
+    (now last : ℕ) (counts said : ℕ → ℕ) (ws : List ℕ) → Classes now last counts said ws → 0 < length ws
     → figuresLength ≤ length ws
-classes-length now last counts ws r = go (r .classes) (r .holds)
+classes-length now last counts said ws r = go (r .classes) (r .holds)
   where
     go : (xs : List OpenClass) → map packed (classesWords xs []) ≡ ws → 0 < length ws → figuresLength ≤ length ws
     go [] e l = absurd (omega (arith, ap length e))

@@ -7,12 +7,13 @@ use mathlib.Core.Bool.{Bool, true, _&&_}
 use mathlib.Core.List.{List, [], _∷_, map}
 use lib.ListN.{length, drop}
 use lib.Dec.{T, eqb, leb, ltb}
-use Rattle.logic.specs.Lists.{rises, every}
+use Rattle.logic.specs.Lists.{rises, every, sum}
 use Rattle.word.specs.Limits.{highestStrike, lastMonth, longestRun}
-use Rattle.word.specs.Head.{firstPlace}
+use Rattle.word.specs.Head.{firstPlace, ownIn, strikesIn}
 use Rattle.word.specs.Kinds.{keyOf, strikeKind}
 use Rattle.word.specs.Strikes.{isFirstStrike}
-use Rattle.word.specs.Programs.{program, isProgram}
+use Rattle.word.specs.Programs.{programs, program, isProgram}
+use Rattle.word.specs.Counters.{strikeOf}
 use Rattle.word.specs.Codec.{packed}
 use Rattle.book.specs.Facts.{Series, OpenClass, number, isBelow, precedes, owned}
 use Rattle.book.specs.Layout.{seriesWords, classesWords}
@@ -49,24 +50,31 @@ pub record SeriesThen (now p : ℕ) (test : Series → Bool) (xs : List OpenClas
   pub rising : T (rises precedes series)
   pub leading : T (leads test series)
 
--- classes that may follow the class number `last` and so many own classes of each program, of which something holds
-pub record ClassesWhere (now last : ℕ) (counts : ℕ → ℕ) (Holds : List OpenClass → Type 0) : Type 0 where
+-- classes that may follow the class number `last` and so many own classes of each program, of which something holds;
+-- `said` are the own classes that the counters say
+pub record ClassesWhere (now last : ℕ) (counts said : ℕ → ℕ) (Holds : List OpenClass → Type 0) : Type 0 where
   pub classes : List OpenClass
   pub holds : Holds classes
   pub legal : T (every (isClass now) classes)
   pub rising : T (rises isBelow classes)
   pub leading : T (leads (λ x. ltb last (number x)) classes)
-  pub capped : (p : ℕ) → T (isProgram p) → counts p + owned p classes ≤ program p .cap
+  pub counted : (p : ℕ) → T (isProgram p) → counts p + owned p classes ≡ said p
+  pub capped : (p : ℕ) → T (isProgram p) → said p ≤ program p .cap
 
 -- ws are the words of such classes
-abbrev pub Classes : ℕ → ℕ → (ℕ → ℕ) → List ℕ → Type 0
-Classes now last counts ws = ClassesWhere now last counts (λ xs. map packed (classesWords xs []) ≡ ws)
+abbrev pub Classes : ℕ → ℕ → (ℕ → ℕ) → (ℕ → ℕ) → List ℕ → Type 0
+Classes now last counts said ws = ClassesWhere now last counts said (λ xs. map packed (classesWords xs []) ≡ ws)
 
--- ws are the words of all classes of a book
+-- the words of ws from the first class on are those of all classes of a book, as its counters say
 abbrev pub AllClasses : ℕ → List ℕ → Type 0
-AllClasses now ws = Classes now 0 (λ p. 0) ws
+AllClasses now ws = Classes now 0 (λ p. 0) (λ p. ownIn p ws) (drop firstPlace ws)
 
--- words that can be those of a book's head and classes
+-- the strikes that the counters of ws say are those among its words from the first class on
+abbrev pub areCounted : List ℕ → Bool
+areCounted ws =
+    every (λ g. eqb (strikesIn (g .number) ws) (sum (strikeOf (g .number)) (drop firstPlace ws))) programs
+
+-- words that can be those of a book's head, counters and classes
 pub record Scannable (now : ℕ) (ws : List ℕ) : Type 0 where
   pub month : now ≤ lastMonth
   pub head : firstPlace ≤ length ws

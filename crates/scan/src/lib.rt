@@ -2,15 +2,15 @@
 ghost use mathlib.Core.Path.{_≡_};
 ghost use mathlib.Core.Logic.{_↔_};
 ghost use Prim.Native.Nat.{_≤_};
-ghost use lib.ListN.{drop};
+ghost use lib.ListN.{length};
 ghost use lib.Dec.{T};
-ghost use Rattle.word.specs.Limits.{lastMonth};
+ghost use Rattle.word.specs.Limits.{lastMonth, longestRun};
 ghost use Rattle.word.specs.Head.{firstPlace};
 ghost use Rattle.logic.specs.Lists.{every};
 ghost use Rattle.book.specs.Books.{isBook};
 ghost use Rattle.book.specs.Made.{Begun};
 ghost use Rattle.scan.specs.Ahead.{Tells};
-ghost use Rattle.scan.specs.Stretches.{AllClasses, Scannable, Stretched, areStrikes, isZero};
+ghost use Rattle.scan.specs.Stretches.{AllClasses, Scannable, Stretched, areCounted, areStrikes, isZero};
 use crate::ahead::Ahead;
 use crate::ahead::look_ahead;
 use crate::ahead::next_other;
@@ -22,6 +22,8 @@ use word::caps::DollarCount;
 use word::caps::HalfCount;
 use word::caps::TwoFiftyCount;
 use word::codec::expiration_word;
+use word::counter;
+use word::counter::Counts;
 use word::field::field_of;
 use word::figures;
 use word::head;
@@ -32,8 +34,11 @@ use word::kind::is_of_kind;
 use word::kind::key_of;
 use word::limits::is_length;
 use word::limits::latest_month;
+use word::programs::DOLLAR;
 use word::programs::DOLLAR_BITS;
+use word::programs::HALF;
 use word::programs::HALF_BITS;
+use word::programs::TWO_FIFTY;
 use word::programs::TWO_FIFTY_BITS;
 use word::strike::Strike;
 use word::strike::is_first_strike;
@@ -86,10 +91,10 @@ fn expirations_end(current: u32, s: &[u32], from: Ahead) -> Stretch
     Stretch::EndsAt(ahead)
 }
 
-// Whether the words after the first are those of classes, within the caps.
+// Whether the words from the first class on are those of classes, as many ours as the counters say, within the caps.
 fn are_classes(current: u32, s: &[u32]) -> bool
     requires { ⌜ Scannable current (now s) ⌝ }
-    ensures { λ r. ⌜ T r ↔ AllClasses current (drop firstPlace (now (s .entry))) ⌝ }
+    ensures { λ r. ⌜ T r ↔ AllClasses current (now (s .entry)) ⌝ }
 {
     let n = s.len();
     let mut ahead = look_ahead(s, head::FIRST);
@@ -117,7 +122,20 @@ fn are_classes(current: u32, s: &[u32]) -> bool
         ahead = next;
         i = ahead.at;
     }
-    !(dollars.is_exceeded() | halves.is_exceeded() | two_fifties.is_exceeded())
+    (dollars.0 == counter::read(s, DOLLAR).own)
+        & ((halves.0 == counter::read(s, HALF).own)
+            & ((two_fifties.0 == counter::read(s, TWO_FIFTY).own)
+                & !(dollars.is_exceeded() | halves.is_exceeded() | two_fifties.is_exceeded())))
+}
+
+// Whether the counters say the strikes among the words from the first class on.
+fn are_counted(s: &[u32]) -> bool
+    requires { ⌜ (firstPlace ≤ length (now s)) × (length (now s) ≤ longestRun) ⌝ }
+    ensures { λ r. ⌜ r ≡ areCounted (now (s .entry)) ⌝ }
+{
+    let said = counter::strikes_said(s);
+    let among = counter::strikes_among(&s[head::FIRST..]);
+    (said[0] == among[0]) & ((said[1] == among[1]) & (said[2] == among[2]))
 }
 
 // Whether every word is zero; without an early exit, so that it runs many words at a time.
@@ -149,7 +167,7 @@ pub fn is_book(run: &[u32]) -> bool
     if !are_classes(head::month(words), &words[0..used]) {
         return false;
     }
-    are_zero(&words[used..])
+    are_counted(&words[0..used]) & are_zero(&words[used..])
 }
 
 // Makes a fresh book of the run, whatever it held; a run of a bad length is refused and keeps its words.
@@ -162,5 +180,8 @@ pub fn fresh(run: &mut [u32]) -> Answer
     }
     zero_all(run);
     head::write(run, 0, head::FIRST);
+    counter::write(run, DOLLAR, Counts::NONE);
+    counter::write(run, HALF, Counts::NONE);
+    counter::write(run, TWO_FIFTY, Counts::NONE);
     Answer::Done
 }

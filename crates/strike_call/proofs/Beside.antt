@@ -5,16 +5,15 @@ use mathlib.Core.Path.{_≡_, refl, sym, ap, ap₂, _∙_, subst}
 use mathlib.Core.Bool.{Bool, true, false, cond, not, _&&_, and-false}
 use mathlib.Core.List.{List, [], _∷_, _++_, map, append-assoc}
 use native.Mathlib.Omega.{arith}
-use lib.Dec.{T, eqb, leb, ltb, le→leb}
+use lib.Dec.{T, eqb, ltb}
 use lib.ListN.{length, getD, take, drop, length-append, length-drop, length-map}
 use lib.Seq.{getD-take, getD-drop, length-take-le}
 use borrow.Author.Tests.{ltb-true, ltb-false, lt-ltb, le-ltb, eq-eqb, ne-eqb}
-use Rattle.word.specs.Limits.{lastMonth, longestRun}
 use Rattle.word.specs.Kinds.{kindOf, isOfKind, strikeKind}
 use Rattle.word.specs.Codec.{Word, Class, Expiration, isLegal, packed}
 use Rattle.word.proofs.Words.{legal-fits, kindIn, kind-packed}
 use Rattle.logic.specs.Lists.{every, only}
-use Rattle.book.proofs.Layouts.{seriesWords-append}
+use Rattle.book.proofs.Layouts.{seriesWords-append, facts-legal}
 use Rattle.book.specs.Facts.{Series, OpenClass, number, isOpen, inMonth}
 use Rattle.word.specs.Figures.{figuresWords}
 use Rattle.book.specs.Layout.{strikeWord, expirationUnless, seriesWords, classesWords, used, headWords, factsOf}
@@ -29,9 +28,9 @@ use Rattle.logic.proofs.Slices.{zeros-first}
 use Rattle.book.proofs.ClassWords.{book-words}
 use Rattle.book.proofs.SeriesParts.{monthOf}
 use Rattle.book.proofs.Runs.{bookWords, run-word, strikes-within, strikes-part, strikes-good, expiration-strikes, expiration-length}
-use Rattle.place.proofs.Heads.{book-good, book-form, book-is, book-room, book-long}
+use Rattle.place.proofs.Heads.{book-good, book-is, book-room}
 use Rattle.place.proofs.Laid.{kinds-packed}
-use Rattle.place.proofs.Found.{legal, later-begin}
+use Rattle.place.proofs.Found.{later-begin}
 
 -- whether the words used have a strike there
 abbrev pub isStrikeAt : List ℕ → ℕ → Bool
@@ -64,14 +63,7 @@ beside-within w at start stop below first last within =
 
 module _ (w : List ℕ) (book : T (isBook w)) where
   words-legal : T (every isLegal (bookWords (length w) (factsOf w)))
-  words-legal =
-      let f = factsOf w in
-      let month : T (leb (f .now) lastMonth) = book-form w book .month in
-      let most : T (leb (used f) longestRun) =
-      le→leb (used f) longestRun (omega (arith, book-room w book, book-long w book)) in
-      let least : T (leb 1 (used f)) = le→leb 1 (used f) (omega arith) in
-      let rest = legal w book in
-      search and-intro
+  words-legal = facts-legal (length w) (factsOf w) (book-good w book)
 
   -- the kind of a word by the words before it
   kind-at :

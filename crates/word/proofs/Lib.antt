@@ -9,3 +9,4 @@ pub mod Counts
 pub mod Refusals
 pub mod EachProgram
 pub mod StrikeOrder
+pub mod Counters

@@ -9,10 +9,10 @@ use lib.Pow.{shr-shr}
 use Rattle.word.specs.declared.class.ClassRecord.{ClassRecord}
 use Rattle.word.specs.declared.kind.Kind.{Kind}
 use Rattle.word.specs.Programs.{programs, areDesignations, designationIn, designationsIn, designationsEnd, designationWidth, dollarProgram, halfProgram, twoFiftyProgram}
-use Rattle.word.specs.Codec.{Word, Head, Class, Close, Volume, Expiration, Strike, DayPrice, isLegal, packed, kindPlaced, strikeSaid, Fits}
+use Rattle.word.specs.Codec.{Word, Head, Class, Close, Volume, Expiration, Strike, DayPrice, Counter, isLegal, packed, kindPlaced, strikeSaid, Fits}
 use Rattle.word.specs.Limits.{isMonth, isVolume, isClose, isGround, isMark, highestPrice, highestStrike, highestClass, highestVolume, lastMonth}
 use Rattle.word.specs.Field.{field, end}
-use Rattle.word.specs.Kinds.{kindField, kindOf, keyOf, isOfKind, isBare, belowKind, headKind, usedField, classKind, closeKind, volumeKind, expirationKind, strikeKind, groundField, putField, callField, dayPriceKind}
+use Rattle.word.specs.Kinds.{kindField, kindOf, keyOf, isOfKind, isBare, belowKind, headKind, usedField, classKind, closeKind, volumeKind, expirationKind, strikeKind, groundField, putField, callField, dayPriceKind, counterKind, strikesField}
 use Rattle.word.specs.Figures.{areFigures, classWord, isClassAbove, isVolumeWord}
 use Rattle.logic.proofs.Tests.{and-intro, ands, equal-test, T-true}
 use Rattle.word.proofs.RangeTests.{Ordered, day-prices}
@@ -44,6 +44,21 @@ head-packed w top =
 pub head-bare :
     (w now used : ℕ) → Fits (Head now used) → packed (Head now used) ≡ w → T (isBare headKind (end usedField) w)
 head-bare w now used small e = bare-test headKind (end usedField) w (omega arith)
+
+-- ---- a counter
+
+pub counter-packed :
+    (w : ℕ) → IsBare counterKind (end strikesField) w
+    → packed (Counter (keyOf counterKind w) (field w strikesField)) ≡ w
+counter-packed w top =
+    let a : w / 2 ^ strikesField .low / 2 ^ strikesField .width ≡ w / 2 ^ end strikesField =
+    shr-shr w (strikesField .low) (strikesField .width) in
+    omega arith
+
+pub counter-bare :
+    (w own strikes : ℕ) → Fits (Counter own strikes) → packed (Counter own strikes) ≡ w
+    → T (isBare counterKind (end strikesField) w)
+counter-bare w own strikes small e = bare-test counterKind (end strikesField) w (omega arith)
 
 -- ---- strikes
 

@@ -7,14 +7,14 @@ use Prim.Native.Nat.{ℕ, _+_, _-_, _*_, _^_, _<_}
 use native.Mathlib.Omega.{arith}
 use lib.ListN.{getD}
 use lib.Dec.{T, eqb, leb→le}
-use borrow.Author.Tests.{leb-true, eqb-true, eq-eqb}
+use borrow.Author.Tests.{leb-true, ltb-true, eqb-true, eq-eqb}
 use Rattle.word.specs.Limits.{isStrike, isMonth, isClassNumber, isLength, isDesignation, isGround, isMark}
 use Rattle.word.specs.declared.field.Field.{Field}
 use Rattle.word.specs.declared.kind.Kind.{Kind}
 use Rattle.word.specs.Programs.{Program, programs, programCount, program, isProgram, areDesignations, designationWidth, designationIn, designationsIn, dollarProgram, halfProgram, twoFiftyProgram}
 use Rattle.word.specs.Field.{field, end}
-use Rattle.word.specs.Kinds.{kindField, kindOf, keyOf, headKind, usedField, classKind, closeKind, volumeKind, expirationKind, strikeKind, groundField, putField, callField, dayPriceKind}
-use Rattle.word.specs.Codec.{isLegal, packed, shifted, kindPlaced, FitEach, Fits, fieldsAs, reading, Word, Head, Class, Close, Volume, Expiration, Strike, DayPrice, Invalid}
+use Rattle.word.specs.Kinds.{kindField, kindOf, keyOf, headKind, usedField, classKind, closeKind, volumeKind, expirationKind, strikeKind, groundField, putField, callField, dayPriceKind, counterKind, strikesField}
+use Rattle.word.specs.Codec.{isLegal, packed, shifted, kindPlaced, FitEach, Fits, fieldsAs, reading, Word, Head, Class, Close, Volume, Expiration, Strike, DayPrice, Counter, Invalid}
 use Rattle.logic.proofs.Tests.{parts, ands}
 use Rattle.logic.proofs.Slices.{mapped-at}
 use Rattle.word.proofs.RangeTests.{between-high}
@@ -46,6 +46,8 @@ legal-fits (Strike h ground put call) legal =
     let marks : (isMark put ≡ true) × (isMark call ≡ true) = (search parts, search parts) in
     omega (arith, leb-true, between-high)
 legal-fits (DayPrice price) legal = omega (arith, leb-true)
+legal-fits (Counter own strikes) legal =
+    (ltb-true own (2 ^ counterKind .width) (search parts), ltb-true strikes (2 ^ strikesField .width) (search parts))
 legal-fits Invalid legal = omega arith
 
 -- the kind and the fields of a packed word are those that were packed
@@ -58,6 +60,7 @@ kindIn (Volume contracts) = volumeKind .number
 kindIn (Expiration month) = expirationKind .number
 kindIn (Strike h ground put call) = strikeKind .number
 kindIn (DayPrice price) = dayPriceKind .number
+kindIn (Counter own strikes) = counterKind .number
 kindIn Invalid = 0
 
 pub kind-packed : (x : Word) (w : ℕ) → Fits x → packed x ≡ w → kindOf w ≡ kindIn x
@@ -72,6 +75,7 @@ kind-packed (Volume contracts) w fits e = omega arith
 kind-packed (Expiration month) w fits e = omega arith
 kind-packed (Strike h ground put call) w fits e = omega arith
 kind-packed (DayPrice price) w fits e = omega arith
+kind-packed (Counter own strikes) w fits e = omega arith
 kind-packed Invalid w fits e = omega arith
 
 -- the kind as it stands above a field
@@ -114,12 +118,6 @@ designation-said w p k =
     (mapped-at (λ g. designationIn g w) dollarProgram 0 programs (p - 1)
     (omega (arith, leb→le 1 p (search ands), leb→le p programCount (search ands))))
 
-pub class-designation :
-    (w number : ℕ) (ds : List ℕ) → Fits (Class number ds) → packed (Class number ds) ≡ w
-    → (p : ℕ) → T (isProgram p) → designationIn (program p) w ≡ getD ds (p - 1) 0
-class-designation w number ds fits e p k =
-    designation-said w p k ∙ ap (λ (l : List ℕ). getD l (p - 1) 0) (class-fields w number ds fits e .1)
-
 -- the number of a class word, by its designations one by one
 pub class-packed :
     (number : ℕ) (ds : List ℕ) → Fits (Class number ds)
@@ -149,6 +147,15 @@ strike-fields w h ground put call fits e =
           (omega arith) (omega arith),
     )
 
+pub counter-fields :
+    (w own strikes : ℕ) → Fits (Counter own strikes) → packed (Counter own strikes) ≡ w
+    → (keyOf counterKind w ≡ own) × (field w strikesField ≡ strikes)
+counter-fields w own strikes fits e = (
+  omega arith,
+  field-packed w own strikes (kindAbove counterKind strikesField) strikesField (omega arith) (omega arith)
+      (omega arith),
+)
+
 pub fields-packed : (x : Word) → Fits x → fieldsAs (kindOf (packed x)) (packed x) ≡ x
 fields-packed x fits = ap (λ (k : ℕ). fieldsAs k (packed x)) (kind-packed x (packed x) fits refl) ∙ go x fits
   where
@@ -166,6 +173,8 @@ fields-packed x fits = ap (λ (k : ℕ). fieldsAs k (packed x)) (kind-packed x (
         let e = strike-fields (packed (Strike h ground put call)) h ground put call f refl in
         λ i. Strike (e .0 i) (e .1 i) (e .2 i) (e .3 i)
     go (DayPrice price) f = let e : keyOf dayPriceKind (packed (DayPrice price)) ≡ price = omega arith in ap DayPrice e
+    go (Counter own strikes) f =
+        let e = counter-fields (packed (Counter own strikes)) own strikes f refl in λ i. Counter (e .0 i) (e .1 i)
     go Invalid f = refl
 
 -- reading a packed word gives its fields back

@@ -1,15 +1,16 @@
 -- Document 01, "Kind 1, the head" to "Kind 6, a strike", "Bits 28 to 31 of a word are its kind", "every bit not named
--- is zero", and request #103, "two kind 7 words": the seven kinds of word, packed and read. Assumes nothing.
+-- is zero", and requests #103, "two kind 7 words", and #104, "one kind 8 word per program": the eight kinds of word,
+-- packed and read. Assumes nothing.
 use Prim.Native.Nat.{ℕ, _+_, _*_, _^_, _<_, _≤_}
 use mathlib.Core.Bool.{Bool, false, cond, _&&_}
 use mathlib.Core.List.{List, [], _∷_}
-use lib.Dec.{eqb}
+use lib.Dec.{eqb, ltb}
 use Rattle.word.specs.declared.field.Field.{Field}
 use Rattle.word.specs.declared.kind.Kind.{Kind}
 use Rattle.word.specs.Limits.{isStrike, isMonth, isClassNumber, isVolume, isLength, isClose, isGround, isMark}
 use Rattle.word.specs.Programs.{Program, programs, areDesignations, designationWidth, designationsIn}
 use Rattle.word.specs.Field.{field}
-use Rattle.word.specs.Kinds.{kindField, kindOf, keyOf, headKind, usedField, classKind, closeKind, volumeKind, expirationKind, strikeKind, groundField, putField, callField, dayPriceKind}
+use Rattle.word.specs.Kinds.{kindField, kindOf, keyOf, headKind, usedField, classKind, closeKind, volumeKind, expirationKind, strikeKind, groundField, putField, callField, dayPriceKind, counterKind, strikesField}
 
 -- what a word of the book says, by its kind; Invalid where it is none
 pub data Word : Type 0 where
@@ -20,9 +21,10 @@ pub data Word : Type 0 where
   Expiration : (month : ℕ) → Word
   Strike : (h ground put call : ℕ) → Word
   DayPrice : (price : ℕ) → Word
+  Counter : (own strikes : ℕ) → Word
   Invalid : Word
 
--- "with every field in its limits"; the head itself is a word used
+-- "with every field in its limits"; the head itself is a word used, and a count is what its bits can hold
 abbrev pub isLegal : Word → Bool
 isLegal (Head now used) = isMonth now && isLength used
 isLegal (Class number ds) = isClassNumber number && areDesignations programs ds
@@ -31,6 +33,7 @@ isLegal (Volume contracts) = isVolume contracts
 isLegal (Expiration month) = isMonth month
 isLegal (Strike h ground put call) = isStrike h && (isGround ground && (isMark put && isMark call))
 isLegal (DayPrice price) = isClose price
+isLegal (Counter own strikes) = ltb own (2 ^ counterKind .width) && ltb strikes (2 ^ strikesField .width)
 isLegal Invalid = false
 
 -- a number from the lowest bit of a field on
@@ -57,6 +60,7 @@ packed (Expiration month) = month + kindPlaced expirationKind
 packed (Strike h ground put call) =
     h + shifted ground groundField + shifted put putField + shifted call callField + kindPlaced strikeKind
 packed (DayPrice price) = price + kindPlaced dayPriceKind
+packed (Counter own strikes) = own + shifted strikes strikesField + kindPlaced counterKind
 packed Invalid = 0
 
 -- a designation for each program, small enough for its bits
@@ -81,6 +85,7 @@ Fits (Strike h ground put call) =
     FitsKey strikeKind h
     × ((ground < 2 ^ groundField .width) × ((put < 2 ^ putField .width) × (call < 2 ^ callField .width)))
 Fits (DayPrice price) = FitsKey dayPriceKind price
+Fits (Counter own strikes) = FitsKey counterKind own × (strikes < 2 ^ strikesField .width)
 Fits Invalid = 0 ≤ 0
 
 -- the fields of w, read as those of a strike word
@@ -97,7 +102,8 @@ fieldsAs k w =
     (cond (eqb k (expirationKind .number)) (Expiration (keyOf expirationKind w))
     (cond (eqb k (strikeKind .number)) (strikeSaid w)
     (cond (eqb k (dayPriceKind .number)) (DayPrice (keyOf dayPriceKind w))
-    Invalid))))))
+    (cond (eqb k (counterKind .number)) (Counter (keyOf counterKind w) (field w strikesField))
+    Invalid)))))))
 
 -- x where its fields are in their limits and w has no bit beside them, else Invalid
 abbrev pub confirmed : Word → ℕ → Word

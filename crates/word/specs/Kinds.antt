@@ -1,6 +1,6 @@
 -- Document 01, "Bits 28 to 31 of a word are its kind", "Kind 1, the head, first: .." to "Kind 6, a strike: ..", and
--- request #103, "two kind 7 words (bits 0–19)": the number of each kind of word, and where its fields stand. Assumes
--- nothing.
+-- requests #103, "two kind 7 words (bits 0–19)", and #104, "one kind 8 word per program": the number of each kind of
+-- word, and where its fields stand. Assumes nothing.
 use Prim.Native.Nat.{ℕ, _+_, _-_, _*_, _/_, _^_}
 use mathlib.Core.Bool.{Bool}
 use lib.Dec.{eqb}
@@ -54,6 +54,14 @@ callField = record { low = 19; width = 1 }
 -- #103: "stored in two kind 7 words (bits 0–19)": the day's low or its high
 abbrev pub dayPriceKind : Kind
 dayPriceKind = record { number = 7; width = 20 }
+
+-- #104: "one kind 8 word per program ..: own classes in bits 0–7, standing strikes on that program's grounds in bits
+-- 8–23"
+abbrev pub counterKind : Kind
+counterKind = record { number = 8; width = 8 }
+
+abbrev pub strikesField : Field
+strikesField = record { low = 8; width = 16 }
 
 -- ---- what is asked of a word by its kind
 

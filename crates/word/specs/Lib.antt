@@ -9,5 +9,6 @@ pub mod Class
 pub mod Caps
 pub mod Answers
 pub mod Head
+pub mod Counters
 pub mod Figures
 pub mod Strikes

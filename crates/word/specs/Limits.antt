@@ -1,5 +1,6 @@
--- Document 01, "A price P is in cents, 1 to 999,999." to "a lent run of 1 to 65,535 words", and the limits of fields,
--- "(0 none, 1 ours, 2 another exchange's)": the limits of every number, and a strike in cents. Assumes nothing.
+-- Document 01, "A price P is in cents, 1 to 999,999." to "a lent run of 1 to 65,535 words", the limits of fields, "(0
+-- none, 1 ours, 2 another exchange's)", and request #104, "a length below 4 is bad": the limits of every number, and a
+-- strike in cents. Assumes nothing.
 use Prim.Native.Nat.{ℕ, _+_, _*_, min}
 use mathlib.Core.Bool.{Bool, _&&_, _||_}
 use lib.Dec.{leb, eqb}
@@ -58,12 +59,16 @@ highestVolume = 9999999
 abbrev pub isVolume : ℕ → Bool
 isVolume n = leb n highestVolume
 
+-- #104: "a length below 4 is bad"
+abbrev pub shortestRun : ℕ
+shortestRun = 4
+
 -- "The book is a lent run of 1 to 65,535 words of 32 bits."
 abbrev pub longestRun : ℕ
 longestRun = 65535
 
 abbrev pub isLength : ℕ → Bool
-isLength n = between 1 longestRun n
+isLength n = between shortestRun longestRun n
 
 -- "(0 none, 1 ours, 2 another exchange's)"
 abbrev pub highestDesignation : ℕ

@@ -1,11 +1,13 @@
-// The seven kinds of word, packed.
+// The eight kinds of word, packed.
 ghost use mathlib.Core.Path.{_≡_};
-ghost use Rattle.word.specs.Codec.{Class, Close, DayPrice, Expiration, Fits, Head, Strike, Volume, packed};
+ghost use Rattle.word.specs.Codec.{Class, Close, Counter, DayPrice, Expiration, Fits, Head, Strike, Volume, packed};
 use crate::class::ClassRecord;
+use crate::counter::STRIKES;
 use crate::field::put_at;
 use crate::head::USED;
 use crate::kind::CLASS;
 use crate::kind::CLOSE;
+use crate::kind::COUNTER;
 use crate::kind::DAY_PRICE;
 use crate::kind::EXPIRATION;
 use crate::kind::HEAD;
@@ -70,4 +72,11 @@ pub fn day_price_word(price: u32) -> u32
     ensures { λ r. ⌜ r ≡ packed (DayPrice price) ⌝ }
 {
     with_kind(price, DAY_PRICE)
+}
+
+pub fn counter_word(own: u32, strikes: u32) -> u32
+    requires { ⌜ Fits (Counter own strikes) ⌝ }
+    ensures { λ r. ⌜ r ≡ packed (Counter own strikes) ⌝ }
+{
+    with_kind(put_at(own, strikes, STRIKES), COUNTER)
 }

@@ -1,18 +1,21 @@
-// The head of a book: its month, how many words it uses, and where its first class begins.
+// The head of a book: its month, how many words it uses, and where its first class begins. Its counters have a module
+// of their own.
 ghost use mathlib.Core.Path.{_≡_};
 ghost use Prim.Native.Nat.{_≤_};
 ghost use lib.ListN.{length, set};
 ghost use Rattle.word.specs.Codec.{Fits, Head, packed};
 ghost use Rattle.word.specs.Head.{firstPlace, monthIn, usedIn, isHead};
 use crate::codec::head_word;
+use crate::counter::are_counters;
 use crate::field::Field;
 use crate::field::field_of;
 use crate::kind::HEAD;
 use crate::kind::is_bare;
 use crate::kind::key_of;
+use crate::limits::SHORTEST_RUN;
 
-// Where the first class begins.
-pub const FIRST: usize = 1;
+// Where the first class begins: after the head and the counters, which the shortest run just holds.
+pub const FIRST: usize = SHORTEST_RUN;
 
 // Where the head holds the count of the words used.
 pub const USED: Field = Field { low: 10, width: 16 };
@@ -32,13 +35,14 @@ pub fn used(run: &[u32]) -> usize
     field_of(run[0], USED) as usize
 }
 
-// Whether the run begins with the head of a run of its length.
+// Whether the run begins with the head of a run of its length and with counters.
 pub fn is_head(run: &[u32]) -> bool
     requires { ⌜ firstPlace ≤ length (now run) ⌝ }
     ensures { λ r. ⌜ r ≡ isHead (now (run .entry)) ⌝ }
 {
     let count = used(run);
-    is_bare(run[0], HEAD, USED.low + USED.width) & ((FIRST <= count) & (count <= run.len()))
+    is_bare(run[0], HEAD, USED.low + USED.width)
+        & ((FIRST <= count) & ((count <= run.len()) & are_counters(run)))
 }
 
 // Writes the head.

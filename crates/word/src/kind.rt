@@ -1,4 +1,4 @@
-// The seven kinds of word: their numbers, and what their words are ordered by.
+// The eight kinds of word: their numbers, and what their words are ordered by.
 ghost use mathlib.Core.Path.{_≡_};
 ghost use Prim.Native.Nat.{_+_, _*_, _^_, _<_, _≤_};
 ghost use Rattle.word.specs.Kinds.{kindField, kindOf, keyOf, isOfKind, belowKind, isBare, gradeOf, gradeAt};
@@ -46,6 +46,12 @@ pub const STRIKE: Kind = Kind {
 pub const DAY_PRICE: Kind = Kind {
     number: 7,
     width: 20,
+};
+
+// What a program counts over the book.
+pub const COUNTER: Kind = Kind {
+    number: 8,
+    width: 8,
 };
 
 // Where the number of its kind stands in a word.

@@ -16,6 +16,9 @@ const HIGHEST_CLASS: u32 = 16383;
 
 const HIGHEST_VOLUME: u32 = 9999999;
 
+// A run that is just long enough for a book.
+pub const SHORTEST_RUN: usize = 4;
+
 const LONGEST_RUN: usize = 65535;
 
 const HIGHEST_DESIGNATION: u32 = 2;
@@ -68,7 +71,7 @@ pub fn is_volume(n: u32) -> bool
 pub fn is_length(n: usize) -> bool
     ensures { λ r. ⌜ r ≡ isLength n ⌝ }
 {
-    (1 <= n) & (n <= LONGEST_RUN)
+    (SHORTEST_RUN <= n) & (n <= LONGEST_RUN)
 }
 
 pub fn is_designation(d: u32) -> bool

@@ -45,20 +45,6 @@ pub const HALF_PRICE: u32 = 500;
 
 pub const HALF_VOLUME: u32 = 1000;
 
-// Where a class word holds the designation in a program.
-pub fn bits_of(p: u32) -> Field
-    requires { ⌜ IsProgram p ⌝ }
-    ensures { λ r. ⌜ r ≡ program p .bits ⌝ }
-{
-    if p == DOLLAR {
-        return DOLLAR_BITS;
-    }
-    if p == HALF {
-        return HALF_BITS;
-    }
-    TWO_FIFTY_BITS
-}
-
 // Whether the field of a word holds a designation. 3 alone is none, which has both bits; so one mask of the bits that
 // are 1 with the bit above them asks for every field of a word at once.
 pub fn is_designation_in(w: u32, bits: Field) -> bool

@@ -1,7 +1,7 @@
 //! Books and sheets to measure on, the same for each seed.
 
 use calls::words::{close, half_dollars, kind, month, now, number, used};
-use calls::words::{CLASS, CLASS_WORDS, EXPIRATION, STRIKE};
+use calls::words::{CLASS, CLASS_WORDS, EXPIRATION, FIRST_CLASS, STRIKE};
 use calls::{Answer, Call, Random, StrikeBook};
 use hand::{inner, Known};
 
@@ -21,8 +21,8 @@ pub struct Book {
     pub made_by: String,
     class: u32,
     close: u32,
-    /// The program in which it is another exchange's, and becomes ours.
-    program: u32,
+    /// The program in which it is another exchange's, and becomes ours, and whose counter is read.
+    pub program: u32,
     /// A strike that may be listed.
     permitted: u32,
 }
@@ -206,8 +206,8 @@ impl Book {
     }
 
     /// The calls that are timed, each accepted but the last, with the name of its row. `M` lets the
-    /// first month of every class pass. `O` opens a class in the middle. `D` is to a new 1, which
-    /// counts the classes. `L` and `X` are in an expiration that stays. `R` removes strikes.
+    /// first month of every class pass. `O` opens a class in the middle. `D` is to a new 1, which asks
+    /// the counter. `L` and `X` are in an expiration that stays. `R` removes strikes.
     pub fn calls(&self) -> Vec<(&'static str, Call)> {
         let c = self.class;
         let m = NOW + 2;
@@ -263,7 +263,7 @@ impl Book {
 fn mixed(random: &mut Random, run: &[u32]) -> Call {
     let from = random.index(used(run));
     let last = |wanted| run[..=from].iter().rposition(|word| kind(*word) == wanted);
-    let place = last(CLASS).unwrap_or(1);
+    let place = last(CLASS).unwrap_or(FIRST_CLASS);
     let (c, close) = (number(run[place]), close(run[place + 1]));
     let expiration = last(EXPIRATION).filter(|at| *at > place);
     let m = expiration.map_or(NOW + 2, |at| month(run[at]));

@@ -3,14 +3,15 @@
 //! the same lines, as the two may lay out the same facts in other words.
 
 use crate::books::{full, nearly_empty, Book};
-use crate::clock::{compare, Batch};
+use crate::clock::{compare, nanoseconds, Batch};
 use crate::proved::told;
-use crate::side::{Lent, Work};
-use crate::{books_of, lent, rounds_of, rows_of, Kind, LENGTHS};
+use crate::side::{readings, told_counter, Lent, Work};
+use crate::{books_of, lent, rounds_of, rows_of, Kind, LENGTHS, READ_COUNTER, READ_KNOWN_COUNTER};
 use calls::{Answer, Call, StrikeBook};
 use std::ffi::{c_char, c_int, c_void, CString};
+use std::hint::black_box;
 use std::mem::transmute_copy;
-use strikebook::library::Reply;
+use strikebook::library::{CounterReply, Reply};
 
 extern "C" {
     fn dlopen(path: *const c_char, how: c_int) -> *mut c_void;
@@ -21,6 +22,8 @@ extern "C" {
 const APART: c_int = 2;
 
 type Run = *mut u32;
+
+type ReadCounter = extern "C" fn(*const u32, usize, u32) -> CounterReply;
 
 /// The functions of one build, as `strikebook::library` declares them.
 struct Build {
@@ -40,6 +43,9 @@ struct Build {
     run_sheet: extern "C" fn(Run, usize, Run, usize, *const u8, usize, Run, usize) -> usize,
     /// Builds before #103 lack it.
     set_low_high: Option<extern "C" fn(Run, usize, u32, u32, u32) -> Reply>,
+    /// Builds before #104 lack both.
+    read_counter: Option<ReadCounter>,
+    read_known_counter: Option<ReadCounter>,
 }
 
 impl Build {
@@ -64,8 +70,10 @@ impl Build {
                         // SAFETY: the function is of the field's type in every build.
                         unsafe { transmute_copy(&function) }
                     },)*
-                    // SAFETY: the same of a build that has it; a null pointer is none.
+                    // SAFETY: the same of a build that has them; a null pointer is none.
                     set_low_high: unsafe { transmute_copy(&found("set_low_high")) },
+                    read_counter: unsafe { transmute_copy(&found("read_counter")) },
+                    read_known_counter: unsafe { transmute_copy(&found("read_known_counter")) },
                 }
             };
         }
@@ -91,11 +99,25 @@ impl Build {
         made
     }
 
+    /// Whether it has what a row is about.
+    fn has(&self, row: &str) -> bool {
+        match row {
+            "`H`" => self.set_low_high.is_some(),
+            READ_COUNTER => self.read_counter.is_some(),
+            READ_KNOWN_COUNTER => self.read_known_counter.is_some(),
+            _ => true,
+        }
+    }
+
     /// Does the work once, as `side::work` does it.
     fn work(&self, work: &Work, run: &mut [u32], lent: &mut Lent) -> Answer {
         let (second, answers) = (&mut lent.second, &mut lent.answers);
         let number = match work {
             Work::Call(call) => return Called(self, run).make(call, second),
+            Work::ReadCounter(program) => return read(self.read_counter, run, *program),
+            Work::ReadKnownCounter(program) => {
+                return readings(|| read(self.read_known_counter, black_box(run), *program))
+            }
             Work::IsBook => (self.is_book)(run.as_mut_ptr(), run.len()) as usize,
             Work::Sheet(sheet) => (self.run_sheet)(
                 run.as_mut_ptr(),
@@ -113,6 +135,11 @@ impl Build {
             value: 0,
         }
     }
+}
+
+fn read(function: Option<ReadCounter>, run: &[u32], program: u32) -> Answer {
+    let function = function.expect("a build that has it");
+    told_counter(function(run.as_ptr(), run.len(), program))
 }
 
 /// A run that is lent to a build.
@@ -181,7 +208,8 @@ fn measure(builds: &[Build; 2], name: &str, books: &[Vec<Book>; 2], works: &[Wor
         })
     });
     let (best, median) = (compared.best(), compared.median);
-    format!(" {:.0} | {best:.2} | {median:.2} |", compared.second)
+    let time = nanoseconds(compared.second);
+    format!(" {time} | {best:.2} | {median:.2} |")
 }
 
 /// The books in the words of each build.
@@ -193,10 +221,10 @@ fn made_by_each(builds: &[Build; 2], books: &[Book]) -> [Vec<Book>; 2] {
 /// The tables of the second build beside the first.
 pub fn builds(first: &str, second: &str) {
     let builds = [first, second].map(Build::open);
-    let have_low_high = builds.iter().all(|build| build.set_low_high.is_some());
-    // Where one lays out a class in more words than the other, it runs out of them earlier.
+    let both_have = |row: &str| builds.iter().all(|build| build.has(row));
+    // Where one lays out a book in more words than the other, it runs out of them earlier.
     let is_shared = |call: &Call, answer: Answer| {
-        (have_low_high || call.letter() != 'H') && answer.number != 15
+        (both_have("`H`") || call.letter() != 'H') && answer.number != 15
     };
     let kinds: [(&str, Kind); 2] = [("Full books", full), ("Nearly empty books", nearly_empty)];
     for (title, kind) in kinds {
@@ -207,7 +235,7 @@ pub fn builds(first: &str, second: &str) {
         let rows = books.each_ref().map(|books| rows_of(books, is_shared));
         let books = books.map(|books| made_by_each(&builds, &books));
         for (place, (name, _)) in rows[0].iter().enumerate() {
-            if *name == "`H`" && !have_low_high {
+            if !both_have(name) {
                 continue;
             }
             let cells = [0, 1, 2].map(|at| measure(&builds, name, &books[at], &rows[at][place].1));

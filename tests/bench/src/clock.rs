@@ -50,7 +50,8 @@ impl<'a> Batch<'a> {
         for (run, what) in self.runs.iter_mut().zip(self.works) {
             black_box(once(what, black_box(run), &mut self.lent));
         }
-        start.elapsed().as_secs_f64() * 1e9 / self.runs.len() as f64
+        let times = self.runs.len() * self.works[0].times();
+        start.elapsed().as_secs_f64() * 1e9 / times as f64
     }
 }
 
@@ -90,4 +91,10 @@ pub fn compare(rounds: usize, mut time: impl FnMut(bool) -> f64) -> Compared {
         second,
         median: ratios[rounds / 2],
     }
+}
+
+/// A time as it is printed.
+pub fn nanoseconds(time: f64) -> String {
+    let places = usize::from(time < 10.0);
+    format!("{time:.places$}")
 }

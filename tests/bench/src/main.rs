@@ -14,7 +14,7 @@ mod side;
 use books::Book;
 use calls::words::{places, used, CLASS};
 use calls::{Answer, Call};
-use clock::{compare, Batch, Compared};
+use clock::{compare, nanoseconds, Batch, Compared};
 use side::{work, Lent, Side, Work};
 
 const LENGTHS: [usize; 3] = [64, 4_096, 65_535];
@@ -27,6 +27,9 @@ const ROUNDS: usize = 301;
 
 /// Rounds beside (a), which is slow; a sheet has fewer.
 const PLAIN_ROUNDS: usize = 5;
+
+const READ_COUNTER: &str = "`read_counter`";
+const READ_KNOWN_COUNTER: &str = "`read_known_counter`";
 
 struct Row {
     name: &'static str,
@@ -56,8 +59,15 @@ fn rows_of(
     books: &[Book],
     is_wanted: impl Fn(&Call, Answer) -> bool,
 ) -> Vec<(&'static str, Vec<Work>)> {
-    let tests = books.iter().map(|_| Work::IsBook).collect();
-    let mut rows: Vec<(&str, Vec<Work>)> = vec![("`is_book`", tests)];
+    let each = |work: fn(&Book) -> Work| books.iter().map(work).collect();
+    let mut rows: Vec<(&str, Vec<Work>)> = vec![
+        ("`is_book`", each(|_| Work::IsBook)),
+        (READ_COUNTER, each(|book| Work::ReadCounter(book.program))),
+        (
+            READ_KNOWN_COUNTER,
+            each(|book| Work::ReadKnownCounter(book.program)),
+        ),
+    ];
     for (place, (name, _)) in books[0].calls().iter().enumerate() {
         let call = |book: &Book| Work::Call(book.calls().swap_remove(place).1);
         rows.push((name, books.iter().map(call).collect()));
@@ -82,17 +92,20 @@ fn check(name: &str, book: &Book, what: &Work, lent: &Lent) {
     match what {
         Work::IsBook => assert_eq!(number, 1),
         Work::Call(_) if name.ends_with("refused 6") => assert_eq!(number, 6),
-        Work::Call(_) => assert_eq!(number, 0, "{name}: accepted"),
+        Work::Call(_) | Work::ReadCounter(_) | Work::ReadKnownCounter(_) => {
+            assert_eq!(number, 0, "{name}: accepted")
+        }
         Work::Sheet(_) => {
             assert_eq!(number, LINES);
             let accepted = proved.2.answers.iter().step_by(2).filter(|n| **n == 0);
             assert!(accepted.count() > LINES as usize / 4);
         }
     }
-    let reads_only = matches!(
-        what,
-        Work::IsBook | Work::Call(Call::J { .. } | Call::A { .. })
-    ) || name.ends_with("refused 6");
+    let reads_only = match what {
+        Work::IsBook | Work::ReadCounter(_) | Work::ReadKnownCounter(_) => true,
+        Work::Call(Call::J { .. } | Call::A { .. }) => true,
+        _ => name.ends_with("refused 6"),
+    };
     assert_eq!(proved.1 == book.run, reads_only, "{name}: the book's words");
 }
 
@@ -124,10 +137,8 @@ fn measure(name: &str, books: &[Book], works: &[Work]) -> [Compared; 2] {
     };
     let hand = beside(Side::Hand, books.len(), rounds_of(works));
     let plain = beside(Side::Plain, plain_count, plain_rounds);
-    eprintln!(
-        "{name}, {length} words: {:.0} ns, (b) {:.0} ns, (a) {:.0} ns",
-        hand.first, hand.second, plain.second
-    );
+    let [proved, by_hand, plainly] = [hand.first, hand.second, plain.second].map(nanoseconds);
+    eprintln!("{name}, {length} words: {proved} ns, (b) {by_hand} ns, (a) {plainly} ns");
     [hand, plain]
 }
 

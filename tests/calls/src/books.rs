@@ -1,17 +1,17 @@
 //! Words of books: any that the layout allows, those that no call makes too.
 
 use crate::figures;
-use crate::words::{class_words, head, strike, ByProgram, Prices};
-use crate::words::{CLASS_WORDS, EXPIRATION, GROUNDS, PROGRAMS};
+use crate::words::{class_words, headed, strike, ByProgram, Prices};
+use crate::words::{CLASS_WORDS, EXPIRATION, FIRST_CLASS, GROUNDS, PROGRAMS};
 use crate::Random;
 use std::collections::BTreeSet;
 
-/// A book of the length, with any number of its words used.
+/// A book of the length, at least [`FIRST_CLASS`], with any number of its words used.
 pub fn any(random: &mut Random, length: usize) -> Vec<u32> {
     match random.one_in(2) {
         true => full(random, length),
         false => {
-            let most = 1 + random.index(length);
+            let most = FIRST_CLASS + random.index(length - FIRST_CLASS + 1);
             filled(random, length, most)
         }
     }
@@ -19,15 +19,15 @@ pub fn any(random: &mut Random, length: usize) -> Vec<u32> {
 
 /// A book of the length that is full, or nearly so.
 pub fn full(random: &mut Random, length: usize) -> Vec<u32> {
-    let most = length - random.index(4).min(length - 1);
+    let most = length - random.index(4).min(length - FIRST_CLASS);
     filled(random, length, most)
 }
 
 /// A book of the length with at most `most` words used, and nearly so many.
 fn filled(random: &mut Random, length: usize, most: usize) -> Vec<u32> {
     let mut filler = Filler {
-        words: vec![0],
-        most,
+        classes: Vec::new(),
+        most: most - FIRST_CLASS,
         now: match random.below(4) {
             0 => random.between(980, 1_023),
             1 => random.below(1_024),
@@ -40,19 +40,19 @@ fn filled(random: &mut Random, length: usize, most: usize) -> Vec<u32> {
     };
     let step = random.pick(&[1, 1, 1, 3, 40, 400]);
     let mut number = random.between(1, step);
-    while number <= 16_383 && filler.words.len() + CLASS_WORDS <= most {
+    while number <= 16_383 && filler.classes.len() + CLASS_WORDS <= filler.most {
         filler.add_class(random, number);
         number += random.between(1, step);
     }
-    filler.words[0] = head(filler.now, filler.words.len());
-    filler.words.resize(length, 0);
-    filler.words
+    let mut words = headed(filler.now, &filler.classes);
+    words.resize(length, 0);
+    words
 }
 
-/// The words of a book so far, and what it is to be like.
+/// The words of a book's classes so far, and what it is to be like.
 struct Filler {
-    words: Vec<u32>,
-    /// The words that may be used.
+    classes: Vec<u32>,
+    /// The words that the classes may take.
     most: usize,
     now: u32,
     /// Of a class, at most.
@@ -86,11 +86,11 @@ impl Filler {
         };
         let volume = figures::volume(random);
         let words = class_words(number, designations, prices, volume);
-        self.words.extend(words);
+        self.classes.extend(words);
         let mut month = self.now;
         for _ in 0..random.below(self.expirations + 1) {
             month += random.pick(&[0, 1, 1, 2, 8, 9, 15]);
-            if month > 1_023.min(self.now + 39) || self.words.len() + 2 > self.most {
+            if month > 1_023.min(self.now + 39) || self.classes.len() + 2 > self.most {
                 return;
             }
             self.add_expiration(random, month, prices);
@@ -99,11 +99,11 @@ impl Filler {
     }
 
     fn add_expiration(&mut self, random: &mut Random, month: u32, prices: Prices) {
-        self.words.push(EXPIRATION | month);
-        let left = self.most - self.words.len();
+        self.classes.push(EXPIRATION | month);
+        let left = self.most - self.classes.len();
         let count = (random.between(1, self.strikes) as usize).min(left);
         for h in strikes(random, count, prices) {
-            self.words.push(any_strike(random, h, &GROUNDS));
+            self.classes.push(any_strike(random, h, &GROUNDS));
         }
     }
 }
@@ -146,7 +146,7 @@ fn strikes(random: &mut Random, count: usize, prices: Prices) -> BTreeSet<u32> {
 }
 
 /// How many words a run has room for that has as many own classes as the caps allow, and more classes.
-pub const CAPPED_WORDS: usize = 1 + 200 * CLASS_WORDS;
+pub const CAPPED_WORDS: usize = FIRST_CLASS + 200 * CLASS_WORDS;
 
 /// A book at or just below each cap.
 pub fn near_caps(random: &mut Random, length: usize) -> Vec<u32> {
@@ -154,10 +154,10 @@ pub fn near_caps(random: &mut Random, length: usize) -> Vec<u32> {
     with_own_classes(random, length, own)
 }
 
-/// A run with so many own classes in each program, of 151 to 200 classes that mostly qualify. They take
-/// at most [`CAPPED_WORDS`].
+/// A run with so many own classes in each program, and true counters, of 151 to 200 classes that mostly
+/// qualify. They take at most [`CAPPED_WORDS`].
 pub fn with_own_classes(random: &mut Random, length: usize, own: ByProgram) -> Vec<u32> {
-    let mut words = vec![0];
+    let mut classes = Vec::new();
     for number in 1..=random.between(151, 200) {
         let designations = own.map(|last| match number <= last {
             true => 1,
@@ -169,9 +169,9 @@ pub fn with_own_classes(random: &mut Random, length: usize, own: ByProgram) -> V
             0 => Prices::at(0),
             _ => any_prices(random, close),
         };
-        words.extend(class_words(number, designations, prices, volume));
+        classes.extend(class_words(number, designations, prices, volume));
     }
-    words[0] = head(0, words.len());
+    let mut words = headed(0, &classes);
     words.resize(length, 0);
     words
 }
@@ -188,9 +188,8 @@ pub fn one_class(random: &mut Random) -> Vec<u32> {
     let mut designations = any_designations(random);
     designations[0] = random.pick(&[0, 1, 2, 2]);
     let (prices, volume) = (figures::prices(random, close), random.pick(&[999, 1_000]));
-    let mut words = vec![0];
-    words.extend(class_words(CROWDED, designations, prices, volume));
-    words[0] = head(random.below(980), words.len());
+    let class = class_words(CROWDED, designations, prices, volume);
+    let mut words = headed(random.below(980), &class);
     let left = random.index(40);
     words.resize(words.len() + left, 0);
     words
@@ -210,30 +209,29 @@ pub fn crowded(random: &mut Random) -> (Vec<u32>, u32) {
     let mut prices = any_prices(random, close);
     prices.high = prices.high.min(60_000);
     let (designations, volume) = (any_designations(random), random.pick(&[999, 1_000]));
-    let mut words = vec![0];
-    words.extend(class_words(CROWDED, designations, prices, volume));
+    let mut classes = class_words(CROWDED, designations, prices, volume).to_vec();
     if random.one_in(2) {
         // An expiration before it, whose strikes don't count.
-        words.push(EXPIRATION | (month - 1));
-        words.extend([1, 2].map(|more| strike(close / 50 + more, 0, 0, 0)));
+        classes.push(EXPIRATION | (month - 1));
+        classes.extend([1, 2].map(|more| strike(close / 50 + more, 0, 0, 0)));
     }
-    words.push(EXPIRATION | month);
+    classes.push(EXPIRATION | month);
     let grounds = random.pick(&[&GROUNDS[..], &[0, 1], &[1, 4]]);
     let last = 3 * prices.high / 100 + 60;
     let most = random.pick(&[2, 4, 9, 30]);
     let mut h = prices.low / 100 + random.between(1, most);
     while h <= last {
-        words.push(any_strike(random, h, grounds));
+        classes.push(any_strike(random, h, grounds));
         h += random.between(1, most);
     }
     if random.one_in(2) && month < now + 39 {
-        words.extend([EXPIRATION | (month + 1), strike(h, 0, 0, 0)]);
+        classes.extend([EXPIRATION | (month + 1), strike(h, 0, 0, 0)]);
     }
     if random.one_in(2) {
         let designations = [0; PROGRAMS.len()];
-        words.extend(class_words(CROWDED + 2, designations, Prices::at(0), 0));
+        classes.extend(class_words(CROWDED + 2, designations, Prices::at(0), 0));
     }
-    words[0] = head(now, words.len());
+    let mut words = headed(now, &classes);
     let left = random.index(40);
     words.resize(words.len() + left, 0);
     (words, month)
@@ -242,14 +240,14 @@ pub fn crowded(random: &mut Random) -> (Vec<u32>, u32) {
 #[cfg(test)]
 mod tests {
     use super::*;
-    use crate::words::own_classes;
+    use crate::words::{counters, own_classes};
 
     #[test]
     fn each_cap_is_reached_and_none_is_passed() {
         let mut random = Random::new(0);
         let mut most = [0; PROGRAMS.len()];
         for _ in 0..300 {
-            let own = own_classes(&any(&mut random, 1_000));
+            let own = counters(&any(&mut random, 1_000)).map(own_classes);
             most = std::array::from_fn(|place| most[place].max(own[place]));
         }
         assert_eq!(most, PROGRAMS.map(|program| program.cap));

@@ -62,9 +62,7 @@ pub fn call_of(random: &mut Random, run: &[u32], mix: &Mix, letter: char) -> Cal
             Call::V { c, n }
         }
         'D' => {
-            let last = PROGRAMS.len() as u32;
-            let (p, d) = (random.between(1, last), random.pick(&[0, 1, 1, 1, 2]));
-            let p = beyond(random, p, &[0, last + 1]);
+            let (p, d) = (program(random), random.pick(&[0, 1, 1, 1, 2]));
             let d = beyond(random, d, &[3, 4]);
             Call::D { c, p, d }
         }
@@ -90,6 +88,13 @@ pub fn call_of(random: &mut Random, run: &[u32], mix: &Mix, letter: char) -> Cal
             Call::of(letter, &[c, m, h])
         }
     }
+}
+
+/// A program, or now and then a number of none.
+pub fn program(random: &mut Random) -> u32 {
+    let last = PROGRAMS.len() as u32;
+    let p = random.between(1, last);
+    beyond(random, p, &[0, last + 1])
 }
 
 /// Numbers beyond the limits of a price.

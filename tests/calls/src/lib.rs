@@ -18,4 +18,4 @@ pub mod words;
 pub use call::{Call, LETTERS};
 pub use random::Random;
 pub use strike_book::{Answer, StrikeBook};
-pub use tally::Tally;
+pub use tally::{Read, Tally};

@@ -1,4 +1,4 @@
-//! How often each call drew each number, for each program and on each ground.
+//! How often each call drew each number, for each program and on each ground, and each read of a counter.
 
 use crate::words::{GROUNDS, PROGRAMS};
 use crate::{Answer, Call};
@@ -38,6 +38,26 @@ fn details(letter: char, number: u32) -> Range<u32> {
     }
 }
 
+/// A way to read a counter: over any words, or over words that are known to be a book.
+#[derive(Clone, Copy, Debug, PartialEq, Eq, PartialOrd, Ord)]
+pub enum Read {
+    Any,
+    Known,
+}
+
+const READS: [Read; 2] = [Read::Any, Read::Known];
+
+/// The numbers that a read can draw.
+const READ_NUMBERS: Range<u32> = 0..3;
+
+/// The programs whose counter is read. Any other number has only 0.
+fn read_details(number: u32) -> Range<u32> {
+    match number {
+        0 => 1..PROGRAMS.len() as u32 + 1,
+        _ => 0..1,
+    }
+}
+
 /// How often each of them must have been drawn.
 const LEAST: u64 = 100;
 
@@ -45,6 +65,8 @@ const LEAST: u64 = 100;
 pub struct Tally {
     /// By letter, number and what tells its answers apart.
     times: BTreeMap<(char, u32, u32), u64>,
+    /// By way, number and program.
+    reads: BTreeMap<(Read, u32, u32), u64>,
 }
 
 impl Tally {
@@ -57,6 +79,20 @@ impl Tally {
         };
         let drawn = (call.letter(), number, detail);
         *self.times.entry(drawn).or_default() += 1;
+    }
+
+    pub fn count_read(&mut self, read: Read, program: u32, number: u32) {
+        let detail = match number {
+            0 => program,
+            _ => 0,
+        };
+        *self.reads.entry((read, number, detail)).or_default() += 1;
+    }
+
+    /// How often a read drew a number: 0 of one program, or another.
+    pub fn times_read(&self, read: Read, number: u32, detail: u32) -> u64 {
+        let drawn = (read, number, detail);
+        self.reads.get(&drawn).copied().unwrap_or(0)
     }
 
     pub fn calls(&self) -> u64 {
@@ -75,7 +111,7 @@ impl Tally {
     }
 
     /// Each call drew each number that it can draw often enough, for each program and on each ground, and
-    /// no other.
+    /// no other; and so did each read.
     pub fn is_complete(&self) -> Result<(), String> {
         for (letter, can) in DRAWN {
             for number in NUMBERS {
@@ -83,6 +119,20 @@ impl Tally {
                     self.is_drawn(letter, number)?;
                 } else if self.times(letter, number) > 0 {
                     return Err(format!("{letter} drew {number}, which it can't"));
+                }
+            }
+        }
+        READS.into_iter().try_for_each(|read| self.is_read(read))
+    }
+
+    fn is_read(&self, read: Read) -> Result<(), String> {
+        for number in READ_NUMBERS {
+            for detail in read_details(number) {
+                let times = self.times_read(read, number, detail);
+                if times < LEAST {
+                    return Err(format!(
+                        "{read:?} read {number} ({detail}) {times} times, and is to read it {LEAST} times"
+                    ));
                 }
             }
         }
@@ -101,7 +151,8 @@ impl Tally {
         Ok(())
     }
 
-    /// Prints a line for each call: each number that it drew, and how often.
+    /// Prints a line for each call, and for each read if there were any: each number that it drew, and how
+    /// often.
     pub fn print(&self) {
         for (letter, _) in DRAWN {
             let drawn: Vec<String> = NUMBERS
@@ -110,18 +161,41 @@ impl Tally {
                 .collect();
             println!("  {letter}  {}", drawn.join(", "));
         }
+        if self.reads.is_empty() {
+            return;
+        }
+        for read in READS {
+            let drawn = READ_NUMBERS.map(|number| self.told_read(read, number));
+            println!("  {read:?} read  {}", drawn.collect::<Vec<_>>().join(", "));
+        }
+    }
+
+    /// How often a number was read, and then for each program.
+    fn told_read(&self, read: Read, number: u32) -> String {
+        let times = read_details(number).map(|detail| self.times_read(read, number, detail));
+        told(number, &times.collect::<Vec<_>>(), read_details(number))
     }
 
     /// How often a number was drawn, and then for each program or on each ground.
     fn told(&self, letter: char, number: u32) -> String {
-        let told = format!("{number}: {}", self.times(letter, number));
-        let apart: Vec<String> = details(letter, number)
-            .map(|detail| format!("{detail}: {}", self.times_of(letter, number, detail)))
-            .collect();
-        match apart.len() {
-            1 => told,
-            _ => format!("{told} ({})", apart.join(", ")),
-        }
+        let details = details(letter, number);
+        let times = details
+            .clone()
+            .map(|detail| self.times_of(letter, number, detail));
+        told(number, &times.collect::<Vec<_>>(), details)
+    }
+}
+
+/// How often a number was drawn, and then for each of its details.
+fn told(number: u32, times: &[u64], details: Range<u32>) -> String {
+    let told = format!("{number}: {}", times.iter().sum::<u64>());
+    let apart: Vec<String> = details
+        .zip(times)
+        .map(|(detail, times)| format!("{detail}: {times}"))
+        .collect();
+    match apart.len() {
+        1 => told,
+        _ => format!("{told} ({})", apart.join(", ")),
     }
 }
 
@@ -129,13 +203,20 @@ impl Tally {
 mod tests {
     use super::*;
 
-    /// Each call drew each number that it can draw as often as it must.
+    /// Each call and each read drew each number that it can draw as often as it must.
     fn complete() -> Tally {
         let mut tally = Tally::default();
         for (letter, can) in DRAWN {
             for number in can {
                 for detail in details(letter, *number) {
                     tally.times.insert((letter, *number, detail), LEAST);
+                }
+            }
+        }
+        for read in READS {
+            for number in READ_NUMBERS {
+                for detail in read_details(number) {
+                    tally.reads.insert((read, number, detail), LEAST);
                 }
             }
         }
@@ -164,6 +245,20 @@ mod tests {
     }
 
     #[test]
+    fn reads_that_are_rare_are_missed() {
+        let whole = complete().reads;
+        assert_eq!(whole.len(), 2 * (3 + 2));
+        for drawn in whole.keys() {
+            let mut tally = complete();
+            tally.reads.insert(*drawn, LEAST - 1);
+            let said = tally.is_complete().unwrap_err();
+            let (read, number, detail) = drawn;
+            let wanted = format!("{read:?} read {number} ({detail}) 99 times");
+            assert!(said.starts_with(&wanted), "{said}");
+        }
+    }
+
+    #[test]
     fn calls_are_counted() {
         let mut tally = Tally::default();
         let mut count = |call, number, value| tally.count(&call, Answer { number, value });
@@ -180,5 +275,15 @@ mod tests {
         assert_eq!([0, 5].map(|number| tally.times('M', number)), [1, 2]);
         assert_eq!(tally.told('D', 10), "10: 3 (1: 0, 2: 1, 3: 2)");
         assert_eq!(tally.times_of('L', 0, 4), 1);
+        for (program, number) in [(1, 0), (3, 0), (3, 0), (3, 1), (4, 2)] {
+            tally.count_read(Read::Known, program, number);
+        }
+        assert_eq!(tally.told_read(Read::Known, 0), "0: 3 (1: 1, 2: 0, 3: 2)");
+        assert_eq!(
+            [1, 2].map(|n| tally.told_read(Read::Known, n)),
+            ["1: 1", "2: 1"]
+        );
+        assert_eq!(tally.told_read(Read::Any, 1), "1: 0");
+        assert_eq!(tally.calls(), 8);
     }
 }

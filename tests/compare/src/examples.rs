@@ -4,7 +4,7 @@
 use crate::pair::{same, same_words, Pair};
 use calls::Tally;
 use second::{parse_line, printed};
-use strikebook::library;
+use strikebook::library::{self, CounterReply};
 
 /// What `A` prints for these strikes.
 fn permitted(strikes: &[u32]) -> String {
@@ -19,10 +19,16 @@ fn by(step: usize, from: u32, to: u32) -> Vec<u32> {
     (from..=to).step_by(step).collect()
 }
 
-/// Makes the calls on a fresh book of the length with a second run of 512, and wants the answers, both
-/// written as document 01 writes its sample.
-fn list(length: usize, calls: &str, answers: &str, tally: &mut Tally) -> Result<(), String> {
+/// Makes the calls on a fresh book of the length, and wants the answers. Answers the book.
+fn list(length: usize, calls: &str, answers: &str, tally: &mut Tally) -> Result<Pair, String> {
     let mut pair = Pair::fresh(vec![7; length])?;
+    make(&mut pair, calls, answers, tally)?;
+    Ok(pair)
+}
+
+/// Makes the calls on a book with a second run of 512, and wants the answers, both written as document 01
+/// writes its sample.
+fn make(pair: &mut Pair, calls: &str, answers: &str, tally: &mut Tally) -> Result<(), String> {
     let calls: Vec<&str> = calls.split(" / ").collect();
     let answers: Vec<&str> = answers.split(" / ").collect();
     assert_eq!(calls.len(), answers.len(), "an answer for each call");
@@ -80,6 +86,84 @@ fn cap(program: u32, count: u32) -> (String, String) {
     (calls.join(" / "), answers.join(" / "))
 }
 
+/// Own classes and strikes of each program, program 1 first.
+type Counts = [[u32; 2]; 3];
+
+/// Wants these counters of a book. That both sides have the same is compared after every call.
+fn wants(pair: &Pair, counts: Counts) -> Result<(), String> {
+    for (program, [own_classes, strikes]) in (1..).zip(counts) {
+        let number = 0;
+        let wanted = CounterReply {
+            number,
+            own_classes,
+            strikes,
+        };
+        let what = format!("the counter of program {program}");
+        same(&what, library::read_counter(&pair.words, program), wanted)?;
+    }
+    Ok(())
+}
+
+/// #104: calls on one book, their answers, and the counters after them. Class 7 is of the $1 and the $0.50
+/// program, and lists a Dollar, a Half and a Wing strike; 9 is of the $2.50 program.
+#[rustfmt::skip]
+const COUNTED: [(&str, &str, Counts); 25] = [
+    ("M 4 / O 7 / C 7 200 / V 7 1000", "0 / 0 / 0 / 0", [[0, 0], [0, 0], [0, 0]]),
+    ("D 7 1 1", "0", [[1, 0], [0, 0], [0, 0]]),
+    ("D 7 2 1 / D 7 2 1", "0 / 0", [[1, 0], [1, 0], [0, 0]]),
+    ("L 7 5 14", "0 1", [[1, 1], [1, 0], [0, 0]]),
+    ("L 7 5 9", "0 2", [[1, 1], [1, 1], [0, 0]]),
+    ("L 7 13 14", "0 3", [[1, 2], [1, 1], [0, 0]]),
+    ("L 7 13 10", "0 0", [[1, 2], [1, 1], [0, 0]]),
+    ("O 9 / C 9 4850 / D 9 3 1", "0 / 0 / 0", [[1, 2], [1, 1], [1, 0]]),
+    ("L 9 5 105 / L 9 6 115", "0 4 / 0 4", [[1, 2], [1, 1], [1, 2]]),
+    ("D 9 1 1", "0", [[2, 2], [1, 1], [1, 2]]),
+    // What is refused, and the other calls.
+    ("L 7 5 14 / L 7 5 16 / J 7 6 14 / X 7 5 15 / D 9 2 1", "6 / 12 / 0 1 / 7 / 9", [[2, 2], [1, 1], [1, 2]]),
+    ("I 7 5 14 1 0 / X 7 5 14 / H 7 150 250 / V 7 2000", "0 / 14 / 0 / 0", [[2, 2], [1, 1], [1, 2]]),
+    // Designation 2 is not counted; strikes count after the release.
+    ("D 7 1 2", "0", [[1, 2], [1, 1], [1, 2]]),
+    ("D 7 2 2 / D 9 3 0 / D 9 1 0", "0 / 0 / 0", [[0, 2], [0, 1], [0, 2]]),
+    ("D 9 3 2 / D 7 1 1 / D 9 3 1", "0 / 0 / 0", [[1, 2], [0, 1], [1, 2]]),
+    // The review: $7 is $33 from the close, in both months, and marked in one.
+    ("C 7 4000 / R 7", "0 / 0 1", [[1, 1], [0, 1], [1, 2]]),
+    ("I 7 5 14 0 0 / R 7", "0 / 0 1", [[1, 0], [0, 1], [1, 2]]),
+    ("R 9", "0 0", [[1, 0], [0, 1], [1, 2]]),
+    ("C 7 200 / L 7 5 14 / L 7 13 14", "0 / 0 1 / 0 3", [[1, 2], [0, 1], [1, 2]]),
+    // The month: month 5 has strikes of all three programs.
+    ("M 5", "0", [[1, 2], [0, 1], [1, 2]]),
+    ("M 6", "0", [[1, 1], [0, 0], [1, 1]]),
+    ("M 5 / M 6", "5 / 0", [[1, 1], [0, 0], [1, 1]]),
+    ("X 9 6 115", "0", [[1, 1], [0, 0], [1, 0]]),
+    ("X 7 13 10", "0", [[1, 1], [0, 0], [1, 0]]),
+    ("X 7 13 14 / D 7 1 0 / D 9 3 0", "0 / 0 / 0", [[0, 0], [0, 0], [0, 0]]),
+];
+
+fn counted(tally: &mut Tally) -> Result<(), String> {
+    let mut pair = Pair::fresh(vec![7; 64])?;
+    for (calls, answers, counts) in COUNTED {
+        make(&mut pair, calls, answers, tally)
+            .and_then(|()| wants(&pair, counts))
+            .map_err(|text| format!("#104, `{calls}`: {text}"))?;
+    }
+    Ok(())
+}
+
+/// Each cap, reached and left and reached again: as many own classes are counted, and one in the other
+/// program.
+fn caps(tally: &mut Tally) -> Result<(), String> {
+    for (program, count) in [(1, 150), (2, 20), (3, 60)] {
+        let (calls, answers) = cap(program, count);
+        let mut counts = [[0; 2]; 3];
+        counts[program as usize - 1] = [count, 0];
+        counts[program as usize % 3] = [1, 0];
+        list(4_096, &calls, &answers, tally)
+            .and_then(|pair| wants(&pair, counts))
+            .map_err(|text| format!("class {} of program {program}: {text}", count + 1))?;
+    }
+    Ok(())
+}
+
 pub fn compare(tally: &mut Tally) -> Result<(), String> {
     let both = |mut strikes: Vec<u32>, more: &[u32]| {
         strikes.extend(more);
@@ -94,9 +178,6 @@ pub fn compare(tally: &mut Tally) -> Result<(), String> {
         10, 14, 20, 24, 30, 34, 40, 44, 46, 50, 56, 60, 66, 70, 74, 76, 80, 84, 90, 94, 100, 110,
         120,
     ]);
-    let (dollar_calls, dollar_answers) = cap(1, 150);
-    let (half_calls, half_answers) = cap(2, 20);
-    let (two_fifty_calls, two_fifty_answers) = cap(3, 60);
     let reviewed = "M 4 / O 7 / C 7 1300 / D 7 1 1 / L 7 5 14 / L 7 5 16 / L 7 5 38 / L 7 5 40";
     let stood = "0 / 0 / 0 / 0 / 0 1 / 0 1 / 0 1 / 0 0";
     let examples: Vec<(&str, usize, String, String)> = vec![
@@ -176,9 +257,6 @@ pub fn compare(tally: &mut Tally) -> Result<(), String> {
                 .to_string(),
             "0 / 0 / 9 / 0 / 0 / 0 / 0 / 9 / 0 / 0 / 9 / 0 / 0".to_string(),
         ),
-        ("the 151st class", 4_096, dollar_calls, dollar_answers),
-        ("the 21st half class", 4_096, half_calls, half_answers),
-        ("the 61st class of the $2.50 program", 4_096, two_fifty_calls, two_fifty_answers),
         (
             "the review with none marked",
             4_096,
@@ -193,7 +271,7 @@ pub fn compare(tally: &mut Tally) -> Result<(), String> {
         ),
         (
             "no expiration word without strikes, and no 15 while words remain",
-            8,
+            11,
             "O 7 / C 7 1300 / D 7 1 1 / L 7 5 14 / L 7 6 14 / X 7 5 14 / L 7 6 14 / R 7 / L 7 5 14 / M 6 / L 7 7 14"
                 .to_string(),
             "0 / 0 / 0 / 0 1 / 15 / 0 / 0 1 / 0 1 / 0 1 / 0 / 0 1".to_string(),
@@ -343,9 +421,21 @@ pub fn compare(tally: &mut Tally) -> Result<(), String> {
         ),
         (
             "#103: a class takes five words",
-            11,
+            14,
             "O 7 / O 8 / O 9".to_string(),
             "0 / 0 / 15".to_string(),
+        ),
+        (
+            "#104: a fresh book takes four words",
+            4,
+            "M 4 / O 7".to_string(),
+            "0 / 15".to_string(),
+        ),
+        (
+            "#104: a class with a strike takes eleven words",
+            10,
+            "O 7 / C 7 200 / L 7 5 5 / J 7 5 5 / O 8".to_string(),
+            "0 / 0 / 15 / 0 0 / 15".to_string(),
         ),
         (
             "malformed lines",
@@ -357,5 +447,7 @@ pub fn compare(tally: &mut Tally) -> Result<(), String> {
     for (name, length, calls, answers) in examples {
         list(length, &calls, &answers, tally).map_err(|text| format!("{name}: {text}"))?;
     }
+    caps(tally)?;
+    counted(tally)?;
     sample_sheet()
 }

@@ -1,4 +1,4 @@
-//! Lists of calls on books of 1 to 5,000 words, compared after every call.
+//! Lists of calls on books of 4 to 5,000 words, compared after every call.
 
 use crate::pair::Pair;
 use crate::prices::{self, ByPrice};
@@ -29,7 +29,7 @@ const KINDS: [Kind; 9] = [
             weights: [2, 8, 10, 8, 5, 9, 40, 10, 6, 9, 3, 2],
             highest: 4,
         },
-        start: |random| fresh(random, 1, 60),
+        start: |random| fresh(random, 4, 60),
     },
     Kind {
         name: "crowded expirations",
@@ -69,7 +69,7 @@ const KINDS: [Kind; 9] = [
             weights: [1, 5, 8, 7, 4, 8, 50, 8, 6, 12, 3, 1],
             highest: 12,
         },
-        start: |random| fresh(random, 1, 600),
+        start: |random| fresh(random, 4, 600),
     },
     Kind {
         name: "full books",
@@ -80,7 +80,7 @@ const KINDS: [Kind; 9] = [
             highest: 40,
         },
         start: |random| {
-            let length = random.between(1, 400) as usize;
+            let length = random.between(4, 400) as usize;
             Ok(Pair::of(books::full(random, length)))
         },
     },
@@ -93,7 +93,7 @@ const KINDS: [Kind; 9] = [
             highest: 60,
         },
         start: |random| {
-            let length = random.between(1, 1_500) as usize;
+            let length = random.between(4, 1_500) as usize;
             Ok(Pair::of(books::any(random, length)))
         },
     },

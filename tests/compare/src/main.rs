@@ -1,8 +1,9 @@
 //! Compares the static library and the sheet program with `second`, document 01 written a second time:
 //! document 01's examples and those of the requests, sheets of several pieces, pairs of lists, and more
-//! than a million generated calls from fixed seeds. It fails at the first difference, with its seed and
-//! its call.
+//! than a million generated calls from fixed seeds, with the counters after each. It fails at the first
+//! difference, with its seed and its call.
 
+mod counters;
 mod examples;
 mod lists;
 mod pair;

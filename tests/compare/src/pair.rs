@@ -1,5 +1,6 @@
 //! One call made on both sides, and what it left compared.
 
+use crate::counters::read_book;
 use crate::proved::{told, Proved};
 use calls::{Answer, Call, StrikeBook, Tally};
 use second::{make_on_words, PlainBook};
@@ -23,8 +24,8 @@ impl Pair {
         Pair { plain, words }
     }
 
-    /// Makes the call on both sides, with the same second run, and compares number, value and every
-    /// word of both runs. Answers what both answered, and the second run as it is left.
+    /// Makes the call on both sides, with the same second run, and compares number, value, every word of
+    /// both runs and the counters. Answers what both answered, and the second run as it is left.
     pub fn make(
         &mut self,
         call: &Call,
@@ -38,6 +39,7 @@ impl Pair {
         same("the number and the value", answer, wanted)?;
         same_words("the run", &self.words, &self.plain.words())?;
         same_words("the second run", &written, &expected)?;
+        read_book(&self.words, &self.plain, tally)?;
         tally.count(call, answer);
         Ok((answer, written))
     }

@@ -16,7 +16,7 @@ const MIX: Mix = Mix {
 
 /// A fresh book, any book, or a run that is mostly none.
 fn start(random: &mut Random) -> Vec<u32> {
-    let length = random.between(1, 300) as usize;
+    let length = random.between(4, 300) as usize;
     match random.below(8) {
         0 => runs::damaged(random, 120),
         1..=2 => books::any(random, length),

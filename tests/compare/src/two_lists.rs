@@ -4,7 +4,7 @@
 use crate::pair::{same, same_words};
 use crate::proved::told;
 use calls::draw::{self, Mix};
-use calls::words::{kind, places, LOW_HIGH, STRIKE};
+use calls::words::{kind, places, FIRST_CLASS, LOW_HIGH, STRIKE};
 use calls::{records, Answer, Call, Random, StrikeBook};
 use second::{compare_lists, parse_line, PlainBook};
 use strikebook::library;
@@ -162,7 +162,7 @@ fn other(random: &mut Random, length: usize, calls: &[Call]) -> Vec<Call> {
 /// The lengths of the two runs: mostly one that a book can have.
 fn lengths(random: &mut Random) -> [usize; 2] {
     match random.below(16) {
-        0 => random.pick(&[[0, 0], [65_536, 65_536], [0, 64], [65_535, 65_536]]),
+        0 => random.pick(&[[0, 0], [3, 3], [65_536, 65_536], [0, 64], [65_535, 65_536]]),
         1 => [random.index(60), random.index(60)],
         2 => [1 + random.index(20); 2],
         3 if random.one_in(20) => [65_535; 2],
@@ -245,7 +245,7 @@ fn lists_that_differ_in_one_h() -> Result<(), String> {
 fn one(seed: u64, pairs: &mut Pairs) -> Result<(), String> {
     let mut random = Random::new(seed);
     let [left, right] = lengths(&mut random);
-    let length = left.clamp(1, 65_535);
+    let length = left.clamp(FIRST_CLASS, 65_535);
     let calls = list(&mut random, length);
     let others = other(&mut random, length, &calls);
     let differ = calls != others;

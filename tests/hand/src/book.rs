@@ -1,18 +1,22 @@
-//! Whether a run is a book: one pass, 64 words at a time.
+//! Whether a run is a book: one pass, 64 words at a time, and one that counts strikes.
 
-use crate::program::PROGRAMS;
-use crate::word::{
-    head, strike, CLASS_WORDS, CLOSE, EXPIRATION, KEY, LOW_HIGH, STRIKE, UNMARKED, VOLUME,
-};
+use crate::program::{strikes_among, ByProgram, PROGRAMS};
+use crate::word::{counter, head, strike, used, CLASS_WORDS, CLOSE, COUNTER, EXPIRATION};
+use crate::word::{FIRST_CLASS, KEY, LOW_HIGH, STRIKE, UNMARKED, VOLUME};
 
 /// Makes a fresh book of the run, whatever it held; false, and nothing changed, where its length is bad.
 pub fn fresh(run: &mut [u32]) -> bool {
-    if run.is_empty() || run.len() > 65_535 {
+    if !is_length(run.len()) {
         return false;
     }
     run.fill(0);
-    run[0] = head(0, 1);
+    run[0] = head(0, FIRST_CLASS);
+    run[1..FIRST_CLASS].fill(COUNTER);
     true
+}
+
+fn is_length(length: usize) -> bool {
+    (FIRST_CLASS..=65_535).contains(&length)
 }
 
 /// Whether `w` is a strike word that may follow `before`, an expiration or a strike. That h is at
@@ -46,8 +50,8 @@ fn are_prices(low: u32, close: u32, high: u32) -> bool {
 
 /// One bit for each word, from the lowest, that is no next strike.
 #[inline(always)]
-fn others(before: &[u32; 32], words: &[u32; 32]) -> u32 {
-    let mut bits = 0;
+fn others(before: &[u32; 32], words: &[u32; 32]) -> u64 {
+    let mut bits: u32 = 0;
     for i in 0..32 {
         bits |= if is_next_strike(before[i], words[i]) {
             0
@@ -55,7 +59,63 @@ fn others(before: &[u32; 32], words: &[u32; 32]) -> u32 {
             1 << i
         };
     }
-    bits
+    u64::from(bits)
+}
+
+/// The same of the 32 words from `at` on.
+#[inline(always)]
+fn others_of_32(run: &[u32], at: usize) -> u64 {
+    let part: &[u32; 33] = run[at - 1..at + 32].try_into().unwrap();
+    others(
+        part[..32].try_into().unwrap(),
+        part[1..].try_into().unwrap(),
+    )
+}
+
+/// The same of the 64 words from `at` on.
+#[inline(always)]
+fn others_of_64(run: &[u32], at: usize) -> u64 {
+    let part: &[u32; 65] = run[at - 1..at + 64].try_into().unwrap();
+    let low = others(
+        part[..32].try_into().unwrap(),
+        part[1..33].try_into().unwrap(),
+    );
+    let high = others(
+        part[32..64].try_into().unwrap(),
+        part[33..].try_into().unwrap(),
+    );
+    low | high << 32
+}
+
+/// The same of the words from `at` on, 64 or as many as the run has.
+#[inline(always)]
+fn others_from(run: &[u32], at: usize, used: usize) -> u64 {
+    if at + 64 <= run.len() {
+        others_of_64(run, at)
+    } else {
+        others_of_rest(run, at, used)
+    }
+}
+
+/// The same of the words from `at` on where these are fewer than 64; at least of those that are used.
+fn others_of_rest(run: &[u32], at: usize, used: usize) -> u64 {
+    let length = run.len();
+    if length > 64 {
+        // The last 64, less those before `at`.
+        return others_of_64(run, length - 64) >> (at + 64 - length);
+    }
+    if length >= at + 32 {
+        // The first and the last 32, which have some in common.
+        let first = others_of_32(run, at);
+        if used <= at + 32 {
+            return first;
+        }
+        return first | others_of_32(run, length - 32) << (length - 32 - at);
+    }
+    let pairs = run[at - 1..].windows(2).enumerate();
+    pairs.fold(0, |bits, (i, pair)| {
+        bits | u64::from(!is_next_strike(pair[0], pair[1])) << i
+    })
 }
 
 /// What is remembered of the classes and months passed.
@@ -65,7 +125,9 @@ struct Passed {
     least_month: u32,
     class: u32,
     /// The own classes of each program.
-    own: [u32; PROGRAMS.len()],
+    own: ByProgram,
+    /// Where the words that were passed with the last class end.
+    next: usize,
 }
 
 impl Passed {
@@ -76,6 +138,33 @@ impl Passed {
         let good = (month >= self.least_month) & (month <= self.latest) & (after & KEY > STRIKE);
         self.least_month = month + 1;
         good
+    }
+
+    /// The words whose bits are set, the lowest being that of the word at `at`, but for those that were
+    /// passed with a class before it.
+    #[inline(always)]
+    fn others(&mut self, words: &[u32], at: usize, mut bits: u64) -> bool {
+        bits &= u64::MAX << self.next.saturating_sub(at);
+        let part = &words[at - 1..];
+        while bits != 0 {
+            let i = bits.trailing_zeros() as usize;
+            // The last word is neither an expiration nor a class.
+            let Some(&[before, w, after]) = part.get(i..i + 3) else {
+                return false;
+            };
+            if w >> 28 == 5 {
+                if !(is_strike_low(before) & self.expiration(w, after)) {
+                    return false;
+                }
+                bits &= bits - 1;
+            } else {
+                let Some(count) = self.class(words, at + i) else {
+                    return false;
+                };
+                bits &= u64::MAX << i << count;
+            }
+        }
+        true
     }
 
     /// The words of a class, at `at`, and its first expiration where one follows. Answers how many words
@@ -108,15 +197,18 @@ impl Passed {
         }
         self.class = class;
         self.least_month = self.now;
-        match words.get(end).map(|next| next >> 28) {
-            None | Some(2) => Some(CLASS_WORDS),
-            Some(5) => {
-                let after = *words.get(end + 1)?;
-                let good = self.expiration(words[end], after);
-                good.then_some(CLASS_WORDS + 1)
-            }
-            Some(_) => None,
-        }
+        let count = match words.get(end).map(|next| next >> 28) {
+            None | Some(2) => CLASS_WORDS,
+            Some(5) if self.expiration(words[end], *words.get(end + 1)?) => CLASS_WORDS + 1,
+            Some(_) => return None,
+        };
+        self.next = at + count;
+        Some(count)
+    }
+
+    /// The counters of a book with these classes and so many strikes.
+    fn counters(&self, strikes: ByProgram) -> ByProgram {
+        std::array::from_fn(|place| counter(self.own[place], strikes[place]))
     }
 
     fn caps_hold(&self) -> bool {
@@ -126,24 +218,25 @@ impl Passed {
 }
 
 pub fn is_book(run: &[u32]) -> bool {
-    let length = run.len();
-    if length == 0 || length > 65_535 {
+    if !is_length(run.len()) {
         return false;
     }
-    let used = ((run[0] >> 10) & 65_535) as usize;
-    if run[0] >> 26 != 4 || used == 0 || used > length {
+    let used = used(run);
+    if run[0] >> 26 != 4 || used < FIRST_CLASS || used > run.len() {
         return false;
     }
-    let (words, rest) = run.split_at(used);
-    are_words(words) && are_zero(rest)
+    are_words(run, used) && are_zero(&run[used..])
 }
 
+/// Not compiled into its caller, so that its loop begins where the function does.
+#[inline(never)]
 fn are_zero(words: &[u32]) -> bool {
     words.iter().fold(0, |all, w| all | w) == 0
 }
 
 /// Whether the words used, with their good head, are those of a book.
-fn are_words(words: &[u32]) -> bool {
+fn are_words(run: &[u32], used: usize) -> bool {
+    let words = &run[..used];
     let now = words[0] & 1_023;
     let mut passed = Passed {
         now,
@@ -151,67 +244,28 @@ fn are_words(words: &[u32]) -> bool {
         least_month: now,
         class: 0,
         own: [0; PROGRAMS.len()],
+        next: 0,
     };
-    let mut at = 1;
-    // The first word that isn't tested yet, where it is beyond `at`.
-    let mut next = 1;
-    if words.len() > 1 {
-        let Some(count) = passed.class(words, at) else {
-            return false;
-        };
-        next += count;
+    let mut at = FIRST_CLASS;
+    let mut ahead = others_from(run, at, used);
+    // The first class is one, whatever they are.
+    if at < used && passed.class(words, at).is_none() {
+        return false;
     }
-    while let Some(part) = words.get(at - 1..at + 65) {
-        let part: &[u32; 66] = part.try_into().unwrap();
-        let low = others(
-            part[..32].try_into().unwrap(),
-            part[1..33].try_into().unwrap(),
-        );
-        let high = others(
-            part[32..64].try_into().unwrap(),
-            part[33..65].try_into().unwrap(),
-        );
-        let mut bits = u64::from(low) | u64::from(high) << 32;
-        if next > at {
-            bits &= u64::MAX << (next - at);
+    while at < used {
+        let mut bits = ahead;
+        if at + 64 < used {
+            // Before these are looked at: it doesn't wait for what they are.
+            ahead = others_from(run, at + 64, used);
+        } else {
+            bits &= u64::MAX >> (64 - (used - at));
         }
-        while bits != 0 {
-            let i = (bits.trailing_zeros() & 63) as usize;
-            let w = part[i + 1];
-            if w >> 28 == 5 {
-                if !(is_strike_low(part[i]) & passed.expiration(w, part[i + 2])) {
-                    return false;
-                }
-                bits &= bits - 1;
-            } else {
-                let Some(count) = passed.class(words, at + i) else {
-                    return false;
-                };
-                next = at + i + count;
-                bits &= u64::MAX << i << count;
-            }
+        if !passed.others(words, at, bits) {
+            return false;
         }
         at += 64;
     }
-    at = at.max(next);
-    while at < words.len() {
-        let (before, w) = (words[at - 1], words[at]);
-        if is_next_strike(before, w) {
-            at += 1;
-        } else if w >> 28 == 5 {
-            let Some(&after) = words.get(at + 1) else {
-                return false;
-            };
-            if !(is_strike_low(before) & passed.expiration(w, after)) {
-                return false;
-            }
-            at += 1;
-        } else {
-            let Some(count) = passed.class(words, at) else {
-                return false;
-            };
-            at += count;
-        }
-    }
-    is_end_low(words[words.len() - 1]) && passed.caps_hold()
+    is_end_low(words[used - 1])
+        && passed.caps_hold()
+        && passed.counters(strikes_among(&words[FIRST_CLASS..])) == words[1..FIRST_CLASS]
 }

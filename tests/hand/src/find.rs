@@ -4,7 +4,7 @@
 //! that counts: a higher kind still counts for more, and of two words of one kind the later counts
 //! for less.
 
-use crate::word::{CLASS, CLASS_WORDS, EXPIRATION, STRIKE, VOLUME};
+use crate::word::{CLASS, CLASS_WORDS, EXPIRATION, FIRST_CLASS, STRIKE, VOLUME};
 
 /// The first place from `from` on where the word, its bits `turn` turned over and only those of
 /// `keep` kept, is at most `bound`; or, where none is before `to`, some place from `to` on.
@@ -79,7 +79,7 @@ pub fn class_place(run: &[u32], used: usize, c: u32) -> usize {
     // All classes before `low` are below c. Those from `high` on aren't, and none begins from
     // `edge` on before `high`. `low` may pass `edge` by a few words, and `high` may be the word
     // before it.
-    let (mut low, mut edge, mut high) = (1, used, used);
+    let (mut low, mut edge, mut high) = (FIRST_CLASS, used, used);
     // The last number before `low`, and that at `high`; 0 where unknown.
     let (mut below, mut above) = (0, 0);
     let mut steps = 0;

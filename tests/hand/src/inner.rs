@@ -2,10 +2,11 @@
 
 use crate::find::{class_or_close, class_place, expiration_from, strike_from};
 use crate::permitted;
-use crate::program::{Program, DOLLAR, HALF, TWO_FIFTY};
+use crate::program::{counted, packed_strikes, unpacked, Program, DOLLAR, HALF, TWO_FIFTY};
 use crate::rule::Terms;
-use crate::word::{head, now, strike, used, CLASS, CLASS_WORDS, CLOSE, EXPIRATION, KEY};
-use crate::word::{LOW_HIGH, MARKS, STRIKE, UNMARKED, VOLUME};
+use crate::word::{ground, head, now, own_classes, strike, used, CLASS, CLASS_WORDS, CLOSE};
+use crate::word::{EXPIRATION, FIRST_CLASS, KEY, LOW_HIGH, MARKS, ONE_STRIKE, STRIKE};
+use crate::word::{UNMARKED, VOLUME};
 use crate::Answer;
 
 const DONE: Answer = Answer::accepted(0);
@@ -69,11 +70,13 @@ pub fn set_month(run: &mut [u32], m: u32) -> Answer {
     }
     // The months that go stand first in each class.
     let end = used(run);
-    let (mut written, mut kept, mut at) = (1, 1, 1);
+    let (mut written, mut kept, mut at) = (FIRST_CLASS, FIRST_CLASS, FIRST_CLASS);
+    let mut gone = 0;
     while at < end {
         let first = at + CLASS_WORDS;
         let stays = if word(run, first).wrapping_sub(EXPIRATION) < m {
             let stays = expiration_from(run, first, m);
+            gone += packed_strikes(&run[first..stays]);
             if written != kept {
                 run.copy_within(kept..first, written);
             }
@@ -91,6 +94,9 @@ pub fn set_month(run: &mut [u32], m: u32) -> Answer {
     written += end - kept;
     run[written..end].fill(0);
     run[0] = head(m, written);
+    for (counter, gone) in run[1..FIRST_CLASS].iter_mut().zip(unpacked(gone)) {
+        *counter -= gone * ONE_STRIKE;
+    }
     DONE
 }
 
@@ -182,8 +188,9 @@ fn designate_in(program: &Program, run: &mut [u32], c: u32, d: u32) -> Answer {
         return Answer::refused(4);
     };
     let class = run[at];
-    let field = 3 << program.low;
-    if d == 1 && program.designation(class) != 1 {
+    let was_ours = program.designation(class) == 1;
+    let counter = run[program.counter];
+    if d == 1 && !was_ours {
         let close = run[at + 1] - CLOSE;
         let volume = run[at + 2] - VOLUME;
         if program.needs.is_some() && close == 0 {
@@ -192,16 +199,12 @@ fn designate_in(program: &Program, run: &mut [u32], c: u32, d: u32) -> Answer {
         if !program.qualifies(close, volume) {
             return Answer::refused(9);
         }
-        let (kept, ours) = (0xf000_0000 | field, CLASS | 1 << program.low);
-        let own: u32 = run[1..used(run)]
-            .iter()
-            .map(|w| (w & kept == ours) as u32)
-            .sum();
-        if own >= program.cap {
+        if own_classes(counter) >= program.cap {
             return Answer::refused(10);
         }
     }
-    run[at] = class & !field | d << program.low;
+    run[program.counter] = counter + (d == 1) as u32 - was_ours as u32;
+    run[at] = class & !(3 << program.low) | d << program.low;
     DONE
 }
 
@@ -255,6 +258,7 @@ pub fn list_strike(run: &mut [u32], c: u32, m: u32, h: u32) -> Answer {
     }
     let end = used(run);
     let listed = strike(h, answer.value);
+    let (counter, one) = counted(answer.value);
     if stands {
         if end + 1 > run.len() {
             return Answer::refused(15);
@@ -271,6 +275,7 @@ pub fn list_strike(run: &mut [u32], c: u32, m: u32, h: u32) -> Answer {
         run[place + 1] = listed;
         run[0] += 2 << 10;
     }
+    run[counter] += one;
     answer
 }
 
@@ -304,6 +309,8 @@ pub fn delist_strike(run: &mut [u32], c: u32, m: u32, h: u32) -> Answer {
     if run[place] & MARKS != 0 {
         return Answer::refused(14);
     }
+    let (counter, one) = counted(ground(run[place]));
+    run[counter] -= one;
     let end = used(run);
     if run[place - 1] < STRIKE && word(run, place + 1) < STRIKE {
         run.copy_within(place + 1..end, place - 1);
@@ -392,6 +399,7 @@ pub fn review_class(run: &mut [u32], c: u32) -> Answer {
         let left = end - (to - from - written);
         run[left..end].fill(0);
         run[0] = head(now(run), left);
+        run[DOLLAR.counter] -= removed * ONE_STRIKE;
     }
     Answer::accepted(removed)
 }

@@ -1,10 +1,12 @@
 //! The strike book of document 01 by hand: Rust made for speed, over the lent words, without proofs.
 //!
-//! The functions here test first that the run is a book; those of [`inner`] take that for granted.
+//! The functions here test first that the run is a book; those of [`inner`], and [`read_known_counter`], take
+//! that for granted.
 
 #![forbid(unsafe_code)]
 
 mod book;
+mod counter;
 mod find;
 pub mod inner;
 mod permitted;
@@ -15,6 +17,7 @@ mod strike_book;
 mod word;
 
 pub use book::{fresh, is_book};
+pub use counter::{read_counter, read_known_counter, Counter};
 pub use sheet::run_sheet;
 pub use strike_book::{Known, Tested};
 

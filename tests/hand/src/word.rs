@@ -1,5 +1,8 @@
 //! The fields of the words.
 
+/// The bits of a word's kind.
+pub const KIND: u32 = 15 << 28;
+
 pub const HEAD: u32 = 1 << 28;
 pub const CLASS: u32 = 2 << 28;
 pub const CLOSE: u32 = 3 << 28;
@@ -7,6 +10,10 @@ pub const VOLUME: u32 = 4 << 28;
 pub const EXPIRATION: u32 = 5 << 28;
 pub const STRIKE: u32 = 6 << 28;
 pub const LOW_HIGH: u32 = 7 << 28;
+pub const COUNTER: u32 = 8 << 28;
+
+/// The words before the first class: the head, and a counter for each program.
+pub const FIRST_CLASS: usize = 4;
 
 /// The words of a class before its expirations: class, close, volume, low and high.
 pub const CLASS_WORDS: usize = 5;
@@ -25,10 +32,37 @@ pub const MARKS: u32 = 3 << 18;
 /// ground 0.
 pub const AS_STANDARD: u32 = UNMARKED & !(4 << 15);
 
+/// One strike in a counter.
+pub const ONE_STRIKE: u32 = 1 << 8;
+
+/// The counter of a program.
+#[inline(always)]
+pub fn counter(own_classes: u32, strikes: u32) -> u32 {
+    COUNTER | own_classes | strikes << 8
+}
+
+/// The own classes of a counter.
+#[inline(always)]
+pub fn own_classes(counter: u32) -> u32 {
+    counter & 255
+}
+
+/// The strikes of a counter.
+#[inline(always)]
+pub fn strikes(counter: u32) -> u32 {
+    (counter >> 8) & 65_535
+}
+
 /// A strike word without marks.
 #[inline(always)]
 pub fn strike(h: u32, ground: u32) -> u32 {
     STRIKE | ground << 15 | h
+}
+
+/// The ground of a strike word.
+#[inline(always)]
+pub fn ground(strike: u32) -> u32 {
+    (strike >> 15) & 7
 }
 
 #[inline(always)]

@@ -2,10 +2,10 @@
 
 use calls::books::{self, CROWDED};
 use calls::draw::{self, Mix};
-use calls::words::{class_of, number, places, CLASS, PROGRAMS, VOLUME};
+use calls::words::{class_of, number, places, CLASS, FIRST_CLASS, PROGRAMS, VOLUME};
 use calls::{runs, Call, Random, StrikeBook, Tally, LETTERS};
-use hand::{inner, Known, Tested};
-use second::{make_on_words, PlainBook};
+use hand::{inner, read_counter, read_known_counter, Counter, Known, Tested};
+use second::{counter_on_words, make_on_words, PlainBook};
 use std::collections::BTreeMap;
 
 const WEIGHTS: [u32; LETTERS.len()] = [3, 7, 8, 8, 5, 10, 30, 12, 8, 8, 5, 4];
@@ -46,6 +46,28 @@ fn compare(run: &mut Vec<u32>, call: &Call, second: &[u32], tally: &mut Tally) {
     }
     tally.count(call, wanted);
     *run = wanted_run;
+    compare_counter(run, tally.calls() as u32 % 5);
+}
+
+/// Reads the counter of a program, or of the number below or above theirs, on both sides.
+fn compare_counter(run: &[u32], program: u32) {
+    let wanted = match counter_on_words(run, program) {
+        Ok(counter) => Counter {
+            number: 0,
+            own_classes: counter.own_classes,
+            strikes: counter.strikes,
+        },
+        Err(number) => Counter {
+            number,
+            own_classes: 0,
+            strikes: 0,
+        },
+    };
+    assert_eq!(read_counter(run, program), wanted, "{program} of {run:x?}");
+    if wanted.number != 1 {
+        let known = read_known_counter(run, program);
+        assert_eq!(known, wanted, "{program} of {run:x?}");
+    }
 }
 
 /// Draws calls over a run, and compares them.
@@ -61,7 +83,7 @@ fn second_run(random: &mut Random, run: &mut [u32], call: &Call) -> Vec<u32> {
     draw::second_run(random, call, || Tested(run).make(call, &mut []).value)
 }
 
-/// Lists of calls over fresh books and any books, of lengths 1 to 600.
+/// Lists of calls over fresh books and any books, of lengths 4 to 603.
 #[test]
 fn random_lists() {
     let mut random = Random::new(0x5eed_0001);
@@ -69,7 +91,7 @@ fn random_lists() {
     for _ in 0..1_500 {
         let mix = any_mix(&mut random);
         let most = random.pick(&[40, 200, 600, 600]);
-        let length = 1 + random.index(most);
+        let length = FIRST_CLASS + random.index(most);
         let mut run = match random.one_in(3) {
             true => fresh(length),
             false => books::any(&mut random, length),
@@ -212,7 +234,7 @@ fn every_class() {
     let mut tests = 0;
     for _ in 0..1_500 {
         let most = random.pick(&[100, 300, 1_000, 4_096]);
-        let length = 1 + random.index(most);
+        let length = FIRST_CLASS + random.index(most);
         let run = books::any(&mut random, length);
         let place = |at| (number(run[at]), at);
         let places: BTreeMap<u32, usize> = places(&run, CLASS).into_iter().map(place).collect();

@@ -2,7 +2,7 @@
 //! against `J`, document 01's closes at the edges, the $2.50 program, and high and low.
 
 use calls::books::{crowded, CROWDED};
-use calls::words::{class_of, class_words, half_dollars, head, places, ByProgram, Prices};
+use calls::words::{class_of, class_words, half_dollars, headed, places, ByProgram, Prices};
 use calls::words::{EXPIRATION, GROUNDS, STRIKE};
 use calls::{figures, words, Random, StrikeBook};
 use hand::{inner, Known};
@@ -17,8 +17,7 @@ fn one_class(close: u32, designations: ByProgram, volume: u32) -> Vec<u32> {
 }
 
 fn at_prices(prices: Prices, designations: ByProgram, volume: u32) -> Vec<u32> {
-    let mut run = vec![head(4, 6)];
-    run.extend(class_words(7, designations, prices, volume));
+    let mut run = headed(4, &class_words(7, designations, prices, volume));
     run.resize(60, 0);
     assert!(hand::is_book(&run));
     run
@@ -26,13 +25,12 @@ fn at_prices(prices: Prices, designations: ByProgram, volume: u32) -> Vec<u32> {
 
 /// The same with the strike words in one expiration.
 fn one_expiration(prices: Prices, designations: ByProgram, m: u32, strikes: &[u32]) -> Vec<u32> {
-    let mut run = at_prices(prices, designations, 0);
-    run.truncate(6);
+    let mut classes = class_words(7, designations, prices, 0).to_vec();
     if !strikes.is_empty() {
-        run.push(EXPIRATION | m);
-        run.extend(strikes);
+        classes.push(EXPIRATION | m);
+        classes.extend(strikes);
     }
-    run[0] = head(4, run.len());
+    let run = headed(4, &classes);
     assert!(hand::is_book(&run));
     run
 }

@@ -2,6 +2,7 @@
 
 use calls::draw::Mix;
 use calls::program::{piped, same};
+use calls::words::FIRST_CLASS;
 use calls::{books, pieces, runs, sheets, Random, StrikeBook};
 use hand::Tested;
 use second::{lines, make_on_words, parse_line, sheet_program, PlainBook};
@@ -58,7 +59,7 @@ fn random_sheets() {
     let mut random = Random::new(0x5eed_0031);
     let mut count = 0;
     for _ in 0..2_000 {
-        let length = 1 + random.index(600);
+        let length = FIRST_CLASS + random.index(600);
         let mut run = match random.one_in(2) {
             true => PlainBook::fresh(length).unwrap().words(),
             false => books::any(&mut random, length),

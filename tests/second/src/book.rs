@@ -1,8 +1,10 @@
 //! "The plain book holds `now`, and for each open class its close, volume,
 //! two designations and a set of (month, h, ground, put, call). It holds the
 //! run's length too." #101: "equality of books now reads the third designation
-//! too." #103: "low and high being facts."
+//! too." #103: "low and high being facts." The counters of #104 follow from
+//! these facts, and are none themselves.
 
+use crate::rules::grounds_of;
 use crate::units::*;
 use std::collections::{BTreeMap, BTreeSet};
 
@@ -40,6 +42,13 @@ pub struct Strike {
     pub put: u32,
     /// Call open interest, 1 yes.
     pub call: u32,
+}
+
+/// #104: "own classes", and "standing strikes on that program's grounds".
+#[derive(Clone, Copy, Debug, PartialEq, Eq)]
+pub struct Counter {
+    pub own_classes: u32,
+    pub strikes: u32,
 }
 
 impl Strike {
@@ -122,9 +131,10 @@ impl PlainBook {
     }
 
     /// "The words the facts take are 1 + 3 × classes + expirations that have
-    /// strikes + strikes." #103: "A class then takes five words"
+    /// strikes + strikes." #103: "A class then takes five words" #104: "The words
+    /// needed grow by three"
     pub fn words_taken(&self) -> usize {
-        let mut words = 1;
+        let mut words = 1 + 3;
         for class in self.classes.values() {
             words += 5;
             words += class.expirations().len();
@@ -139,6 +149,28 @@ impl PlainBook {
     pub fn own_count(&self, program: u32) -> usize {
         let ours = |class: &&Class| class.designation(program) == 1;
         self.classes.values().filter(ours).count()
+    }
+
+    /// The strikes of all classes on a program's grounds, whatever the classes'
+    /// designations are now.
+    fn strikes_on_grounds_of(&self, program: u32) -> usize {
+        let mut count = 0;
+        for class in self.classes.values() {
+            for strike in class.strikes.values() {
+                if grounds_of(program).contains(&strike.ground) {
+                    count += 1;
+                }
+            }
+        }
+        count
+    }
+
+    /// #104: what the book's word of a program, 1 to 3, counts.
+    pub fn counter(&self, program: u32) -> Counter {
+        Counter {
+            own_classes: self.own_count(program) as u32,
+            strikes: self.strikes_on_grounds_of(program) as u32,
+        }
     }
 
     /// "at most 150 classes with $1 designation 1 and at most 20 with $0.50

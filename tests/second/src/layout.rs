@@ -1,6 +1,6 @@
 //! "Units and the words of the book": the layout of a book in its run.
 
-use crate::book::{Class, PlainBook, Strike};
+use crate::book::{Class, Counter, PlainBook, Strike};
 use crate::units::*;
 use std::collections::BTreeMap;
 
@@ -34,6 +34,22 @@ fn read_head(word: u32) -> Option<(u32, u32)> {
         return None;
     }
     Some((bits(word, 0, 9), bits(word, 10, 25)))
+}
+
+/// #104: "one kind 8 word per program ... own classes in bits 0–7, standing
+/// strikes on that program's grounds in bits 8–23."
+fn counter_word(counter: Counter) -> u32 {
+    of_kind(8) | counter.own_classes | counter.strikes << 8
+}
+
+fn read_counter_word(word: u32) -> Option<Counter> {
+    if kind(word) != 8 || bits(word, 24, 27) != 0 {
+        return None;
+    }
+    Some(Counter {
+        own_classes: bits(word, 0, 7),
+        strikes: bits(word, 8, 23),
+    })
 }
 
 /// "Kind 2, a class: number in bits 0–13, $1 designation in 14–15, $0.50
@@ -155,6 +171,15 @@ impl Walk<'_> {
     }
 }
 
+/// #104: "one kind 8 word per program after the head, program 1 first"
+fn read_counters(walk: &mut Walk) -> Option<Vec<Counter>> {
+    let mut counters = Vec::new();
+    for _ in PROGRAMS {
+        counters.push(read_counter_word(walk.take()?)?);
+    }
+    Some(counters)
+}
+
 /// "Classes rise by number, ... none twice." The walk ends with the words
 /// used; a word that begins no class ends it with no book.
 fn read_classes(walk: &mut Walk) -> Option<BTreeMap<u32, Class>> {
@@ -239,7 +264,8 @@ impl PlainBook {
     /// limits, each expiration from `now` to `now` + 39, at most 150 classes
     /// with $1 designation 1 and at most 20 with $0.50 designation 1." #101: "a
     /// run over the cap being no book" #103: "In every book all three are 0, or
-    /// 1 ≤ low ≤ close ≤ high."
+    /// 1 ≤ low ≤ close ≤ high." #104: "a run whose counters disagree with its
+    /// classes or strikes is no book."
     pub fn read(words: &[u32]) -> Option<PlainBook> {
         if !is_length(words.len()) {
             return None;
@@ -256,6 +282,7 @@ impl PlainBook {
         let mut walk = Walk {
             left: &words[1..used],
         };
+        let counters = read_counters(&mut walk)?;
         let classes = read_classes(&mut walk)?;
         let book = PlainBook {
             now,
@@ -265,7 +292,16 @@ impl PlainBook {
         if !book.expirations_in_limits() || !book.caps_hold() {
             return None;
         }
+        if counters != book.counters() {
+            return None;
+        }
         Some(book)
+    }
+
+    /// The counters, "program 1 first".
+    fn counters(&self) -> Vec<Counter> {
+        let counter = |program: u32| self.counter(program);
+        PROGRAMS.into_iter().map(counter).collect()
     }
 
     /// "each expiration from `now` to `now` + 39"
@@ -283,6 +319,7 @@ impl PlainBook {
     /// The layout of this book at the run's length.
     pub fn words(&self) -> Vec<u32> {
         let mut words = vec![head_word(self.now, self.words_taken() as u32)];
+        words.extend(self.counters().into_iter().map(counter_word));
         for (number, class) in &self.classes {
             words.push(class_word(
                 *number,

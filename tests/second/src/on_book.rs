@@ -1,6 +1,6 @@
 //! "The calls, and the plain book" and "Who draws which number".
 
-use crate::book::{Class, PlainBook, Strike};
+use crate::book::{Class, Counter, PlainBook, Strike};
 use crate::rules::{ground_or_refusal, Setting, DOLLAR, WING};
 use crate::units::*;
 use calls::{Answer, Call, StrikeBook};
@@ -356,4 +356,12 @@ pub fn make_on_words(words: &mut [u32], second: &mut [u32], call: &Call) -> Answ
     let answer = book.make(call, second);
     words.copy_from_slice(&book.words());
     answer
+}
+
+/// #104: "Margin reads the number of own classes in each program": a counter of
+/// any words. "1 the run is no book"; "2 a number beyond its limits".
+pub fn counter_on_words(words: &[u32], program: u32) -> Result<Counter, u32> {
+    let book = PlainBook::read(words).ok_or(1u32)?;
+    limits(is_program(program))?;
+    Ok(book.counter(program))
 }

@@ -12,6 +12,16 @@ pub const TWO_FIFTY: u32 = 4;
 /// "Four grounds", from 0 up. #101: "This is ground 4, tried after Wing".
 pub const GROUNDS: [u32; 5] = [STANDARD, DOLLAR, HALF, WING, TWO_FIFTY];
 
+/// #104: "that program's grounds" "Wings belong to the $1 program." Standard is
+/// no program's.
+pub fn grounds_of(program: u32) -> &'static [u32] {
+    match program {
+        DOLLAR_PROGRAM => &[DOLLAR, WING],
+        HALF_PROGRAM => &[HALF],
+        _ => &[TWO_FIFTY],
+    }
+}
+
 /// One class and one expiration, at the present `now`, as the rules look at
 /// them.
 pub struct Setting<'a> {

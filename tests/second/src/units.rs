@@ -58,9 +58,10 @@ pub fn is_ground(n: u32) -> bool {
     n <= 4
 }
 
-/// "The book is a lent run of 1 to 65,535 words of 32 bits."
+/// "The book is a lent run of 1 to 65,535 words of 32 bits." #104: "a length
+/// below 4 is bad."
 pub fn is_length(n: usize) -> bool {
-    (1..=65_535).contains(&n)
+    (4..=65_535).contains(&n)
 }
 
 /// "each expiration from `now` to `now` + 39"

@@ -1,8 +1,10 @@
 //! "Closes at the edges", the likely mistakes, and the order of the numbers.
 
 mod common;
+mod reviewed;
 use calls::StrikeBook;
 use common::*;
+use reviewed::for_review;
 use second::{sheet_program, PlainBook};
 
 #[test]
@@ -218,21 +220,6 @@ fn the_21st_half_class_and_a_release() {
             ("D 20 2 1", "10"),
         ],
     );
-}
-
-/// Dollar $7, $8, $19 and Standard $20 at a close of 1300.
-fn for_review() -> PlainBook {
-    let mut book = dollar_class(1_300);
-    expect(
-        &mut book,
-        &[
-            ("L 7 5 14", "0 1"),
-            ("L 7 5 16", "0 1"),
-            ("L 7 5 38", "0 1"),
-            ("L 7 5 40", "0 0"),
-        ],
-    );
-    book
 }
 
 fn standing(book: &PlainBook) -> Vec<(u32, u32)> {
@@ -729,7 +716,7 @@ fn six_before_eight_on_a_read_book() {
     let mut book = at_close(200);
     accept(&mut book, &["L 7 5 5"]);
     let mut words = book.words();
-    for (place, kind) in [(2, 3), (4, 7), (5, 7)] {
+    for (place, kind) in [(5, 3), (7, 7), (8, 7)] {
         words[place] = kind << 28;
     }
     let mut book = PlainBook::read(&words).unwrap();
@@ -747,9 +734,11 @@ fn six_before_eight_on_a_read_book() {
 
 #[test]
 fn fifteen_on_o_and_l() {
-    let mut book = PlainBook::fresh(5).unwrap();
-    expect(&mut book, &[("O 1", "15")]);
-    let mut book = PlainBook::fresh(6).unwrap();
+    for length in [4, 8] {
+        let mut book = PlainBook::fresh(length).unwrap();
+        expect(&mut book, &[("O 1", "15")]);
+    }
+    let mut book = PlainBook::fresh(9).unwrap();
     expect(
         &mut book,
         &[
@@ -760,7 +749,7 @@ fn fifteen_on_o_and_l() {
             ("L 1 1 5", "15"),
         ],
     );
-    let mut book = PlainBook::fresh(7).unwrap();
+    let mut book = PlainBook::fresh(10).unwrap();
     expect(
         &mut book,
         &[
@@ -770,7 +759,7 @@ fn fifteen_on_o_and_l() {
             ("J 1 1 5", "0 0"),
         ],
     );
-    let mut book = PlainBook::fresh(9).unwrap();
+    let mut book = PlainBook::fresh(12).unwrap();
     expect(
         &mut book,
         &[

@@ -4,7 +4,7 @@
 mod books;
 mod common;
 use books::is_book;
-use calls::words::{head, strike, CLASS, CLOSE, EXPIRATION, LOW_HIGH, VOLUME};
+use calls::words::{head, strike, CLASS, CLOSE, COUNTER, EXPIRATION, LOW_HIGH, VOLUME};
 use calls::Call;
 use common::*;
 use second::{make_on_words, sheet_program, PlainBook};
@@ -184,7 +184,7 @@ fn h_changes_two_words() {
     let mut book = at_close(200);
     accept(&mut book, &["O 6", "C 6 300", "O 8", "C 8 400", "L 7 5 5"]);
     let mut words = book.words();
-    let seven = 6;
+    let seven = 9;
     assert_eq!(words[seven..seven + 5], class_seven(200, 200, 200));
     accept(&mut book, &["H 7 150 250"]);
     words[seven..seven + 5].copy_from_slice(&class_seven(200, 150, 250));
@@ -253,9 +253,9 @@ fn class_seven(close: u32, low: u32, high: u32) -> [u32; 5] {
     ]
 }
 
-/// A book of class 7 with one strike, and of class 9.
+/// A book of class 7 with one strike, and of class 9. Neither is designated, and the strike is Standard.
 fn small(close: u32, low: u32, high: u32) -> Vec<u32> {
-    let mut words = vec![0];
+    let mut words = vec![0, COUNTER, COUNTER, COUNTER];
     words.extend(class_seven(close, low, high));
     words.extend([EXPIRATION + 5, strike(50, 0, 0, 0)]);
     words.extend([CLASS + 9, CLOSE, VOLUME, LOW_HIGH, LOW_HIGH]);
@@ -336,32 +336,34 @@ fn places_of_kind_7() {
         counted(words)
     };
     let no_books = [
-        ("no low", taken(4)),
-        ("no high", taken(5)),
+        ("no low", taken(7)),
+        ("no high", taken(8)),
         ("neither low nor high", {
             let mut words = used.to_vec();
-            words.drain(4..6);
+            words.drain(7..9);
             counted(words)
         }),
-        ("no high in the last class", taken(12)),
-        ("the low twice", put(4, LOW_HIGH + 150)),
-        ("the high twice", put(6, LOW_HIGH + 250)),
+        ("no high in the last class", taken(15)),
+        ("the low twice", put(7, LOW_HIGH + 150)),
+        ("the high twice", put(9, LOW_HIGH + 250)),
         ("low and high twice", {
             let mut words = used.to_vec();
-            words.splice(6..6, [LOW_HIGH + 150, LOW_HIGH + 250]);
+            words.splice(9..9, [LOW_HIGH + 150, LOW_HIGH + 250]);
             counted(words)
         }),
-        ("a third in the last class", put(13, LOW_HIGH)),
+        ("a third in the last class", put(16, LOW_HIGH)),
         ("one after the head", put(1, LOW_HIGH)),
-        ("one after the expiration", put(7, LOW_HIGH + 150)),
-        ("one after the strike", put(8, LOW_HIGH + 150)),
-        ("high first", moved(5, 4)),
-        ("the low before the volume", moved(4, 3)),
-        ("the low before the close", moved(4, 2)),
-        ("both before the volume", moved(3, 5)),
-        ("the high after the expiration", moved(5, 6)),
-        ("the high after the strike", moved(5, 7)),
-        ("the low before its class", moved(4, 1)),
+        ("one after the counters", put(4, LOW_HIGH)),
+        ("one after the expiration", put(10, LOW_HIGH + 150)),
+        ("one after the strike", put(11, LOW_HIGH + 150)),
+        ("high first", moved(8, 7)),
+        ("the low before the volume", moved(7, 6)),
+        ("the low before the close", moved(7, 5)),
+        ("both before the volume", moved(6, 8)),
+        ("the high after the expiration", moved(8, 9)),
+        ("the high after the strike", moved(8, 10)),
+        ("the low before its class", moved(7, 4)),
+        ("the low before the counters", moved(7, 1)),
     ];
     for (name, words) in no_books {
         assert!(!is_book(&words), "{name}");
@@ -378,7 +380,7 @@ fn places_of_kind_7() {
 /// Bits 0–19 of a kind 7 word, and every other bit zero.
 #[test]
 fn bits_of_kind_7() {
-    for place in [4, 5, 11, 12] {
+    for place in [7, 8, 14, 15] {
         for bit in 20..28 {
             let mut words = small(200, 150, 250);
             words[place] += 1 << bit;

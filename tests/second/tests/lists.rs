@@ -1,5 +1,6 @@
 //! Two lists of calls, each from a fresh book.
 
+use calls::words::COUNTER;
 use calls::Answer;
 use second::{compare_lists, lines, parse_line};
 
@@ -110,7 +111,9 @@ fn the_pool() {
 #[test]
 fn lengths() {
     let calls = records(CALLS);
-    for [left, right] in [[0, 0], [65_536, 65_536], [64, 63]] {
+    // #104: "a length below 4 is bad."
+    let bad = [[0, 0], [1, 1], [2, 2], [3, 3], [65_536, 65_536], [64, 63]];
+    for [left, right] in bad {
         let (mut left, mut right, mut pool) = (vec![5; left], vec![6; right], [7; 10]);
         let answer = compare_lists(&mut left, &mut right, &mut pool, &calls, &calls);
         assert_eq!(
@@ -123,4 +126,10 @@ fn lengths() {
         assert!(left.iter().all(|word| *word == 5) && right.iter().all(|word| *word == 6));
         assert_eq!(pool, [7; 10]);
     }
+    // A fresh book just fits.
+    let (mut left, mut right) = ([5; 4], [6; 4]);
+    let answer = compare_lists(&mut left, &mut right, &mut [], &calls, &calls);
+    assert_eq!((answer.number, answer.value), (0, 1));
+    assert_eq!(left[1..], [COUNTER; 3]);
+    assert_eq!(left, right);
 }

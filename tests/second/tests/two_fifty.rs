@@ -1,7 +1,7 @@
 //! #101, the $2.50 program: the worked examples, and its edges.
 
 mod common;
-use calls::words::{class_words, head, strike, Prices, CLASS, EXPIRATION};
+use calls::words::{class_words, headed, strike, Prices, CLASS, EXPIRATION, FIRST_CLASS};
 use common::*;
 use second::PlainBook;
 
@@ -222,9 +222,9 @@ fn a_class_opens_with_no_designation() {
         assert_eq!(book.classes[&7].designation(program), 0);
     }
     let before = book.words();
-    assert_eq!(before[1], CLASS + 7);
+    assert_eq!(before[FIRST_CLASS], CLASS + 7);
     accept(&mut book, &["D 7 3 2"]);
-    assert_eq!(book.words()[1], CLASS + 7 + (2 << 18));
+    assert_eq!(book.words()[FIRST_CLASS], CLASS + 7 + (2 << 18));
     accept(&mut book, &["D 7 3 0"]);
     assert_eq!(book.words(), before);
 }
@@ -316,10 +316,9 @@ fn the_range_is_standard() {
 #[test]
 fn ground_4_where_no_call_makes_it() {
     let with_ground_4 = |month: u32, h: u32| {
-        let mut words = vec![head(4, 8)];
-        words.extend(class_words(7, [2, 0, 0], Prices::at(1_300), 0));
-        words.extend([EXPIRATION + month, strike(h, 4, 0, 0)]);
-        PlainBook::read(&words).unwrap()
+        let mut classes = class_words(7, [2, 0, 0], Prices::at(1_300), 0).to_vec();
+        classes.extend([EXPIRATION + month, strike(h, 4, 0, 0)]);
+        PlainBook::read(&headed(4, &classes)).unwrap()
     };
     expect(
         &mut with_ground_4(5, 25),

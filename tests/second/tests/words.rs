@@ -5,14 +5,19 @@ mod books;
 use books::is_book;
 use calls::draw::{self, Mix};
 use calls::runs::damage;
-use calls::words::{head, CLASS, CLOSE, EXPIRATION, HEAD, LOW_HIGH, STRIKE, VOLUME};
+use calls::words::{counter, counters, head, headed, recount};
+use calls::words::{CLASS, CLOSE, COUNTER, EXPIRATION, HEAD, LOW_HIGH, STRIKE, VOLUME};
 use calls::{Call, Random, StrikeBook};
 use second::{make_on_words, PlainBook};
 
-/// A small book: class 7, two expirations, three strikes; class 9, none.
+/// A small book: class 7, ours in the $1 program, with two expirations and three
+/// strikes, a Standard one, a Wing and a Dollar one; class 16,383, none.
 fn small() -> Vec<u32> {
     vec![
-        head(4, 16),
+        head(4, 19),
+        COUNTER + 1 + 2 * 256,
+        COUNTER,
+        COUNTER,
         CLASS + 7 + 16_384 + 2 * 65_536,
         CLOSE + 999_998,
         VOLUME + 9_999_999,
@@ -38,7 +43,7 @@ fn the_small_book() {
     let words = small();
     assert!(is_book(&words));
     let book = PlainBook::read(&words).unwrap();
-    assert_eq!((book.now, book.length), (4, 18));
+    assert_eq!((book.now, book.length), (4, 21));
     let class = &book.classes[&7];
     assert_eq!((class.close, class.volume), (999_998, 9_999_999));
     assert_eq!((class.low, class.high), (1, 999_999));
@@ -47,7 +52,7 @@ fn the_small_book() {
     assert_eq!((strike.ground, strike.put, strike.call), (3, 1, 1));
     let strike = class.strikes[&(43, 1)];
     assert_eq!((strike.ground, strike.put, strike.call), (1, 0, 1));
-    assert_eq!(book.words_taken(), 16);
+    assert_eq!(book.words_taken(), 19);
 }
 
 /// #101's designation in bits 18–19, and its ground under any strike and
@@ -57,8 +62,10 @@ fn the_third_designation_and_ground_4() {
     for designation in 0..=2 {
         for h in [1, 5, 54, 55, 105, 19_999] {
             let mut words = small();
-            words[11] += designation << 18;
-            words[10] = STRIKE + h + 4 * 32_768;
+            words[14] += designation << 18;
+            words[13] = STRIKE + h + 4 * 32_768;
+            words[1] = counter(1, 1);
+            words[3] = counter(u32::from(designation == 1), 1);
             assert!(is_book(&words));
             let book = PlainBook::read(&words).unwrap();
             assert_eq!(book.classes[&16_383].two_fifty_designation, designation);
@@ -68,95 +75,107 @@ fn the_third_designation_and_ground_4() {
     }
 }
 
+/// #104: "a length below 4 is bad."
 #[test]
 fn lengths() {
-    assert_eq!(PlainBook::fresh(0), None);
-    assert_eq!(PlainBook::fresh(65_536), None);
-    assert!(!is_book(&[]));
-    for length in [1, 2, 4_096, 65_535] {
+    for length in [0, 1, 2, 3, 65_536, 70_000] {
+        assert_eq!(PlainBook::fresh(length), None);
+        assert!(!is_book(&fresh_words(length)), "{length}");
+    }
+    for length in [4, 5, 4_096, 65_535] {
         let book = PlainBook::fresh(length).unwrap();
         let words = book.words();
-        assert_eq!(words[0], head(0, 1));
-        assert!(words[1..].iter().all(|word| *word == 0));
-        assert_eq!(words.len(), length);
+        assert_eq!(words, fresh_words(length));
+        assert_eq!(words[0], head(0, 4));
         assert_eq!(PlainBook::read(&words), Some(book));
     }
-    let mut long = vec![0; 65_536];
-    long[0] = head(0, 1);
-    assert!(!is_book(&long));
-    assert!(is_book(
-        &long[1..]
-            .iter()
-            .enumerate()
-            .map(|(i, _)| if i == 0 { head(0, 1) } else { 0 })
-            .collect::<Vec<_>>()
-    ));
+    // Nor with a head that counts the words that there are.
+    for length in 1..4 {
+        let mut words = fresh_words(length);
+        words[0] = head(0, length);
+        assert!(!is_book(&words), "{length}");
+    }
+}
+
+/// As much of a fresh book as has room, and zero after it.
+fn fresh_words(length: usize) -> Vec<u32> {
+    let mut words = vec![head(0, 4), COUNTER, COUNTER, COUNTER];
+    words.resize(length, 0);
+    words
 }
 
 #[test]
 fn damaged_words() {
+    // The counters follow a changed class or strike: the change alone makes it no book.
     let change = |at: usize, word: u32| {
         let mut words = small();
         words[at] = word;
+        if at >= 4 {
+            recount(&mut words);
+        }
         words
     };
     let no_books = [
         ("no head", change(0, 0)),
-        ("head of another kind", change(0, head(4, 16) + HEAD)),
-        ("head's stray bit", change(0, head(4, 16) + (1 << 26))),
-        ("head's stray bit", change(0, head(4, 16) + (1 << 27))),
+        ("head of another kind", change(0, head(4, 19) + HEAD)),
+        ("head's stray bit", change(0, head(4, 19) + (1 << 26))),
+        ("head's stray bit", change(0, head(4, 19) + (1 << 27))),
         ("count 0", change(0, head(4, 0))),
-        ("count short by one", change(0, head(4, 15))),
-        ("count short by one class", change(0, head(4, 11))),
-        ("count long by one", change(0, head(4, 17))),
-        ("count beyond the run", change(0, head(4, 19))),
-        ("now above an expiration", change(0, head(5, 16))),
-        ("expiration above now + 39", change(0, head(3, 16))),
-        ("expiration above now + 39", change(9, EXPIRATION + 44)),
-        ("expiration below now", change(6, EXPIRATION + 3)),
-        ("class 0", change(1, CLASS)),
-        ("class designation 3", change(1, CLASS + 7 + 3 * 16_384)),
-        ("class designation 3", change(1, CLASS + 7 + 3 * 65_536)),
-        ("class designation 3", change(1, CLASS + 7 + 3 * 262_144)),
-        ("class stray bit", change(1, CLASS + 7 + (1 << 20))),
-        ("class stray bit", change(1, CLASS + 7 + (1 << 27))),
-        ("class twice", change(1, CLASS + 16_383)),
-        ("classes fall", change(11, CLASS + 6)),
-        ("close too high", change(2, CLOSE + 1_000_000)),
-        ("close stray bit", change(2, CLOSE + 999_998 + (1 << 20))),
-        ("close missing", change(2, VOLUME)),
-        ("volume too high", change(3, VOLUME + 10_000_000)),
-        ("volume stray bit", change(3, VOLUME + (1 << 24))),
-        ("volume missing", change(3, CLOSE)),
-        ("low stray bit", change(4, LOW_HIGH + 1 + (1 << 20))),
-        ("low missing", change(4, EXPIRATION + 4)),
-        ("high too high", change(5, LOW_HIGH + 1_000_000)),
-        ("high stray bit", change(5, LOW_HIGH + 999_999 + (1 << 27))),
-        ("high missing", change(5, EXPIRATION + 4)),
+        ("count short by one", change(0, head(4, 18))),
+        ("count short by one class", change(0, head(4, 14))),
+        ("count long by one", change(0, head(4, 20))),
+        ("count beyond the run", change(0, head(4, 22))),
+        ("now above an expiration", change(0, head(5, 19))),
+        ("expiration above now + 39", change(0, head(3, 19))),
+        ("expiration above now + 39", change(12, EXPIRATION + 44)),
+        ("expiration below now", change(9, EXPIRATION + 3)),
+        ("class 0", change(4, CLASS)),
+        ("class designation 3", change(4, CLASS + 7 + 3 * 16_384)),
+        ("class designation 3", change(4, CLASS + 7 + 3 * 65_536)),
+        ("class designation 3", change(4, CLASS + 7 + 3 * 262_144)),
+        ("class stray bit", change(4, CLASS + 7 + (1 << 20))),
+        ("class stray bit", change(4, CLASS + 7 + (1 << 27))),
+        ("class twice", change(4, CLASS + 16_383)),
+        ("classes fall", change(14, CLASS + 6)),
+        ("close too high", change(5, CLOSE + 1_000_000)),
+        ("close stray bit", change(5, CLOSE + 999_998 + (1 << 20))),
+        ("close missing", change(5, VOLUME)),
+        ("volume too high", change(6, VOLUME + 10_000_000)),
+        ("volume stray bit", change(6, VOLUME + (1 << 24))),
+        ("volume missing", change(6, CLOSE)),
+        ("low stray bit", change(7, LOW_HIGH + 1 + (1 << 20))),
+        ("low missing", change(7, EXPIRATION + 4)),
+        ("high too high", change(8, LOW_HIGH + 1_000_000)),
+        ("high stray bit", change(8, LOW_HIGH + 999_999 + (1 << 27))),
+        ("high missing", change(8, EXPIRATION + 4)),
         (
             "expiration stray bit",
-            change(6, EXPIRATION + 4 + (1 << 10)),
+            change(9, EXPIRATION + 4 + (1 << 10)),
         ),
-        ("expiration twice", change(9, EXPIRATION + 4)),
-        ("expiration missing", change(6, STRIKE + 4)),
-        ("expiration with no strike", change(7, EXPIRATION + 5)),
-        ("expiration with no strike", change(10, EXPIRATION + 44)),
-        ("strike 0", change(7, STRIKE)),
-        ("strike 20,000", change(8, STRIKE + 20_000)),
-        ("ground 5", change(7, STRIKE + 5 + 5 * 32_768)),
-        ("ground 6", change(7, STRIKE + 5 + 6 * 32_768)),
-        ("ground 7", change(7, STRIKE + 5 + 7 * 32_768)),
-        ("strike stray bit", change(7, STRIKE + 5 + (1 << 20))),
-        ("strike twice", change(8, STRIKE + 5)),
-        ("strikes fall", change(8, STRIKE + 4)),
-        ("word past those used", change(16, 1)),
-        ("word past those used", change(17, 1 << 31)),
-        ("kind 8", change(7, 8 << 28)),
-        ("kind 0 among the used", change(7, 0)),
-        ("a second head", change(11, head(4, 1))),
+        ("expiration twice", change(12, EXPIRATION + 4)),
+        ("expiration missing", change(9, STRIKE + 4)),
+        ("expiration with no strike", change(10, EXPIRATION + 5)),
+        ("expiration with no strike", change(13, EXPIRATION + 44)),
+        ("strike 0", change(10, STRIKE)),
+        ("strike 20,000", change(11, STRIKE + 20_000)),
+        ("ground 5", change(10, STRIKE + 5 + 5 * 32_768)),
+        ("ground 6", change(10, STRIKE + 5 + 6 * 32_768)),
+        ("ground 7", change(10, STRIKE + 5 + 7 * 32_768)),
+        ("strike stray bit", change(10, STRIKE + 5 + (1 << 20))),
+        ("strike twice", change(11, STRIKE + 5)),
+        ("strikes fall", change(11, STRIKE + 4)),
+        ("word past those used", change(19, 1)),
+        ("word past those used", change(20, 1 << 31)),
+        ("a counter among the strikes", change(10, COUNTER)),
+        ("a counter in a class's place", change(14, COUNTER)),
+        ("kind 9", change(10, 9 << 28)),
+        ("the head alone", change(0, head(4, 1))),
+        ("the head and counters alone", change(0, head(4, 4))),
+        ("kind 0 among the used", change(10, 0)),
+        ("a second head", change(14, head(4, 1))),
         ("order of close and volume", {
             let mut words = small();
-            words.swap(12, 13);
+            words.swap(15, 16);
             words
         }),
     ];
@@ -179,6 +198,9 @@ fn damaged_words() {
     // A class cut short, and an expiration last among the used words, with no strike.
     let words = [
         0,
+        COUNTER,
+        COUNTER,
+        COUNTER,
         CLASS + 1,
         CLOSE,
         VOLUME,
@@ -190,18 +212,18 @@ fn damaged_words() {
     for used in 1..=words.len() {
         let mut words = words[..used].to_vec();
         words[0] = head(0, used);
-        assert_eq!(is_book(&words), [1, 6, 8].contains(&used), "{used}");
+        assert_eq!(is_book(&words), [4, 9, 11].contains(&used), "{used}");
     }
 }
 
 #[test]
 fn caps_in_a_read_book() {
     let designated = |count: u32, bits: u32| {
-        let mut words = vec![head(0, 1 + 5 * count as usize)];
+        let mut classes = Vec::new();
         for c in 1..=count {
-            words.extend([CLASS + c + bits, CLOSE, VOLUME, LOW_HIGH, LOW_HIGH]);
+            classes.extend([CLASS + c + bits, CLOSE, VOLUME, LOW_HIGH, LOW_HIGH]);
         }
-        words
+        headed(0, &classes)
     };
     assert!(is_book(&designated(150, 1 << 14)));
     assert!(!is_book(&designated(151, 1 << 14)));
@@ -221,13 +243,16 @@ fn single_bits() {
     let words = small();
     // The count of named bits of each word, all from bit 0.
     let named = [
-        26, 20, 20, 24, 20, 20, 10, 20, 20, 10, 20, 20, 20, 24, 20, 20, 0, 0,
+        26, 24, 24, 24, 20, 20, 24, 20, 20, 10, 20, 20, 10, 20, 20, 20, 24, 20, 20, 0, 0,
     ];
     let mut books = 0;
     for at in 0..words.len() {
         for bit in 0..32 {
             let mut turned = words.clone();
             turned[at] ^= 1 << bit;
+            if at >= 4 {
+                recount(&mut turned);
+            }
             if is_book(&turned) {
                 assert!(bit < named[at], "word {at}, bit {bit}");
                 books += 1;
@@ -255,6 +280,7 @@ fn check_call(book: &mut PlainBook, words: &mut [u32], call: &Call, room: usize)
     assert_eq!(answer, answer_on_words, "{call:?}");
     assert_eq!(second, second_on_words);
     assert_eq!(&book.words(), words);
+    assert_eq!(words[1..4], counters(words));
     assert_eq!(PlainBook::read(words).as_ref(), Some(&*book));
     let written = match (call, answer.number) {
         (Call::A { .. }, 0) => answer.value as usize,
@@ -277,7 +303,7 @@ fn random_lists() {
     let mut random = Random::new(0x5EED_0001);
     let mut drawn = [0; 17];
     for _ in 0..150 {
-        let length = random.pick(&[1, 7, 16, 30, 60, 200, 500]);
+        let length = random.pick(&[4, 10, 19, 33, 63, 203, 503]);
         let mut book = PlainBook::fresh(length).unwrap();
         let mut words = book.words();
         for _ in 0..400 {

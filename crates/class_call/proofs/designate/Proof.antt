@@ -127,14 +127,22 @@ with-designation-requires c κs =
     let s = start (p .before) in
     designation-program (s .args .c) (s .args .p) (s .args .d) _ (s .pre) (within p)
 
-store-figures-requires : tie.Need-store-figures-requires
-store-figures-requires c κs =
+designation-requires : tie.Need-designation-requires
+designation-requires c κs =
     let claimed = granted (c .before .before) in
+    let p = limited (claimed .before .before .before .before) in
+    let s = start (p .before) in
+    designation-program (s .args .c) (s .args .p) (s .args .d) _ (s .pre) (within p)
+
+store-designation-requires : tie.Need-store-designation-requires
+store-designation-requires c κs =
+    let made = c .before in
+    let claimed = granted (made .before .before) in
     let read = claimed .before .before in
     let p = limited (read .before .before) in
     let s = start (p .before) in
     designation-storable _ (s .args .p) (s .args .d) _ (s .pre) (within p) _ _ (found read) _
-    (claimed .claim-of .ensures) _ (c .with-designation .ensures)
+    (claimed .claim-of .ensures) _ (made .with-designation .ensures) _ (c .designation .ensures)
 
 same-length-5 : tie.Need-same-length-5
 same-length-5 c = search needs
@@ -145,14 +153,14 @@ same-length-6 c = search needs
 returns-4 : tie.Need-returns-4
 returns-4 c =
     let stored = c .before .before in
-    let made = stored .before in
+    let made = stored .before .before in
     let told = made .before .before in
     let claimed = granted told in
     let read = claimed .before .before in
     let p = limited (read .before .before) in
     designation-set _ _ _ _ (start (p .before) .pre) (within p) _ _ (found read) _ (claimed .claim-of .ensures) _
     (made .with-designation .ensures) _ (not-false _ (rw (told .before .is-accepted .ensures) at (told .if3 .left)))
-    (stored .store-figures .ensures)
+    (stored .store-designation .ensures)
 
 pub designate-spec : {M : Type 1} → statement M
 designate-spec =
@@ -173,7 +181,8 @@ designate-spec =
     same-length-4
     returns-3
     with-designation-requires
-    store-figures-requires
+    designation-requires
+    store-designation-requires
     same-length-5
     same-length-6
     returns-4)

@@ -10,7 +10,7 @@ abbrev start : tie.After-write-arg → tie.Start
 start p = p .before .before
 
 write-requires : tie.Need-write-requires
-write-requires c κs = let asked = start c .pre in (figures-room _ _ _ asked, asked .limits)
+write-requires c κs = let asked = start c .pre .0 in (figures-room _ _ _ asked, asked .limits)
 
 same-length : tie.Need-same-length
 same-length c = search needs
@@ -18,7 +18,8 @@ same-length c = search needs
 returns : tie.Need-returns
 returns c =
     let wrote = c .before .before in
-    wrote .write .ensures ∙ figures-stored _ _ _ (start (wrote .before) .pre)
+    let asked = start (wrote .before) .pre in
+    wrote .write .ensures ∙ figures-stored _ _ _ (asked .0) (asked .1)
 
 pub store-figures-spec : {M : Type 1} → statement M
 store-figures-spec = tie.close (tie.spec write-requires same-length returns)

@@ -1,10 +1,18 @@
--- `review_highest` lays out the class after n steps: it takes them, closes up the free words and writes the head. By
--- the law of steps on the run of a book. Assumes nothing.
+-- `review_highest` lays out the class after n steps: it takes them, closes up the free words, writes the head and then
+-- the counters. By the law of steps on the run of a book and that of the strikes removed. Assumes nothing.
 use Prim.Native.Nat.{_+_, _-_, _≤_}
-use mathlib.Core.Path.{_∙_}
+use mathlib.Core.Path.{_≡_, _∙_}
 use native.Mathlib.Omega.{arith}
 use lib.ListN.{length}
 use borrow.Author.Needs.{needs}
+use Rattle.word.specs.Head.{firstPlace}
+use Rattle.book.specs.Layout.{factsOf}
+use Rattle.book.specs.Uncounted.{uncounted}
+use Rattle.book.specs.Views.{class}
+use Rattle.book.specs.Changes.{update}
+use Rattle.review.specs.ReviewSteps.{afterSteps, goneCount}
+use Rattle.review.specs.ReviewsAsked.{Reviewable}
+use Rattle.review.proofs.Uncounting.{removed-among, recounted}
 use Rattle.review.proofs.ReviewedRuns.{Numbers, numbers, asks, reached-numbers, removed-is, highest-reviewed}
 use Rattle.review.proofs.review_highest.Statement.{statement}
 use Rattle.review.proofs.review_highest.Tie as tie
@@ -32,6 +40,17 @@ told c = c .before .before
 abbrev closed : tie.After-write → tie.After-close-gap
 closed c = c .before .before .before .before
 
+-- and that where the steps are made
+abbrev taken : tie.After-write → tie.After-review-steps
+taken c = stepped (told (closed c))
+
+-- before the place where the strikes are taken: that where it is known how many, and that where the head is written
+abbrev removed : tie.After-take-strikes-arg → tie.After-struct-known3
+removed c = c .before
+
+abbrev wrote : tie.After-struct-known3 → tie.After-write
+wrote c = c .before .before .before
+
 within :
     (c : tie.After-current) →
     let a = start (counted c) .args in
@@ -56,6 +75,34 @@ reckoned :
     Numbers (a .from) (a .to) (counted month .used .result) (month .current .result) (length (a .run .now))
     × ((k .read + k .emptied ≤ k .written) × (k .written ≤ a .to - a .from))
 reckoned c = (within (headed (stepped c)), made (stepped c))
+
+room : (c : tie.After-write) → firstPlace ≤ length (c .write .last .0)
+room c = omega (arith, reckoned (told (closed c)))
+
+-- the run once the head is written: the class's words after the steps, and the counters of before
+laid :
+    (c : tie.After-write) →
+    let a = start (counted (headed (taken c))) .args in
+    let f = factsOf (a .run .now) in
+    (x : Reviewable (a .run .now) (a .from) (a .to) (a .close))
+    → c .write .last .0 ≡ uncounted (length (a .run .now)) f (update (afterSteps (a .n) (class f (x .number))) f)
+laid c x =
+    let gap = closed c in
+    let steps = taken c in
+    let month = headed steps in
+    c .write .ensures
+    ∙ highest-reviewed x (steps .review-steps .ensures) _ _ (counted month .used .ensures) (month .current .ensures) _
+    (gap .close-gap .ensures)
+
+-- how many are removed
+gone :
+    (c : tie.After-write) →
+    let steps = taken c in
+    let a = start (counted (headed steps)) .args in
+    let k = steps .review-steps .result in
+    (x : Reviewable (a .run .now) (a .from) (a .to) (a .close))
+    → k .written - k .read - k .emptied ≡ goneCount (a .n) (class (factsOf (a .run .now)) (x .number))
+gone c x = removed-is x (taken c .review-steps .ensures)
 
 used-requires : tie.Need-used-requires
 used-requires c κs = c .before .before .pre .book
@@ -111,26 +158,26 @@ write-requires c κs =
     let closed = c .before .before .before in
     omega (arith, reckoned (told closed))
 
-sub-result : tie.Need-sub-result
-sub-result c =
-    let wrote = c .before .before .before in
-    omega (arith, reckoned (told (closed wrote)))
+sub-removed : tie.Need-sub-removed
+sub-removed c = omega (arith, reckoned (told (closed (wrote c))))
+
+cast-dollars : tie.Need-cast-dollars
+cast-dollars c = omega (arith, reckoned (told (closed (wrote c))))
+
+take-strikes-requires : tie.Need-take-strikes-requires
+take-strikes-requires c κs =
+    let head = wrote (removed c) in
+    let x = start (counted (headed (taken head))) .pre in
+    (room head, removed-among x _ (laid head x) (gone head x))
 
 same-length : tie.Need-same-length
 same-length c = search needs
 
 returns : tie.Need-returns
 returns c = λ x.
-    let wrote = c .before .before .before in
-    let gap = closed wrote in
-    let steps = stepped (told gap) in
-    let month = headed steps in
-    let made = steps .review-steps .ensures in (
-      removed-is x made,
-      wrote .write .ensures
-          ∙ highest-reviewed x made _ _ (counted month .used .ensures) (month .current .ensures) _
-          (gap .close-gap .ensures),
-    )
+    let less = c .before .before in
+    let head = wrote (removed (less .before)) in
+    (gone head x, less .take-strikes .ensures ∙ recounted x _ (laid head x) (gone head x))
 
 pub review-highest-spec : {M : Type 1} → statement M
 review-highest-spec =
@@ -152,6 +199,8 @@ review-highest-spec =
     close-gap-requires
     sub-write
     write-requires
-    sub-result
+    sub-removed
+    cast-dollars
+    take-strikes-requires
     same-length
     returns)

@@ -1,15 +1,17 @@
 -- `are_classes` tests the classes: each way through the loop is one law of the loop.
 use Prim.Native.Nat.{ℕ, _+_, _-_}
 use mathlib.Core.Path.{_≡_, refl, ap, _∙_}
+use mathlib.Core.Logic.{Iff·trans}
 use native.Mathlib.Omega.{arith}
 use lib.ListN.{length}
 use borrow.Author.Needs.{needs}
+use Rattle.word.specs.declared.counter.Counts.{Counts}
 use Rattle.word.specs.Caps.{own}
 use Rattle.word.specs.Figures.{figuresLength}
 use Rattle.word.proofs.EachProgram.{each-program}
 use Rattle.scan.specs.Ahead.{Tells}
 use Rattle.scan.specs.Stretches.{SeriesEnd}
-use Rattle.scan.proofs.Classes.{countOf, caps-tested, Walked, Counted, counted-same, walked-start, walked-small, walked-short, walked-wrong, walked-counted, walked-end, counted-breaks, counted-more}
+use Rattle.scan.proofs.Classes.{countOf, counts-tested, Walked, Counted, counted-same, walked-start, walked-small, walked-short, walked-wrong, walked-counted, walked-end, counted-breaks, counted-more}
 use Rattle.scan.proofs.are_classes.Statement.{statement}
 use Rattle.scan.proofs.are_classes.Tie as tie
 
@@ -90,6 +92,16 @@ ended :
 ended c =
     let end = c .before .before in
     rw (c .stretch .given .1, end .before .skip-to .ensures .1) at (end .expirations-end .ensures)
+
+-- where the counters are read, each from the next one, and the third from the test of the caps
+abbrev readFirst : tie.After-read2 Inv-loop μ-loop → tie.After-read Inv-loop μ-loop
+readFirst c = c .before .before .before
+
+abbrev readSecond : tie.After-read3 Inv-loop μ-loop → tie.After-read2 Inv-loop μ-loop
+readSecond c = c .before .before .before
+
+abbrev readThird : tie.After-is-exceeded Inv-loop μ-loop → tie.After-read3 Inv-loop μ-loop
+readThird c = c .before .before .before
 
 look-ahead-requires : tie.Need-look-ahead-requires Inv-loop μ-loop
 look-ahead-requires c κs = search needs
@@ -199,6 +211,15 @@ loop-again c =
       (end .1, refl),
     )
 
+read-requires : tie.Need-read-requires Inv-loop μ-loop
+read-requires c κs = search needs
+
+read-requires-2 : tie.Need-read-requires-2 Inv-loop μ-loop
+read-requires-2 c κs = search needs
+
+read-requires-3 : tie.Need-read-requires-3 Inv-loop μ-loop
+read-requires-3 c κs = search needs
+
 is-exceeded-requires : tie.Need-is-exceeded-requires Inv-loop μ-loop
 is-exceeded-requires c κs = search needs
 
@@ -210,14 +231,23 @@ is-exceeded-requires-3 c κs = search needs
 
 returns-4 : tie.Need-returns-4 Inv-loop μ-loop
 returns-4 c =
-    let end = c .before .before .before in
+    let three = readThird (c .before .before) in
+    let two = readSecond three in
+    let one = readFirst two in
+    let end = one .before in
     let loop = end .before .loop in
-    rw (
-      c .is-exceeded3 .ensures,
-      c .before .is-exceeded2 .ensures,
-      c .before .before .is-exceeded .ensures,
-      caps-tested (loop .dollars .0) (loop .halves .0) (loop .two-fifties .0),
-    )
+    Iff·trans
+    (counts-tested
+    (loop .dollars .0)
+    (loop .halves .0)
+    (loop .two-fifties .0)
+    (start (end .before) .args .s .now)
+    (ap (λ (r : Counts). r .own) (one .read .ensures))
+    (ap (λ (r : Counts). r .own) (two .read2 .ensures))
+    (ap (λ (r : Counts). r .own) (three .read3 .ensures))
+    (c .before .before .is-exceeded .ensures)
+    (c .before .is-exceeded2 .ensures)
+    (c .is-exceeded3 .ensures))
     (walked-end (loop .inv .0) (end .loop-test .left))
 
 pub are-classes-spec : {M : Type 1} → statement M
@@ -249,6 +279,9 @@ are-classes-spec =
     returns-3
     loop-less
     loop-again
+    read-requires
+    read-requires-2
+    read-requires-3
     is-exceeded-requires
     is-exceeded-requires-2
     is-exceeded-requires-3

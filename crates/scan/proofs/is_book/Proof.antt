@@ -2,7 +2,7 @@
 use Prim.Native.Nat.{ℕ, _≤_}
 use mathlib.Core.Path.{_≡_, sym, _∙_}
 use mathlib.Core.Logic.{_↔_}
-use mathlib.Core.Bool.{true, false, not}
+use mathlib.Core.Bool.{true, false, not, _&&_}
 use mathlib.Core.List.{List}
 use native.Mathlib.Omega.{arith}
 use lib.ListN.{length, length-take}
@@ -11,9 +11,9 @@ use borrow.Author.Needs.{needs}
 use borrow.Author.Tests.{not-true, not-false}
 use Rattle.word.specs.Head.{firstPlace, monthIn, isHead}
 use Rattle.word.specs.Limits.{isLength, longestRun}
-use Rattle.logic.proofs.Tests.{true-T}
-use Rattle.scan.specs.Stretches.{AllClasses}
-use Rattle.scan.proofs.BookParts.{front, used-front, some-words, head-within, wrong-length, wrong-head, wrong-classes, zeros-left}
+use Rattle.logic.proofs.Tests.{passed}
+use Rattle.scan.specs.Stretches.{AllClasses, areCounted}
+use Rattle.scan.proofs.BookParts.{wordsUsed, some-words, head-within, wrong-length, wrong-head, wrong-classes, counts-left}
 use Rattle.scan.proofs.is_book.Statement.{statement}
 use Rattle.scan.proofs.is_book.Tie as tie
 
@@ -48,18 +48,28 @@ within :
     (c : tie.After-used) → (firstPlace ≤ c .used .result) × (c .used .result ≤ length (run (c .before)))
 within c = rw (c .used .ensures) (head-within (run (c .before)) (headed (c .before)))
 
--- the place where the head has passed its test, from the test of the classes on
-abbrev counted : tie.After-are-classes → tie.After-used
-counted c = c .before .before .before
+-- the place where the words used are read, from the test of the classes on
+abbrev read : tie.After-are-classes → tie.After-used
+read c = c .before .before .before
 
--- the words used are tested as the head says
+-- the classes are tested as the head says
 classes :
-    (c : tie.After-are-classes) → let ws = run (counted c .before) in
-    T (c .are-classes .result) ↔ AllClasses (monthIn ws) (front ws)
-classes c =
-    let used = counted c .used in
-    let ws = run (counted c .before) in
-    rw (← c .before .before .month .ensures, ← used .ensures, ← used-front (used .result) ws) (c .are-classes .ensures)
+    (c : tie.After-are-classes) → let ws = run (read c .before) in
+    T (c .are-classes .result) ↔ AllClasses (monthIn ws) (wordsUsed ws)
+classes c = rw (← c .before .before .month .ensures, ← read c .used .ensures) (c .are-classes .ensures)
+
+-- the place where they have passed their test, from the test of the strikes counted
+abbrev classed : tie.After-are-counted → tie.Else3
+classed c = c .before .before
+
+-- and where the words used are read, from there
+abbrev known : tie.After-are-counted → tie.After-used
+known c = read (classed c .before)
+
+-- the strikes counted are tested as the head says, too
+strikes :
+    (c : tie.After-are-counted) → c .are-counted .result ≡ areCounted (wordsUsed (run (known c .before)))
+strikes c = rw (← known c .used .ensures) (c .are-counted .ensures)
 
 is-length-requires : tie.Need-is-length-requires
 is-length-requires c κs = search needs
@@ -97,17 +107,34 @@ are-classes-requires c κs =
 returns-3 : tie.Need-returns-3
 returns-3 c =
     let test = c .before in
-    wrong-classes (run (counted test .before))
+    wrong-classes (run (read test .before))
     (λ r. rw (not-true (test .are-classes .result) (c .if3 .taken)) at (classes test .1 r))
+
+sub-are-counted : tie.Need-sub-are-counted
+sub-are-counted c = search needs
+
+part-are-counted-start : tie.Need-part-are-counted-start
+part-are-counted-start c = search needs
+
+part-are-counted-end : tie.Need-part-are-counted-end
+part-are-counted-end c = let fits = within (read (c .before)) in search needs
+
+are-counted-requires : tie.Need-are-counted-requires
+are-counted-requires c κs =
+    let used = read (c .before .before) in
+    let fits = within used in (
+      simp length-take (omega arith),
+      simp length-take (omega (arith, some-word (measured (used .before)))),
+    )
 
 mul-are-zero : tie.Need-mul-are-zero
 mul-are-zero c = search needs
 
 sub-are-zero : tie.Need-sub-are-zero
-sub-are-zero c = omega (arith, within (counted (c .before)))
+sub-are-zero c = omega (arith, within (known c))
 
 part-are-zero-start : tie.Need-part-are-zero-start
-part-are-zero-start c = let fits = within (counted (c .before)) in search needs
+part-are-zero-start c = let fits = within (known c) in search needs
 
 part-are-zero-end : tie.Need-part-are-zero-end
 part-are-zero-end c = search needs
@@ -117,12 +144,13 @@ are-zero-requires c κs = search needs
 
 returns-4 : tie.Need-returns-4
 returns-4 c =
-    let left = c .before .before in
-    let test = left .before in
-    let head = counted test .before in
-    rw (counted test .used .ensures) at (c .are-zero .ensures)
-    ∙ zeros-left (run head) (long (measured head)) (headed head)
-    (classes test .0 (true-T (test .are-classes .result) (not-false (test .are-classes .result) (left .if3 .left))))
+    let count = c .before .before in
+    let test = classed count .before in
+    let head = known count .before in
+    let past = rw (known count .used .ensures) at (c .are-zero .ensures) in
+    (λ i. strikes count i && past i)
+    ∙ counts-left (run head) (long (measured head)) (headed head)
+    (classes test .0 (passed (test .are-classes .result) (classed count .if3 .left)))
 
 pub is-book-spec : {M : Type 1} → statement M
 is-book-spec =
@@ -139,6 +167,10 @@ is-book-spec =
     part-are-classes-end
     are-classes-requires
     returns-3
+    sub-are-counted
+    part-are-counted-start
+    part-are-counted-end
+    are-counted-requires
     mul-are-zero
     sub-are-zero
     part-are-zero-start

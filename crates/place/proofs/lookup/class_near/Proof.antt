@@ -50,7 +50,7 @@ holds-number c =
     let u = near found in
     let a = start u .args in
     let there = found .found-near .ensures in
-    rw there (near-holds (a .near - 1) (words u) classKind (a .c) (rw there at (c .if2 .taken)))
+    rw there (near-holds (a .near - firstPlace) (words u) classKind (a .c) (rw there at (c .if2 .taken)))
 
 -- ---- what is to be shown there
 
