@@ -1,5 +1,6 @@
 // The proved functions under C names, for programs in C and Rust. include/strikebook.h says what each means in plain
 // words.
+#![tactic(auto)]
 ghost use Rattle.std.specs.Prelude.{[], ◌≡◌, T};
 ghost use Rattle.book.specs.Books.{is_book};
 ghost use Rattle.book.specs.Calls.{call_m, on, call_o, call_c, call_h, call_v, call_d, call_l, call_j, call_x, call_i, call_r, call_a};
@@ -12,7 +13,7 @@ use word::counter::CounterAnswer;
 
 // The number and the value of an answer, document 01's.
 #[repr(C)]
-#[derive(Drop)]
+#[derive(Clone, Copy)]
 pub struct Reply {
     pub number: u32,
     pub value: u32,
@@ -29,7 +30,7 @@ pub fn reply_of(answer: Answer) -> Reply
 
 // What a reader of a counter is answered: the number, and the own classes and the strikes of the program.
 #[repr(C)]
-#[derive(Drop)]
+#[derive(Clone, Copy)]
 pub struct CounterReply {
     pub number: u32,
     pub own: u32,
@@ -54,7 +55,6 @@ fn counter_reply_of(answer: CounterAnswer) -> CounterReply
 }
 
 // Whether the run is a book.
-#[unsafe(no_mangle)]
 pub extern "C" fn strike_book_is_book(run: &[u32]) -> bool
     ensures { result ≡ is_book run.now }
 {
@@ -62,7 +62,6 @@ pub extern "C" fn strike_book_is_book(run: &[u32]) -> bool
 }
 
 // Makes a fresh book of the run.
-#[unsafe(no_mangle)]
 pub extern "C" fn strike_book_fresh(run: &mut [u32]) -> Reply
     ensures { Started run.old result run.new }
 {
@@ -70,7 +69,6 @@ pub extern "C" fn strike_book_fresh(run: &mut [u32]) -> Reply
 }
 
 // `M`.
-#[unsafe(no_mangle)]
 pub extern "C" fn strike_book_set_month(run: &mut [u32], m: u32) -> Reply
     ensures { Answered (call_m m) run.old [] result run.new [] }
 {
@@ -78,7 +76,6 @@ pub extern "C" fn strike_book_set_month(run: &mut [u32], m: u32) -> Reply
 }
 
 // `O`.
-#[unsafe(no_mangle)]
 pub extern "C" fn strike_book_open_class(run: &mut [u32], c: u32) -> Reply
     ensures { Answered (on c call_o) run.old [] result run.new [] }
 {
@@ -86,7 +83,6 @@ pub extern "C" fn strike_book_open_class(run: &mut [u32], c: u32) -> Reply
 }
 
 // `C`.
-#[unsafe(no_mangle)]
 pub extern "C" fn strike_book_set_close(run: &mut [u32], c: u32, p: u32) -> Reply
     ensures { Answered (on c (call_c p)) run.old [] result run.new [] }
 {
@@ -94,7 +90,6 @@ pub extern "C" fn strike_book_set_close(run: &mut [u32], c: u32, p: u32) -> Repl
 }
 
 // `H`.
-#[unsafe(no_mangle)]
 pub extern "C" fn strike_book_set_low_high(run: &mut [u32], c: u32, low: u32, high: u32) -> Reply
     ensures { Answered (on c (call_h low high)) run.old [] result run.new [] }
 {
@@ -102,7 +97,6 @@ pub extern "C" fn strike_book_set_low_high(run: &mut [u32], c: u32, low: u32, hi
 }
 
 // `V`.
-#[unsafe(no_mangle)]
 pub extern "C" fn strike_book_set_volume(run: &mut [u32], c: u32, n: u32) -> Reply
     ensures { Answered (on c (call_v n)) run.old [] result run.new [] }
 {
@@ -110,7 +104,6 @@ pub extern "C" fn strike_book_set_volume(run: &mut [u32], c: u32, n: u32) -> Rep
 }
 
 // `D`.
-#[unsafe(no_mangle)]
 pub extern "C" fn strike_book_designate(run: &mut [u32], c: u32, p: u32, d: u32) -> Reply
     ensures { Answered (on c (call_d p d)) run.old [] result run.new [] }
 {
@@ -118,7 +111,6 @@ pub extern "C" fn strike_book_designate(run: &mut [u32], c: u32, p: u32, d: u32)
 }
 
 // `L`.
-#[unsafe(no_mangle)]
 pub extern "C" fn strike_book_list_strike(run: &mut [u32], c: u32, m: u32, h: u32) -> Reply
     ensures { Answered (on c (call_l m h)) run.old [] result run.new [] }
 {
@@ -126,7 +118,6 @@ pub extern "C" fn strike_book_list_strike(run: &mut [u32], c: u32, m: u32, h: u3
 }
 
 // `J`.
-#[unsafe(no_mangle)]
 pub extern "C" fn strike_book_judge_strike(run: &[u32], c: u32, m: u32, h: u32) -> Reply
     ensures { Answered (on c (call_j m h)) run.now [] result run.now [] }
 {
@@ -134,7 +125,6 @@ pub extern "C" fn strike_book_judge_strike(run: &[u32], c: u32, m: u32, h: u32) 
 }
 
 // `X`.
-#[unsafe(no_mangle)]
 pub extern "C" fn strike_book_delist_strike(run: &mut [u32], c: u32, m: u32, h: u32) -> Reply
     ensures { Answered (on c (call_x m h)) run.old [] result run.new [] }
 {
@@ -142,7 +132,6 @@ pub extern "C" fn strike_book_delist_strike(run: &mut [u32], c: u32, m: u32, h: 
 }
 
 // `I`.
-#[unsafe(no_mangle)]
 pub extern "C" fn strike_book_mark_strike(
     run: &mut [u32],
     c: u32,
@@ -157,7 +146,6 @@ pub extern "C" fn strike_book_mark_strike(
 }
 
 // `R`.
-#[unsafe(no_mangle)]
 pub extern "C" fn strike_book_review_class(run: &mut [u32], c: u32) -> Reply
     ensures { Answered (on c call_r) run.old [] result run.new [] }
 {
@@ -165,7 +153,6 @@ pub extern "C" fn strike_book_review_class(run: &mut [u32], c: u32) -> Reply
 }
 
 // `A`.
-#[unsafe(no_mangle)]
 pub extern "C" fn strike_book_list_permitted(
     run: &[u32],
     second: &mut [u32],
@@ -179,7 +166,6 @@ pub extern "C" fn strike_book_list_permitted(
 }
 
 // A whole sheet.
-#[unsafe(no_mangle)]
 pub extern "C" fn strike_book_run_sheet(
     run: &mut [u32],
     second: &mut [u32],
@@ -193,7 +179,6 @@ pub extern "C" fn strike_book_run_sheet(
 }
 
 // The counter of a program, over any words.
-#[unsafe(no_mangle)]
 pub extern "C" fn strike_book_read_counter(run: &[u32], p: u32) -> CounterReply
     ensures { result ≡ counter_reply (counter_read p run.now) }
 {
@@ -201,7 +186,6 @@ pub extern "C" fn strike_book_read_counter(run: &[u32], p: u32) -> CounterReply
 }
 
 // The same over a run that is known to be a book.
-#[unsafe(no_mangle)]
 pub extern "C" fn strike_book_read_known_counter(run: &[u32], p: u32) -> CounterReply
     ensures { (result ≡ counter_reply (counter_said p run.now))
         × (T (is_book run.now) → result ≡ counter_reply (counter_read p run.now)) }

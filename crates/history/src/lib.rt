@@ -1,4 +1,5 @@
 // Whole lists of calls from a fresh book, and two of them compared.
+#![tactic(auto)]
 ghost use Rattle.std.specs.Prelude.{◌+◌, ◌≤◌, min, ◌≡◌, T, length};
 ghost use Rattle.book.specs.Books.{is_book, same_words};
 ghost use Rattle.history.specs.Records.{record_length, call_at};
@@ -10,7 +11,7 @@ use scan::fresh;
 use word::answer::Answer;
 
 // Whether two lists of calls leave the same book.
-#[derive(Drop)]
+#[derive(Clone, Copy)]
 pub enum Comparison {
     Equal,
     Different,

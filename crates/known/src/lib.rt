@@ -1,6 +1,7 @@
 // The calls over a run that is known to be a book, under C names: no word is tested. `places` is what calls remember of
 // where classes stand: any numbers will do, and any count of them, none too. They have an archive of their own, as the
 // comparison of two lists has. include/strikebook.h says what a caller owes.
+#![tactic(auto)]
 ghost use Rattle.std.specs.Prelude.{[], T};
 ghost use Rattle.book.specs.Books.{is_book};
 ghost use Rattle.book.specs.Calls.{call_m, on, call_o, call_c, call_h, call_v, call_d, call_l, call_j, call_x, call_i, call_r, call_a};
@@ -11,7 +12,6 @@ use export::{Reply, reply_of};
 use word::strike::Marks;
 
 // `M`.
-#[unsafe(no_mangle)]
 pub extern "C" fn strike_book_known_set_month(run: &mut [u32], m: u32) -> Reply
     requires { T (is_book run.old) }
     ensures { Answered (call_m m) run.old [] result run.new [] }
@@ -20,7 +20,6 @@ pub extern "C" fn strike_book_known_set_month(run: &mut [u32], m: u32) -> Reply
 }
 
 // `O`.
-#[unsafe(no_mangle)]
 pub extern "C" fn strike_book_known_open_class(run: &mut [u32], places: &mut [u32], c: u32) -> Reply
     requires { T (is_book run.old) }
     ensures { Answered (on c call_o) run.old [] result run.new [] }
@@ -29,7 +28,6 @@ pub extern "C" fn strike_book_known_open_class(run: &mut [u32], places: &mut [u3
 }
 
 // `C`.
-#[unsafe(no_mangle)]
 pub extern "C" fn strike_book_known_set_close(
     run: &mut [u32],
     places: &mut [u32],
@@ -43,7 +41,6 @@ pub extern "C" fn strike_book_known_set_close(
 }
 
 // `H`.
-#[unsafe(no_mangle)]
 pub extern "C" fn strike_book_known_set_low_high(
     run: &mut [u32],
     places: &mut [u32],
@@ -58,7 +55,6 @@ pub extern "C" fn strike_book_known_set_low_high(
 }
 
 // `V`.
-#[unsafe(no_mangle)]
 pub extern "C" fn strike_book_known_set_volume(
     run: &mut [u32],
     places: &mut [u32],
@@ -72,7 +68,6 @@ pub extern "C" fn strike_book_known_set_volume(
 }
 
 // `D`.
-#[unsafe(no_mangle)]
 pub extern "C" fn strike_book_known_designate(
     run: &mut [u32],
     places: &mut [u32],
@@ -87,7 +82,6 @@ pub extern "C" fn strike_book_known_designate(
 }
 
 // `L`.
-#[unsafe(no_mangle)]
 pub extern "C" fn strike_book_known_list_strike(
     run: &mut [u32],
     places: &mut [u32],
@@ -102,7 +96,6 @@ pub extern "C" fn strike_book_known_list_strike(
 }
 
 // `J`.
-#[unsafe(no_mangle)]
 pub extern "C" fn strike_book_known_judge_strike(
     run: &[u32],
     places: &mut [u32],
@@ -117,7 +110,6 @@ pub extern "C" fn strike_book_known_judge_strike(
 }
 
 // `X`.
-#[unsafe(no_mangle)]
 pub extern "C" fn strike_book_known_delist_strike(
     run: &mut [u32],
     places: &mut [u32],
@@ -132,7 +124,6 @@ pub extern "C" fn strike_book_known_delist_strike(
 }
 
 // `I`.
-#[unsafe(no_mangle)]
 pub extern "C" fn strike_book_known_mark_strike(
     run: &mut [u32],
     places: &mut [u32],
@@ -149,7 +140,6 @@ pub extern "C" fn strike_book_known_mark_strike(
 }
 
 // `R`.
-#[unsafe(no_mangle)]
 pub extern "C" fn strike_book_known_review_class(
     run: &mut [u32],
     places: &mut [u32],
@@ -162,7 +152,6 @@ pub extern "C" fn strike_book_known_review_class(
 }
 
 // `A`.
-#[unsafe(no_mangle)]
 pub extern "C" fn strike_book_known_list_permitted(
     run: &[u32],
     second: &mut [u32],
@@ -178,7 +167,6 @@ pub extern "C" fn strike_book_known_list_permitted(
 }
 
 // A whole sheet.
-#[unsafe(no_mangle)]
 pub extern "C" fn strike_book_known_run_sheet(
     run: &mut [u32],
     second: &mut [u32],

@@ -1,5 +1,6 @@
 // Two lists of calls compared, under a C name. It has an archive of its own: in that of `export` the calls of a sheet
 // would no longer be compiled into the loop over its lines, which makes a sheet slower by about a tenth.
+#![tactic(auto)]
 ghost use Rattle.std.specs.Prelude.{◌≡◌};
 ghost use Rattle.lists.specs.ListReplies.{Replied, comparison_number, comparison_value};
 
@@ -26,7 +27,6 @@ fn reply_of(comparison: Comparison) -> Reply
 }
 
 // Runs two lists of calls, each from a fresh book, and says whether they leave the same book.
-#[unsafe(no_mangle)]
 pub extern "C" fn strike_book_compare_lists(
     left: &mut [u32],
     right: &mut [u32],

@@ -1,5 +1,6 @@
 // The permitted strikes of an expiration: the multiples that the rules can accept, tried one after another beside the
 // standing strikes near them.
+#![tactic(auto)]
 ghost use Rattle.std.specs.Prelude.{◌≡◌, not, map, ◌≤◌, eqb, length, set};
 ghost use Rattle.std.proofs.lemmas.List.Edits.{sets};
 ghost use Rattle.logic.specs.Lists.{some};
@@ -30,21 +31,21 @@ const BEYOND_REACH: u32 = LONG_REACH + 1;
 
 // How far a list is: the standing strikes before `from` are far below the strikes to come, and `count` strikes are
 // listed.
-#[derive(Drop)]
+#[derive(Clone, Copy)]
 struct Progress {
     from: usize,
     count: u32,
 }
 
 // The strikes from `low` to `high`.
-#[derive(Drop)]
+#[derive(Clone, Copy)]
 struct Range {
     low: u32,
     high: u32,
 }
 
 // The strikes in range at the day's low, and those above them that are in range at its high.
-#[derive(Drop)]
+#[derive(Clone, Copy)]
 struct Ranges {
     first: Range,
     second: Range,

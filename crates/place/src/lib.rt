@@ -1,4 +1,5 @@
 // Searches over the words of a book.
+#![tactic(auto)]
 pub mod head;
 pub mod lookup;
 pub mod own;

@@ -22,7 +22,7 @@ use word::kind::{CLASS, EXPIRATION, STRIKE, key_of};
 const FEW_WORDS: usize = 256;
 
 // Where the strikes of an expiration stand; where it has none, both are the index before which its word would stand.
-#[derive(Drop)]
+#[derive(Clone, Copy)]
 pub struct Expiration {
     pub from: usize,
     pub to: usize,
@@ -30,7 +30,7 @@ pub struct Expiration {
 
 // Where a strike stands, or where its word would be put; whether its expiration has strikes, and whether it is one of
 // them.
-#[derive(Drop)]
+#[derive(Clone, Copy)]
 pub struct StrikeSearch {
     pub at: usize,
     pub expiration: bool,

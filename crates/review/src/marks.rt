@@ -10,14 +10,14 @@ use word::strike::is_marked;
 
 // The lowest of some strikes, and one more than the highest. Where there is none, the first is more than a strike word
 // holds, and the second 0.
-#[derive(Drop)]
+#[derive(Clone, Copy)]
 pub struct Bounds {
     pub lowest: u32,
     pub above: u32,
 }
 
 // The strikes that words end with, those of one expiration: the index of the first, and the bounds of the marked ones.
-#[derive(Drop)]
+#[derive(Clone, Copy)]
 pub struct LastStrikes {
     pub first: usize,
     pub bounds: Bounds,

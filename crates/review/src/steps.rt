@@ -32,7 +32,7 @@ fn near_strikes(close: u32) -> Bounds
 
 // How far a review is. The words before `read` are to be read, those from `written` on are what stays of the others,
 // and the words between are free: zero.
-#[derive(Drop)]
+#[derive(Clone, Copy)]
 pub struct ReviewState {
     pub read: usize,
     pub written: usize,

@@ -124,7 +124,7 @@ pub fn high_end(s: Setting, p: u32) -> u32
 
 // Up to the strike `to`, from the rung before on, the open strikes are multiples of `step`. `all` says that each such
 // multiple in range is open.
-#[derive(Drop)]
+#[derive(Clone, Copy)]
 pub struct Rung {
     pub to: u32,
     pub step: u32,

@@ -12,7 +12,7 @@ use word::programs::{DOLLAR, HALF, TWO_FIFTY};
 const LONG_FROM: u32 = 9;
 
 // A class and an expiration of it, seen from the current month, document 01's `now`.
-#[derive(Drop)]
+#[derive(Clone, Copy)]
 pub struct Setting {
     pub class: ClassRecord,
     pub current: u32,

@@ -14,7 +14,7 @@ const HALF_BLOCK: usize = 32;
 // The others, words that are no next strikes, after `at`: `bits` has one bit for each word of the block from `base` on,
 // lowest first, which is 1 for an other, and for the word at `at`. `more` has those of the next block, which are told
 // of before they are asked for: so that the work goes on while it is not yet known where the block ends.
-#[derive(Drop)]
+#[derive(Clone, Copy)]
 pub struct Ahead {
     pub base: usize,
     pub bits: u64,

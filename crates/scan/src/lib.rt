@@ -1,4 +1,5 @@
 // Whether a run of words is a book, in nested loops over raw words; and a fresh book made of any run.
+#![tactic(auto)]
 ghost use Rattle.std.specs.Prelude.{◌≡◌, ◌↔◌, ◌≤◌, length, T};
 ghost use Rattle.word.specs.Limits.{last_month, longest_run};
 ghost use Rattle.word.specs.Head.{first_place};
@@ -24,7 +25,7 @@ use word::{counter, figures, head};
 mod ahead;
 
 // What is ahead of where the expirations of a class end, or that they are no expirations of a book.
-#[derive(Drop)]
+#[derive(Clone, Copy)]
 pub enum Stretch {
     EndsAt(Ahead),
     Breaks,

@@ -1,5 +1,6 @@
 // The sheet program: reads a call sheet from standard input over a fresh book, and prints the reply to each line.
 // Standard input comes in pieces, and a line may span pieces and have any length.
+#![tactic(auto)]
 ghost use Rattle.std.specs.Prelude.{◌≡◌, ◌≤◌, T, length};
 ghost use Rattle.book.specs.Facts.{fresh};
 ghost use Rattle.book.specs.Layout.{layout};
@@ -19,7 +20,7 @@ const BOOK_LENGTH: usize = 4096;
 const SECOND_LENGTH: usize = 512;
 
 // How many bytes were read, none at the end of the input, and the line that has not ended.
-#[derive(Drop)]
+#[derive(Clone, Copy)]
 struct Turn {
     count: usize,
     line: Line,

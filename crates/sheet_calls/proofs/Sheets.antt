@@ -1,7 +1,7 @@
 -- A sheet read line by line: what the lines that are left make of the present words is what the whole sheet makes of
 -- the first ones; by what one call makes of any words. Assumes nothing.
 use Prim.Native.Nat.{ℕ, ◌+◌, ◌≤◌, ◌<◌, zero-le}
-use mathlib.Core.Path.{◌≡◌, refl, sym, ap, ◌∙◌}
+use mathlib.Core.Path.{◌≡◌, refl, sym, ap, ◌∙◌, subst}
 use mathlib.Core.Bool.{Bool, true, false}
 use mathlib.Core.Logic.{◌⊎◌, ⊎_elim}
 use mathlib.Core.List.{List, [], ◌∷◌, map}
@@ -14,7 +14,7 @@ use Rattle.book.specs.Books.{is_book}
 use Rattle.book.specs.Calls.{Call, steps}
 use Rattle.book.specs.CallLists.{answers_to, told, second_after}
 use Rattle.book.specs.Made.{Made}
-use Rattle.text.specs.SheetLines.{lines_of, next_line}
+use Rattle.text.specs.SheetLines.{lines_of, line_at, next_line}
 use Rattle.logic.proofs.Tests.{T_true, true_T, bool_cases}
 use Rattle.book.proofs.Layouts.{book_facts}
 use Rattle.book.proofs.Followed.{made_book}
@@ -123,7 +123,11 @@ module _
         let made = next m.made room in
         let later = answers_over w' (length v₀) rest in
         let said : answers_over w (length v₀) (calls_in (drop from sheet)) ≡ r.answer ∷ later =
-        ap (answers_over w (length v₀)) calls ∙ rw i.room at (made.answers rest) in
+        ap (answers_over w (length v₀)) calls
+        ∙ subst
+          (λ (n : ℕ). answers_over w n (call_in (line_at sheet from) ∷ rest) ≡ r.answer ∷ answers_over w' n rest)
+          i.room
+          (made.answers rest) in
         rw m.next_is
         (record {
           within = omega arith;

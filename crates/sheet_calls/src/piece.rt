@@ -15,7 +15,7 @@ use text::print::{ANSWER_ROOM, STRIKE_ROOM, put_answer};
 use word::answer::Answer;
 
 // How far a piece has been read, the line that has not ended, and how many bytes were printed.
-#[derive(Drop)]
+#[derive(Clone, Copy)]
 pub struct PieceProgress {
     pub line: Line,
     pub read: usize,
@@ -23,7 +23,7 @@ pub struct PieceProgress {
 }
 
 // How far the lines of a piece have been read, and how many bytes were printed.
-#[derive(Drop)]
+#[derive(Clone, Copy)]
 pub struct Lines {
     pub read: usize,
     pub put: usize,

@@ -37,7 +37,7 @@ pub fn make_line(run: &mut [u32], second: &mut [u32], places: &mut [u32], line: 
 }
 
 // The answer to a line, and where the next line begins.
-#[derive(Drop)]
+#[derive(Clone, Copy)]
 struct LineAnswer {
     answer: Answer,
     next: usize,

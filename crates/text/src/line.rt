@@ -18,7 +18,7 @@ const NUMBER_CAP: u32 = 99999999;
 const CAPPED_FROM: u32 = 10000000;
 
 // How far a line has been read. A line that has ended well is at Letter.
-#[derive(Drop)]
+#[derive(Clone, Copy)]
 pub enum Phase {
     Start,
     Letter,
@@ -29,7 +29,7 @@ pub enum Phase {
 }
 
 // The phase, the letter, the number that is being read, and the numbers that have ended with their count.
-#[derive(Drop)]
+#[derive(Clone, Copy)]
 pub struct Line {
     pub phase: Phase,
     pub letter: u8,
@@ -39,14 +39,14 @@ pub struct Line {
 }
 
 // A number that was read: its value, and where it ends.
-#[derive(Drop)]
+#[derive(Clone, Copy)]
 struct NumberRead {
     value: u32,
     end: usize,
 }
 
 // A line that has ended, and where: at its line end, or with the bytes.
-#[derive(Drop)]
+#[derive(Clone, Copy)]
 pub struct WholeLine {
     pub line: Line,
     pub end: usize,

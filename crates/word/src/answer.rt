@@ -3,7 +3,7 @@ ghost use Rattle.std.specs.Prelude.{◌≡◌};
 ghost use Rattle.word.specs.Answers.{refusal_number, refusal_value, answer_number, answer_value, is_accepted};
 
 // Why a call is refused, by number from 1 to 16.
-#[derive(Drop)]
+#[derive(Clone, Copy)]
 pub enum Refusal {
     NotABook,
     BeyondLimits,
@@ -24,7 +24,7 @@ pub enum Refusal {
     CloseOutside,
 }
 
-#[derive(Drop)]
+#[derive(Clone, Copy)]
 pub enum Answer {
     Done,
     Ground(u32),

@@ -5,15 +5,15 @@ ghost use Rattle.word.specs.Limits.{longest_run};
 ghost use Rattle.word.specs.Programs.{dollar_program, half_program, two_fifty_program};
 
 // How many classes have $1 designation 1.
-#[derive(Drop)]
+#[derive(Clone, Copy)]
 pub struct DollarCount(pub u32);
 
 // How many classes have $0.50 designation 1.
-#[derive(Drop)]
+#[derive(Clone, Copy)]
 pub struct HalfCount(pub u32);
 
 // How many classes have $2.50 designation 1.
-#[derive(Drop)]
+#[derive(Clone, Copy)]
 pub struct TwoFiftyCount(pub u32);
 
 // 1 for a class that is ours, else 0.

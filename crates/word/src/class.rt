@@ -5,7 +5,7 @@ ghost use Rattle.word.specs.Programs.{IsProgram};
 
 use crate::programs::{COUNT, DOLLAR, HALF};
 
-#[derive(Drop)]
+#[derive(Clone, Copy)]
 pub struct ClassRecord {
     pub number: u32,
     // The last close in cents, 0 when none has come.

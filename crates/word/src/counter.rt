@@ -22,14 +22,14 @@ pub const STRIKES: Field = Field { low: 8, width: 16 };
 pub const NO_STRIKES: [u32; COUNT as usize] = [0; COUNT as usize];
 
 // What the counter of a program says.
-#[derive(Drop)]
+#[derive(Clone, Copy)]
 pub struct Counts {
     pub own: u32,
     pub strikes: u32,
 }
 
 // What a reader of a counter is answered.
-#[derive(Drop)]
+#[derive(Clone, Copy)]
 pub enum CounterAnswer {
     Counted(Counts),
     Refused(Refusal),

@@ -3,7 +3,7 @@ ghost use Rattle.std.specs.Prelude.{◌≡◌, ◌+◌, ◌*◌, ◌^◌, ◌<�
 ghost use Rattle.word.specs.Field.{field, Readable, Puttable};
 
 // Where a field stands in its word.
-#[derive(Drop)]
+#[derive(Clone, Copy)]
 pub struct Field {
     // Its lowest bit.
     pub low: u32,

@@ -4,7 +4,7 @@ ghost use Rattle.word.specs.Kinds.{kind_field, kind_of, key_of, is_of_kind, belo
 
 use crate::field::{Field, field_of, put_at};
 
-#[derive(Drop)]
+#[derive(Clone, Copy)]
 pub struct Kind {
     pub number: u32,
     // How many bits the lowest field has: the key, by which the words of a kind are ordered.

@@ -12,11 +12,11 @@ use std::num::wrapping_add_u32;
 pub const HALF_DOLLAR: u32 = 50;
 
 // A strike, counted in half dollars.
-#[derive(Drop)]
+#[derive(Clone, Copy)]
 pub struct Strike(pub u32);
 
 // The marks of open interest of a strike: that of its put and that of its call.
-#[derive(Drop)]
+#[derive(Clone, Copy)]
 pub struct Marks {
     pub put: u32,
     pub call: u32,
