@@ -1,6 +1,7 @@
-// The proved functions under C names, for programs in C and Rust. include/strikebook.h says what each means in plain
-// words.
+// The proved functions as programs in C and Rust call them, under the names of include/strikebook.h, which says what each
+// means in plain words. `export_c` gives C these names.
 #![tactic(auto)]
+
 ghost use Rattle.std.specs.Prelude.{[], ◌≡◌, T};
 ghost use Rattle.book.specs.Books.{is_book};
 ghost use Rattle.book.specs.Calls.{call_m, on, call_o, call_c, call_h, call_v, call_d, call_l, call_j, call_x, call_i, call_r, call_a};
@@ -55,110 +56,98 @@ fn counter_reply_of(answer: CounterAnswer) -> CounterReply
 }
 
 // Whether the run is a book.
-pub extern "C" fn strike_book_is_book(run: &[u32]) -> bool
+pub fn strike_book_is_book(run: &[u32]) -> bool
     ensures { result ≡ is_book run.now }
 {
     scan::is_book(run)
 }
 
 // Makes a fresh book of the run.
-pub extern "C" fn strike_book_fresh(run: &mut [u32]) -> Reply
+pub fn strike_book_fresh(run: &mut [u32]) -> Reply
     ensures { Started run.old result run.new }
 {
     reply_of(scan::fresh(run))
 }
 
 // `M`.
-pub extern "C" fn strike_book_set_month(run: &mut [u32], m: u32) -> Reply
+pub fn strike_book_set_month(run: &mut [u32], m: u32) -> Reply
     ensures { Answered (call_m m) run.old [] result run.new [] }
 {
     reply_of(call::set_month(run, m))
 }
 
 // `O`.
-pub extern "C" fn strike_book_open_class(run: &mut [u32], c: u32) -> Reply
+pub fn strike_book_open_class(run: &mut [u32], c: u32) -> Reply
     ensures { Answered (on c call_o) run.old [] result run.new [] }
 {
     reply_of(call::open_class(run, c))
 }
 
 // `C`.
-pub extern "C" fn strike_book_set_close(run: &mut [u32], c: u32, p: u32) -> Reply
+pub fn strike_book_set_close(run: &mut [u32], c: u32, p: u32) -> Reply
     ensures { Answered (on c (call_c p)) run.old [] result run.new [] }
 {
     reply_of(call::set_close(run, c, p))
 }
 
 // `H`.
-pub extern "C" fn strike_book_set_low_high(run: &mut [u32], c: u32, low: u32, high: u32) -> Reply
+pub fn strike_book_set_low_high(run: &mut [u32], c: u32, low: u32, high: u32) -> Reply
     ensures { Answered (on c (call_h low high)) run.old [] result run.new [] }
 {
     reply_of(call::set_low_high(run, c, low, high))
 }
 
 // `V`.
-pub extern "C" fn strike_book_set_volume(run: &mut [u32], c: u32, n: u32) -> Reply
+pub fn strike_book_set_volume(run: &mut [u32], c: u32, n: u32) -> Reply
     ensures { Answered (on c (call_v n)) run.old [] result run.new [] }
 {
     reply_of(call::set_volume(run, c, n))
 }
 
 // `D`.
-pub extern "C" fn strike_book_designate(run: &mut [u32], c: u32, p: u32, d: u32) -> Reply
+pub fn strike_book_designate(run: &mut [u32], c: u32, p: u32, d: u32) -> Reply
     ensures { Answered (on c (call_d p d)) run.old [] result run.new [] }
 {
     reply_of(call::designate(run, c, p, d))
 }
 
 // `L`.
-pub extern "C" fn strike_book_list_strike(run: &mut [u32], c: u32, m: u32, h: u32) -> Reply
+pub fn strike_book_list_strike(run: &mut [u32], c: u32, m: u32, h: u32) -> Reply
     ensures { Answered (on c (call_l m h)) run.old [] result run.new [] }
 {
     reply_of(call::list_strike(run, c, m, h))
 }
 
 // `J`.
-pub extern "C" fn strike_book_judge_strike(run: &[u32], c: u32, m: u32, h: u32) -> Reply
+pub fn strike_book_judge_strike(run: &[u32], c: u32, m: u32, h: u32) -> Reply
     ensures { Answered (on c (call_j m h)) run.now [] result run.now [] }
 {
     reply_of(call::judge_strike(run, c, m, h))
 }
 
 // `X`.
-pub extern "C" fn strike_book_delist_strike(run: &mut [u32], c: u32, m: u32, h: u32) -> Reply
+pub fn strike_book_delist_strike(run: &mut [u32], c: u32, m: u32, h: u32) -> Reply
     ensures { Answered (on c (call_x m h)) run.old [] result run.new [] }
 {
     reply_of(call::delist_strike(run, c, m, h))
 }
 
 // `I`.
-pub extern "C" fn strike_book_mark_strike(
-    run: &mut [u32],
-    c: u32,
-    m: u32,
-    h: u32,
-    a: u32,
-    b: u32,
-) -> Reply
+pub fn strike_book_mark_strike(run: &mut [u32], c: u32, m: u32, h: u32, a: u32, b: u32) -> Reply
     ensures { Answered (on c (call_i m h a b)) run.old [] result run.new [] }
 {
     reply_of(call::mark_strike(run, c, m, h, a, b))
 }
 
 // `R`.
-pub extern "C" fn strike_book_review_class(run: &mut [u32], c: u32) -> Reply
+pub fn strike_book_review_class(run: &mut [u32], c: u32) -> Reply
     ensures { Answered (on c call_r) run.old [] result run.new [] }
 {
     reply_of(call::review_class(run, c))
 }
 
 // `A`.
-pub extern "C" fn strike_book_list_permitted(
-    run: &[u32],
-    second: &mut [u32],
-    c: u32,
-    m: u32,
-) -> Reply
+pub fn strike_book_list_permitted(run: &[u32], second: &mut [u32], c: u32, m: u32) -> Reply
     ensures { Answered (on c (call_a m)) run.now second.old
         result run.now second.new }
 {
@@ -166,7 +155,7 @@ pub extern "C" fn strike_book_list_permitted(
 }
 
 // A whole sheet.
-pub extern "C" fn strike_book_run_sheet(
+pub fn strike_book_run_sheet(
     run: &mut [u32],
     second: &mut [u32],
     sheet: &[u8],
@@ -179,14 +168,14 @@ pub extern "C" fn strike_book_run_sheet(
 }
 
 // The counter of a program, over any words.
-pub extern "C" fn strike_book_read_counter(run: &[u32], p: u32) -> CounterReply
+pub fn strike_book_read_counter(run: &[u32], p: u32) -> CounterReply
     ensures { result ≡ counter_reply (counter_read p run.now) }
 {
     counter_reply_of(call::read_counter(run, p))
 }
 
 // The same over a run that is known to be a book.
-pub extern "C" fn strike_book_read_known_counter(run: &[u32], p: u32) -> CounterReply
+pub fn strike_book_read_known_counter(run: &[u32], p: u32) -> CounterReply
     ensures { (result ≡ counter_reply (counter_said p run.now))
         × (T (is_book run.now) → result ≡ counter_reply (counter_read p run.now)) }
 {

@@ -1,7 +1,8 @@
-// The calls over a run that is known to be a book, under C names: no word is tested. `places` is what calls remember of
-// where classes stand: any numbers will do, and any count of them, none too. They have an archive of their own, as the
-// comparison of two lists has. include/strikebook.h says what a caller owes.
+// The calls over a run that is known to be a book, as programs in C and Rust call them: no word is tested. `places` is
+// what calls remember of where classes stand: any numbers will do, and any count of them, none too. `known_c` gives C
+// these names. include/strikebook.h says what a caller owes.
 #![tactic(auto)]
+
 ghost use Rattle.std.specs.Prelude.{[], T};
 ghost use Rattle.book.specs.Books.{is_book};
 ghost use Rattle.book.specs.Calls.{call_m, on, call_o, call_c, call_h, call_v, call_d, call_l, call_j, call_x, call_i, call_r, call_a};
@@ -12,7 +13,7 @@ use export::{Reply, reply_of};
 use word::strike::Marks;
 
 // `M`.
-pub extern "C" fn strike_book_known_set_month(run: &mut [u32], m: u32) -> Reply
+pub fn strike_book_known_set_month(run: &mut [u32], m: u32) -> Reply
     requires { T (is_book run.old) }
     ensures { Answered (call_m m) run.old [] result run.new [] }
 {
@@ -20,7 +21,7 @@ pub extern "C" fn strike_book_known_set_month(run: &mut [u32], m: u32) -> Reply
 }
 
 // `O`.
-pub extern "C" fn strike_book_known_open_class(run: &mut [u32], places: &mut [u32], c: u32) -> Reply
+pub fn strike_book_known_open_class(run: &mut [u32], places: &mut [u32], c: u32) -> Reply
     requires { T (is_book run.old) }
     ensures { Answered (on c call_o) run.old [] result run.new [] }
 {
@@ -28,12 +29,7 @@ pub extern "C" fn strike_book_known_open_class(run: &mut [u32], places: &mut [u3
 }
 
 // `C`.
-pub extern "C" fn strike_book_known_set_close(
-    run: &mut [u32],
-    places: &mut [u32],
-    c: u32,
-    p: u32,
-) -> Reply
+pub fn strike_book_known_set_close(run: &mut [u32], places: &mut [u32], c: u32, p: u32) -> Reply
     requires { T (is_book run.old) }
     ensures { Answered (on c (call_c p)) run.old [] result run.new [] }
 {
@@ -41,7 +37,7 @@ pub extern "C" fn strike_book_known_set_close(
 }
 
 // `H`.
-pub extern "C" fn strike_book_known_set_low_high(
+pub fn strike_book_known_set_low_high(
     run: &mut [u32],
     places: &mut [u32],
     c: u32,
@@ -55,12 +51,7 @@ pub extern "C" fn strike_book_known_set_low_high(
 }
 
 // `V`.
-pub extern "C" fn strike_book_known_set_volume(
-    run: &mut [u32],
-    places: &mut [u32],
-    c: u32,
-    n: u32,
-) -> Reply
+pub fn strike_book_known_set_volume(run: &mut [u32], places: &mut [u32], c: u32, n: u32) -> Reply
     requires { T (is_book run.old) }
     ensures { Answered (on c (call_v n)) run.old [] result run.new [] }
 {
@@ -68,7 +59,7 @@ pub extern "C" fn strike_book_known_set_volume(
 }
 
 // `D`.
-pub extern "C" fn strike_book_known_designate(
+pub fn strike_book_known_designate(
     run: &mut [u32],
     places: &mut [u32],
     c: u32,
@@ -82,7 +73,7 @@ pub extern "C" fn strike_book_known_designate(
 }
 
 // `L`.
-pub extern "C" fn strike_book_known_list_strike(
+pub fn strike_book_known_list_strike(
     run: &mut [u32],
     places: &mut [u32],
     c: u32,
@@ -96,7 +87,7 @@ pub extern "C" fn strike_book_known_list_strike(
 }
 
 // `J`.
-pub extern "C" fn strike_book_known_judge_strike(
+pub fn strike_book_known_judge_strike(
     run: &[u32],
     places: &mut [u32],
     c: u32,
@@ -110,7 +101,7 @@ pub extern "C" fn strike_book_known_judge_strike(
 }
 
 // `X`.
-pub extern "C" fn strike_book_known_delist_strike(
+pub fn strike_book_known_delist_strike(
     run: &mut [u32],
     places: &mut [u32],
     c: u32,
@@ -124,7 +115,7 @@ pub extern "C" fn strike_book_known_delist_strike(
 }
 
 // `I`.
-pub extern "C" fn strike_book_known_mark_strike(
+pub fn strike_book_known_mark_strike(
     run: &mut [u32],
     places: &mut [u32],
     c: u32,
@@ -140,11 +131,7 @@ pub extern "C" fn strike_book_known_mark_strike(
 }
 
 // `R`.
-pub extern "C" fn strike_book_known_review_class(
-    run: &mut [u32],
-    places: &mut [u32],
-    c: u32,
-) -> Reply
+pub fn strike_book_known_review_class(run: &mut [u32], places: &mut [u32], c: u32) -> Reply
     requires { T (is_book run.old) }
     ensures { Answered (on c call_r) run.old [] result run.new [] }
 {
@@ -152,7 +139,7 @@ pub extern "C" fn strike_book_known_review_class(
 }
 
 // `A`.
-pub extern "C" fn strike_book_known_list_permitted(
+pub fn strike_book_known_list_permitted(
     run: &[u32],
     second: &mut [u32],
     places: &mut [u32],
@@ -167,7 +154,7 @@ pub extern "C" fn strike_book_known_list_permitted(
 }
 
 // A whole sheet.
-pub extern "C" fn strike_book_known_run_sheet(
+pub fn strike_book_known_run_sheet(
     run: &mut [u32],
     second: &mut [u32],
     places: &mut [u32],

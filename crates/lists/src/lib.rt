@@ -1,6 +1,6 @@
-// Two lists of calls compared, under a C name. It has an archive of its own: in that of `export` the calls of a sheet
-// would no longer be compiled into the loop over its lines, which makes a sheet slower by about a tenth.
+// Two lists of calls compared, as programs in C and Rust call it. `lists_c` gives C the name.
 #![tactic(auto)]
+
 ghost use Rattle.std.specs.Prelude.{◌≡◌};
 ghost use Rattle.lists.specs.ListReplies.{Replied, comparison_number, comparison_value};
 
@@ -27,7 +27,7 @@ fn reply_of(comparison: Comparison) -> Reply
 }
 
 // Runs two lists of calls, each from a fresh book, and says whether they leave the same book.
-pub extern "C" fn strike_book_compare_lists(
+pub fn strike_book_compare_lists(
     left: &mut [u32],
     right: &mut [u32],
     pool: &mut [u32],
