@@ -1,6 +1,7 @@
 // The calls over any lent words. Each tests the run once and then makes the call as `class_call` or `strike_call` does
 // on a book; a single call remembers no places. And what is read of the counters.
 #![tactic(auto)]
+
 ghost use Rattle.std.specs.Prelude.{[], ◌≡◌, T};
 ghost use Rattle.book.specs.Books.{is_book};
 ghost use Rattle.book.specs.Calls.{call_m, on, call_o, call_c, call_h, call_v, call_d, call_l, call_j, call_x, call_i, call_r, call_a};

@@ -2,6 +2,7 @@
 // `places` is what `place::lookup::class_at` remembers of where classes stand: any numbers will do, and any count of
 // them.
 #![tactic(auto)]
+
 ghost use Rattle.std.specs.Prelude.{[], T};
 ghost use Rattle.book.specs.Books.{is_book};
 ghost use Rattle.book.specs.Calls.{call_m, on, call_o, call_c, call_h, call_v, call_d, call_r};

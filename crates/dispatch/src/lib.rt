@@ -1,6 +1,7 @@
 // The call that a letter and its numbers name, made on a run that is known to be a book. `places` are lent to the calls
 // on a class: any words will do, and none too.
 #![tactic(auto)]
+
 ghost use Rattle.std.specs.Prelude.{List, ◌≡◌, ℕ, T, length};
 ghost use Rattle.book.specs.Books.{is_book};
 ghost use Rattle.book.specs.Letters.{call_of_one, call_of_two, call_of_three, call_of};

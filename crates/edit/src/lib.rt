@@ -1,5 +1,6 @@
 // Edits in place of the words of a book.
 #![tactic(auto)]
+
 ghost use Rattle.std.specs.Prelude.{[], ◌∷◌, map, ◌≡◌, ◌≤◌, T, length};
 ghost use Rattle.word.specs.Codec.{packed};
 ghost use Rattle.word.specs.Figures.{figures_length, figures_words, are_figures};

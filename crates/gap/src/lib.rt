@@ -1,5 +1,6 @@
 // A gap at the front of lent words is closed: the others move down, and what is freed at the end is zeroed.
 #![tactic(auto)]
+
 ghost use Rattle.std.specs.Prelude.{◌≡◌, ◌+◌, ◌≤◌, drop, length, take};
 ghost use Rattle.std.proofs.lemmas.List.Edits.{sets};
 ghost use Rattle.gap.specs.Gaps.{moved_at_once, moved_down, closed};

@@ -1,5 +1,6 @@
 // Whole lists of calls from a fresh book, and two of them compared.
 #![tactic(auto)]
+
 ghost use Rattle.std.specs.Prelude.{◌+◌, ◌≤◌, min, ◌≡◌, T, length};
 ghost use Rattle.book.specs.Books.{is_book, same_words};
 ghost use Rattle.history.specs.Records.{record_length, call_at};

@@ -1,6 +1,7 @@
 // The functions of `known` under their C names: one export for each, with its clauses. They have an archive of their
 // own, as the comparison of two lists has. include/strikebook.h says what a caller owes.
 #![tactic(auto)]
+
 ghost use Rattle.std.specs.Prelude.{[], T};
 ghost use Rattle.book.specs.Books.{is_book};
 ghost use Rattle.book.specs.Calls.{call_m, on, call_o, call_c, call_h, call_v, call_d, call_l, call_j, call_x, call_i, call_r, call_a};

@@ -1,6 +1,7 @@
 // The comparison of two lists under its C name. It has an archive of its own: in that of `export` the calls of a sheet
 // would no longer be compiled into the loop over its lines, which makes a sheet slower by about a tenth.
 #![tactic(auto)]
+
 ghost use Rattle.lists.specs.ListReplies.{Replied};
 
 use export::Reply;

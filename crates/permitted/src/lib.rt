@@ -1,6 +1,7 @@
 // The permitted strikes of an expiration: the multiples that the rules can accept, tried one after another beside the
 // standing strikes near them.
 #![tactic(auto)]
+
 ghost use Rattle.std.specs.Prelude.{◌≡◌, not, map, ◌≤◌, eqb, length, set};
 ghost use Rattle.std.proofs.lemmas.List.Edits.{sets};
 ghost use Rattle.logic.specs.Lists.{some};

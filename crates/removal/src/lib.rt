@@ -1,5 +1,6 @@
 // Delisting by the place of the strike. Expiry has a module of its own.
 #![tactic(auto)]
+
 ghost use Rattle.std.specs.Prelude.{◌≡◌, length};
 ghost use Rattle.book.specs.Layout.{layout, facts_of};
 ghost use Rattle.book.specs.Uncounted.{uncounted};

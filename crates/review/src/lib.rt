@@ -1,5 +1,6 @@
 // The review of a class from the top, in steps, in place.
 #![tactic(auto)]
+
 ghost use Rattle.std.specs.Prelude.{◌≡◌, length};
 ghost use Rattle.book.specs.Layout.{layout, facts_of};
 ghost use Rattle.book.specs.Views.{class};

@@ -1,5 +1,6 @@
 // The judgement of a strike: grids, range, spacing, and the ground or the refusal.
 #![tactic(auto)]
+
 pub mod amounts;
 pub mod bounds;
 pub mod grids;

@@ -1,5 +1,6 @@
 // Whether a run of words is a book, in nested loops over raw words; and a fresh book made of any run.
 #![tactic(auto)]
+
 ghost use Rattle.std.specs.Prelude.{◌≡◌, ◌↔◌, ◌≤◌, length, T};
 ghost use Rattle.word.specs.Limits.{last_month, longest_run};
 ghost use Rattle.word.specs.Head.{first_place};

@@ -1,6 +1,7 @@
 // The sheet program: reads a call sheet from standard input over a fresh book, and prints the reply to each line.
 // Standard input comes in pieces, and a line may span pieces and have any length.
 #![tactic(auto)]
+
 ghost use Rattle.std.specs.Prelude.{◌≡◌, ◌≤◌, T, length};
 ghost use Rattle.book.specs.Facts.{fresh};
 ghost use Rattle.book.specs.Layout.{layout};

@@ -125,9 +125,9 @@ module _
         let said : answers_over w (length v₀) (calls_in (drop from sheet)) ≡ r.answer ∷ later =
         ap (answers_over w (length v₀)) calls
         ∙ subst
-          (λ (n : ℕ). answers_over w n (call_in (line_at sheet from) ∷ rest) ≡ r.answer ∷ answers_over w' n rest)
-          i.room
-          (made.answers rest) in
+        (λ (n : ℕ). answers_over w n (call_in (line_at sheet from) ∷ rest) ≡ r.answer ∷ answers_over w' n rest)
+        i.room
+        (made.answers rest) in
         rw m.next_is
         (record {
           within = omega arith;

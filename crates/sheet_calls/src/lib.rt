@@ -1,4 +1,5 @@
 // The calls of a sheet, made line by line: of a whole sheet, or of one that comes in pieces.
 #![tactic(auto)]
+
 pub mod piece;
 pub mod sheet;

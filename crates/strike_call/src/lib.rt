@@ -3,6 +3,7 @@
 // which only read the run, take a slice of all of it first: that one stays in registers, where the lent one would be
 // copied in memory.
 #![tactic(auto)]
+
 ghost use Rattle.std.specs.Prelude.{◌&&◌, [], ◌≡◌, T, ltb, get_or};
 ghost use Rattle.word.specs.Kinds.{is_of_kind, strike_kind};
 ghost use Rattle.book.specs.Books.{is_book};

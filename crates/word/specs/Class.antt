@@ -1,7 +1,7 @@
 -- Document 01, "`O` adds a class with close, volume and designations 0", "`C`, `V` and `D` set their figures", and
 -- request #103, "`C` sets both to the close": what opening, a close, a low and a high, a volume and a designation make
 -- of a class record. Assumes nothing.
-use Rattle.std.specs.Prelude.{ℕ, ◌-◌, set, replicate, slice_index, slice_set}
+use Rattle.std.specs.Prelude.{ℕ, ◌-◌, replicate, slice_index, slice_set}
 use Rattle.word.specs.declared.class.ClassRecord.{ClassRecord}
 use Rattle.word.specs.Programs.{program_count}
 

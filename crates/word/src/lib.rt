@@ -1,6 +1,7 @@
 // The words of the strike book: fields by shifts and masks, the eight kinds of word, and the small values that the book
 // deals in.
 #![tactic(auto)]
+
 pub mod answer;
 pub mod caps;
 pub mod class;
