@@ -6,6 +6,7 @@ use native.Mathlib.Omega.{arith}
 use mathlib.Core.List.{List, [], ◌∷◌, ◌++◌}
 use lib.ListN.{length, length-append}
 use lib.Seq.{sets}
+use borrow.Author.Tests.{eq-eqb, ne_eqb}
 use Rattle.word.specs.declared.answer.Answer.{Answer}
 use Rattle.word.specs.declared.answer.Answer.TheVariants.{Done, Ground, Removed, Listed, Refused}
 use Rattle.word.specs.declared.answer.Refusal.{Refusal}
@@ -20,6 +21,15 @@ pub stores_after :
     (out₀ out last a b : List ℕ) (at next : ℕ) → next ≡ at + length a → out ≡ sets out₀ at a → last ≡ sets out next b
     → last ≡ sets out₀ at (a ++ b)
 stores_after out₀ out last a b at next place before then = then ∙ rw (before, place, sets_append)
+
+-- a value: none for 0
+pub no_value_text : (v : ℕ) → v ≡ 0 → spaced_numbers (value_or_none v) ≡ []
+unfolding spaced_numbers value_or_none
+no_value_text v h = simp (eq-eqb v 0 h)
+
+pub value_text : (v : ℕ) → (v ≡ 0 → ⊥) → spaced_numbers (value_or_none v) ≡ spaced_number v
+unfolding value_or_none
+value_text v h = simp (ne_eqb v 0 h) (one_number v)
 
 -- what comes after the number, by the answer
 module _ (strikes : List ℕ) {answer : Answer} where
@@ -58,3 +68,5 @@ length_whole answer strikes =
     let number : List ℕ = decimal (answer_number answer) in
     let rest : List ℕ = spaced_numbers (after_number answer strikes) in
     omega (arith, length-append number (rest ++ (line_feed ∷ [])), length-append rest (line_feed ∷ []))
+
+pub ruleset whole_laws = (length_whole, sets_append)

@@ -52,6 +52,8 @@ length_small v h = ap length (decimal_small v h)
 pub length_more : (v : ℕ) → base ≤ v → length (decimal v) ≡ length (decimal (v / base)) + 1
 length_more v h = ap length (decimal_more v h) ∙ simp length-append
 
+pub ruleset decimal_laws = (decimal_small, decimal_more, length_small, length_more)
+
 -- a number below 10 ^ (k + 1) has at most k + 1 digits
 pub length_decimal : (k v : ℕ) → v < base ^ suc k → length (decimal v) ≤ suc k
 length_decimal zero v h = le_of_eq (length_small v h)

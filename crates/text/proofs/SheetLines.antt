@@ -52,3 +52,5 @@ module _ (s : List ℕ) (i : ℕ) where
   pub end_none : length s ≤ i → line_end (drop i s) ≡ 0
   unfolding line_end
   end_none l = rw (drop_of_length-le s l)
+
+pub ruleset end_laws = (end_here, end_later, end_none)

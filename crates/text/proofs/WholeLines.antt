@@ -74,6 +74,8 @@ module _ (s : List ℕ) (i : ℕ) where
     unfolding digits_length grown_by
     grown_later v = rw (add-one, drop-cons s i 0 l, digit)
 
+pub ruleset digit_laws = (digits_here, digits_none, digits_later, grown_later)
+
 -- the line end comes after the digits
 digits_end : (s : List ℕ) → line_end s ≡ digits_length s + line_end (drop (digits_length s) s)
 unfolding digits_length line_end

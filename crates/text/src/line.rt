@@ -211,6 +211,7 @@ fn in_number(line: Line, byte: u8) -> Line
 }
 
 // The line with one byte more.
+#[tactic(auto, unfolding(crate::specs::Reading::feed_by))]
 pub fn feed(line: Line, byte: u8) -> Line
     ensures { result ≡ feed_of line byte }
 {
@@ -226,6 +227,7 @@ pub fn feed(line: Line, byte: u8) -> Line
 }
 
 // The line at its end.
+#[tactic(auto, unfolding(crate::specs::Reading::end_by))]
 pub fn end(line: Line) -> Line
     ensures { result ≡ end_of line }
 {
@@ -241,6 +243,7 @@ pub fn end(line: Line) -> Line
 }
 
 // The digits from `from` on go on with a number.
+#[tactic(auto, using(crate::proofs::WholeLines::digit_laws), unfolding(crate::specs::WholeLines::grown_by))]
 fn read_digits(sheet: &[u8], from: usize, first: u32) -> NumberRead
     requires { from ≤ length sheet.now }
     ensures { DigitsAt sheet.now from first result.value result.end }
@@ -259,6 +262,7 @@ fn read_digits(sheet: &[u8], from: usize, first: u32) -> NumberRead
 }
 
 // The number without leading zeros that begins at `from`. Where none does, it ends there.
+#[tactic(auto, unfolding(crate::specs::WholeLines::numeral_length, crate::specs::WholeLines::numeral_value))]
 fn read_number(sheet: &[u8], from: usize) -> NumberRead
     requires { from ≤ length sheet.now }
     ensures { NumeralAt sheet.now from result.value result.end }
@@ -286,6 +290,7 @@ fn read_number(sheet: &[u8], from: usize) -> NumberRead
 }
 
 // The index of the first line end from `from` on, or the length.
+#[tactic(auto, using(crate::proofs::SheetLines::end_laws))]
 fn line_end(sheet: &[u8], from: usize) -> usize
     requires { from ≤ length sheet.now }
     ensures { (result ≡ from + line_end (drop from sheet.now)) × (result ≤ length sheet.now) }

@@ -14,6 +14,7 @@ pub const STRIKE_ROOM: usize = 11;
 pub const ANSWER_ROOM: usize = 32;
 
 // The digits of a number, of any length.
+#[tactic(auto, using(crate::proofs::Decimals::decimal_laws, logic::proofs::Stores::sets_append))]
 fn put_digits(out: &mut [u8], at: usize, number: u32) -> usize
     requires { at + length (decimal number) ≤ length out.old }
     ensures value { result ≡ at + length (decimal number) }
@@ -29,6 +30,7 @@ fn put_digits(out: &mut [u8], at: usize, number: u32) -> usize
 }
 
 // The digits of a number. Most have one, and are put without a call.
+#[tactic(auto, using(crate::proofs::Decimals::decimal_laws))]
 pub fn put_decimal(out: &mut [u8], at: usize, number: u32) -> usize
     requires { at + length (decimal number) ≤ length out.old }
     ensures value { result ≡ at + length (decimal number) }
@@ -67,6 +69,7 @@ pub fn put_numbers(out: &mut [u8], at: usize, numbers: &[u32]) -> usize
 }
 
 // A space and a value, where it is not 0.
+#[tactic(auto, using(crate::proofs::AnswerTexts::no_value_text, crate::proofs::AnswerTexts::value_text))]
 fn put_value(out: &mut [u8], at: usize, value: u32) -> usize
     requires { at + length (spaced_numbers (value_or_none value)) ≤ length out.old }
     ensures value { result ≡ at + length (spaced_numbers (value_or_none value)) }
@@ -79,6 +82,7 @@ fn put_value(out: &mut [u8], at: usize, value: u32) -> usize
 }
 
 // What a line has after its number: any value, then the strikes.
+#[tactic(auto, unfolding(crate::specs::Printing::after_number, crate::specs::Printing::spaced_numbers))]
 fn put_values(out: &mut [u8], at: usize, answer: Answer, strikes: &[u32]) -> usize
     requires { at + length (spaced_numbers (after_number answer strikes.now)) ≤ length out.old }
     ensures value { result ≡ at + length (spaced_numbers (after_number answer strikes.now)) }
@@ -98,6 +102,7 @@ fn put_values(out: &mut [u8], at: usize, answer: Answer, strikes: &[u32]) -> usi
 }
 
 // The line that is printed for an answer.
+#[tactic(auto, using(crate::proofs::AnswerTexts::whole_laws), unfolding(crate::specs::Printing::answer_text))]
 pub fn put_answer(out: &mut [u8], at: usize, answer: Answer, strikes: &[u32]) -> usize
     requires { at + length (answer_text answer strikes.now) ≤ length out.old }
     ensures value { result ≡ at + length (answer_text answer strikes.now) }
