@@ -1,4 +1,4 @@
-//! Links libexport.a, liblists.a and libknown.a from STRIKEBOOK_LIB_DIR, or from where `rt staticlib` writes them.
+//! Links libexport.a, liblists.a and libknown.a from STRIKEBOOK_LIB_DIR, or from where `tools/build` writes them.
 
 fn main() {
     let default = concat!(env!("CARGO_MANIFEST_DIR"), "/../../target/staticlib");

@@ -7,7 +7,7 @@ use calls::{pieces, Random, StrikeBook};
 use second::{sheet_program, PlainBook};
 use std::path::{Path, PathBuf};
 
-/// Where `rt check` and `rt ci` leave the program.
+/// Where `tools/build` leaves the program.
 const PROGRAM: &str = concat!(env!("CARGO_MANIFEST_DIR"), "/../../target/bin/sheet");
 
 /// A file beside this program.
