@@ -1,0 +1,10 @@
+-- `others_few` tells the others: the bits so far are those of the words passed.
+use Rattle.std.proofs.Common.{◌+◌, ◌-◌, ◌≤◌, ◌≡◌, length}
+use Rattle.scan.proofs.OtherBits.{bits_at}
+use Rattle.scan.proofs.ahead.others_few.Given as goal
+
+abbrev pub invariant-loop-i : goal.invariant-loop-i
+invariant-loop-i l = (l.i + 1 ≤ length l.s) × (l.bits ≡ bits_at l.s 1 l.i)
+
+abbrev pub decreases-loop-i : goal.decreases-loop-i
+decreases-loop-i l = length l.s - l.i

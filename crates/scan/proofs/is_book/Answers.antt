@@ -1,0 +1,39 @@
+-- `is_book` tests what a book is: each return is one law of the parts of a book.
+use Rattle.std.proofs.Common.{◌≡◌, ◌↔◌, T, not, ◌&&◌, ◌∙◌, sym, ap}
+use Rattle.word.specs.Head.{month_in}
+use Rattle.logic.proofs.Tests.{true_T}
+use Rattle.scan.specs.Stretches.{AllClasses, are_counted}
+use Rattle.scan.proofs.BookParts.{words_used, wrong_length, wrong_head, wrong_classes, counts_left}
+use Rattle.scan.proofs.is_book.Goals as goal
+use Rattle.scan.proofs.is_book.Goals.{After-are_classes}
+
+-- the classes are tested as the head says
+classes :
+    (c : After-are_classes)
+    → T c.are_classes.result ↔ AllClasses (month_in c.args.run.now) (words_used c.args.run.now)
+classes c = rw (← c.month.ensures, ← c.used-used.ensures) c.are_classes.ensures
+
+pub returns-then-not-is_length : goal.returns-then-not-is_length
+returns-then-not-is_length c = wrong_length c.args.run.now (sym c.is_length.ensures ∙ c.if-not-is_length.true)
+
+pub returns-then-not-is_head : goal.returns-then-not-is_head
+returns-then-not-is_head c =
+    wrong_head c.args.run.now (ap not (sym c.is_head.ensures ∙ c.if-not-is_head.true))
+
+pub returns-then-not-are_classes : goal.returns-then-not-are_classes
+returns-then-not-are_classes c =
+    wrong_classes c.args.run.now
+    (λ r.
+    rw c.if-not-are_classes.true
+    at ((classes (goal.at.returns-then-not-are_classes c).After-are_classes).1 r))
+
+pub returns : goal.returns
+returns c =
+    let strikes : c.are_counted.result ≡ are_counted (words_used c.args.run.now) =
+    rw (← c.used-used.ensures) c.are_counted.ensures in
+    let past = rw c.used-used.ensures at c.are_zero.ensures in
+    (λ i. strikes i && past i)
+    ∙ counts_left c.args.run.now (sym c.is_length.ensures ∙ c.if-not-is_length.false)
+    (ap not (sym c.is_head.ensures ∙ c.if-not-is_head.false))
+    ((classes (goal.at.returns c).After-are_classes).0
+    (true_T c.are_classes.result c.if-not-are_classes.false))
