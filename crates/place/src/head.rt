@@ -1,4 +1,6 @@
 // What the head of a book says.
+#![tactic(auto, using(crate::proofs::Heads::book_long, crate::proofs::Heads::head_says))]
+
 ghost use Rattle.std.specs.Prelude.{◌≡◌, T};
 ghost use Rattle.book.specs.Layout.{facts_of, used};
 ghost use Rattle.book.specs.Books.{is_book};

@@ -1,4 +1,6 @@
 // Where a class, an expiration and a strike stand in a book, or would stand.
+#![tactic(auto, using(crate::proofs::Heads::book_room))]
+
 ghost use Rattle.std.specs.Prelude.{◌≡◌, ◌&&◌, ◌+◌, ◌-◌, ◌<◌, ◌≤◌, T, eqb, ltb, drop, get_or, take};
 ghost use Rattle.word.specs.Limits.{is_class_number, is_strike};
 ghost use Rattle.word.specs.Kinds.{class_kind, expiration_kind, strike_kind};

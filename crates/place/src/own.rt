@@ -12,6 +12,7 @@ use word::counter::Counts;
 use word::programs::{DOLLAR, HALF, TWO_FIFTY};
 
 // What the counter of the program p says.
+#[tactic(auto, using(crate::proofs::Heads::book_long, book::proofs::Recounted::book_counts))]
 pub fn counts_of(run: &[u32], p: u32) -> Counts
     requires { T (is_book run.now) × T (is_program p) }
     ensures { result ≡ counts_of p (facts_of run.now) }
