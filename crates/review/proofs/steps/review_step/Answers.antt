@@ -1,0 +1,44 @@
+-- `review_step` takes one step: by the law of a step inside an expiration or at its lowest strike, from what its
+-- callees ensure. Assumes nothing.
+use Rattle.std.proofs.Common.{sym, arith}
+use Rattle.std.proofs.Math.Seq.{length-take-le}
+use Rattle.review.proofs.StepTaken.{one_or_none}
+use Rattle.review.proofs.StepsCounted.{step_within, stepped_inside, stepped_lowest}
+use Rattle.review.proofs.steps.review_step.Goals as goal
+
+pub overflow_sub-at : goal.overflow_sub-at
+overflow_sub-at c = omega (arith, step_within c.requires)
+
+pub offset_bounds-words-at : goal.offset_bounds-words-at
+offset_bounds-words-at c = omega (arith, step_within c.requires)
+
+pub bounds-words-at : goal.bounds-words-at
+bounds-words-at c = omega (arith, step_within c.requires)
+
+pub lift-written-requires : goal.lift-written-requires
+lift-written-requires c = omega (arith, step_within c.requires)
+
+pub overflow_sub-start : goal.overflow_sub-start
+overflow_sub-start c = omega (arith, step_within c.requires)
+
+pub lift-all-requires : goal.lift-all-requires
+lift-all-requires c = omega (arith, step_within c.requires, one_or_none c.does_stay-stays.result)
+
+pub slice_bounds-last_strikes-end : goal.slice_bounds-last_strikes-end
+slice_bounds-last_strikes-end c = omega (arith, step_within c.requires)
+
+pub slice_bounds-last_strikes-end-then-at-last : goal.slice_bounds-last_strikes-end-then-at-last
+slice_bounds-last_strikes-end-then-at-last c = sym (length-take-le _ _ (omega (arith, step_within c.requires)))
+
+pub counted-requires : goal.counted-requires
+counted-requires c = omega (arith, step_within c.requires)
+
+pub returns-then-at-last : goal.returns-then-at-last
+returns-then-at-last c = λ x.
+    stepped_lowest x _ c.does_stay-stays.ensures _ c.lift-written.ensures.0 _ c.lift-written.ensures.1
+    c.if-at-last.true _ c.lift-all.ensures.0 _ c.lift-all.ensures.1 _ c.last_strikes-next.ensures _ c.counted.ensures
+
+pub returns : goal.returns
+returns c = λ x.
+    stepped_inside x _ c.does_stay-stays.ensures _ c.lift-written.ensures.0 _ c.lift-written.ensures.1
+    c.if-at-last.false
