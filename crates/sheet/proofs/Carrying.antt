@@ -3,9 +3,10 @@
 use Prim.Native.Nat.{ℕ, ◌+◌, ◌-◌, ◌≤◌, ◌<◌, zero-le}
 use mathlib.Core.Path.{◌≡◌, refl, sym, ap, subst, ◌∙◌}
 use mathlib.Core.Bool.{true, false}
-use mathlib.Core.List.{List, [], ◌++◌}
+use mathlib.Core.List.{List, [], ◌∷◌, ◌++◌, append_assoc, append-nil}
+use mathlib.Core.Logic.{⊎_elim}
 use native.Mathlib.Omega.{arith}
-use lib.Dec.{T}
+use lib.Dec.{T, eqb}
 use lib.ListN.{length, take, drop, length-drop}
 use lib.Seq.{take_all, take-add}
 use Rattle.word.specs.Limits.{is_length}
@@ -13,18 +14,24 @@ use Rattle.book.specs.Facts.{fresh}
 use Rattle.book.specs.Layout.{layout, facts_of}
 use Rattle.book.specs.Books.{is_book}
 use Rattle.book.proofs.Layouts.{facts_of_layout, book_layout, book_facts, fresh_well_formed}
-use Rattle.text.specs.declared.line.Phase.TheVariants.{Start}
+use Rattle.logic.proofs.Tests.{bool_cases}
+use Rattle.text.specs.Alphabet.{line_feed}
+use Rattle.text.specs.declared.line.Phase.{Phase}
+use Rattle.text.specs.declared.line.Phase.TheVariants.{Start, Letter, Space, Zero, Number, Malformed}
 use Rattle.text.specs.declared.line.Line.{Line}
 use Rattle.sheet_calls.specs.declared.piece.PieceProgress.{PieceProgress}
 use Rattle.text.specs.Reading.{empty_line, end_of}
 use Rattle.sheet_calls.specs.LineCalls.{call_held}
 use Rattle.sheet_calls.specs.Sheets.{calls_in}
-use Rattle.sheet_calls.specs.Pieces.{Reader, call_made, bytes_read, has_begun, last_ended, calls_made, Ended, Holds, begun, Pieced}
+use Rattle.sheet_calls.specs.Pieces.{Reader, call_made, byte_read, bytes_read, has_begun, last_ended, calls_made}
+use Rattle.sheet_calls.specs.Pieces.{Ended, Holds, begun, Pieced}
 use Rattle.text.specs.Printing.{line_room}
-use Rattle.sheet_calls.proofs.Readers.{unprinted, bytes_append, bytes_unprinted, last_unprinted, taken_within, taken_some}
+use Rattle.sheet_calls.proofs.Readers.{unprinted, bytes_append, bytes_unprinted, last_unprinted}
+use Rattle.sheet_calls.proofs.Readers.{taken_within, taken_some}
 use Rattle.sheet_calls.proofs.Pieces.{sheet_read}
 use Rattle.sheet.specs.declared.Turn.{Turn}
-use Rattle.sheet.specs.InputRead.{book_length, Left, Carried, AfterBytes, TurnTaken, AllRead, SheetRead}
+use Rattle.sheet.specs.InputRead.{book_length, Left, Carried, AfterBytes, FrontRead, TurnTaken}
+use Rattle.sheet.specs.InputRead.{AllRead, SomeRead, SheetRead}
 
 -- ---- a fresh book of the program's length
 
@@ -68,6 +75,12 @@ carried_start w v line book =
       left = record { words = sym (book_facts w book).1; second = refl };
       line_is = refl;
     }
+
+-- where a read fails
+pub none_read : {w v s : List ℕ} {line : Line} → T (is_book w) → FrontRead w v line s w v
+unfolding bytes_read
+none_read {w} {v} {line = line} book =
+    record { read = 0; within = zero-le; next = line; carried = carried_start w v line book }
 
 -- bytes more
 carried_more :
@@ -150,6 +163,10 @@ module _
     pub reading_done : length piece ≤ from → AfterBytes w v line₀ piece run second line
     reading_done h = rw (take_all from piece h) at g.carried
 
+    -- where a write fails
+    pub reading_cut : FrontRead w v line₀ piece run second
+    reading_cut = record { read = from; within = g.within; next = line; carried = g.carried }
+
 -- ---- the turns
 
 pub record Turning (w v input₀ out₀ : List ℕ) (line : Line) (run second input out : List ℕ) : Type 0 where
@@ -177,17 +194,25 @@ module _
     {run second input out : List ℕ}
     (g : Turning w v input₀ out₀ line run second input out)
   where
+    read_on :
+        {run' second' : List ℕ} {next : Line} (s : List ℕ) → AfterBytes run second line s run' second' next
+        → AllRead w v next run' second'
+    read_on s after =
+        record {
+          bytes = g.all.bytes ++ s;
+          carried =
+              rw (bytes_append (length w) (length v) (begun w v empty_line) g.all.bytes s)
+              (carried_more s g.all.carried g.size g.room after);
+        }
+
     pub all_more :
         {run' second' input' : List ℕ} {r : Turn} → TurnTaken run second line r run' second' input'
         → AllRead w v r.line run' second'
-    all_more {input' = input'} {r = r} turn =
-        let more = take r.count input' in
-        record {
-          bytes = g.all.bytes ++ more;
-          carried =
-              rw (bytes_append (length w) (length v) (begun w v empty_line) g.all.bytes more)
-              (carried_more more g.all.carried g.size g.room turn.carried);
-        }
+    all_more {input' = input'} {r = r} turn = read_on (take r.count input') turn.carried
+
+    -- where a turn fails
+    pub some_more : {run' second' s : List ℕ} → FrontRead run second line s run' second' → SomeRead w v run' second'
+    some_more {s = s} cut = record { line = cut.next; all = read_on (take cut.read s) cut.carried }
 
     pub turning_more :
         {run' second' input' out' : List ℕ} {r : Turn} → TurnTaken run second line r run' second' input'
@@ -220,7 +245,90 @@ pub last_made : {w v out w' v' out' : List ℕ} {at r : ℕ} (line : Line) → h
 unfolding last_ended call_made
 last_made line begins ended = rw begins (record { words = ended.words; second = ended.second })
 
+pub phase_begun : (p : Phase) → (p ≡ Start → ⊥) → has_begun p ≡ true
+unfolding has_begun
+phase_begun Start differs = absurd (differs refl)
+phase_begun Letter differs = refl
+phase_begun Space differs = refl
+phase_begun Zero differs = refl
+phase_begun Number differs = refl
+phase_begun Malformed differs = refl
+
+-- ---- the lines that have been read to their ends, wherever the input breaks off
+
+-- bytes that end with a line, and leave the book and the second run as those of r do
+record WholeLines (n m : ℕ) (start r : Reader) : Type 0 where
+  bytes : List ℕ
+  ended : (bytes_read n m start bytes).line ≡ empty_line
+  facts_are : (bytes_read n m start bytes).facts ≡ r.facts
+  second_is : (bytes_read n m start bytes).second ≡ r.second
+
+module _ (n m : ℕ) (start : Reader) where
+  whole_more : (s : List ℕ) (b : ℕ) → WholeLines n m start (bytes_read n m start s)
+      → WholeLines n m start (bytes_read n m start (s ++ b ∷ []))
+  unfolding bytes_read byte_read call_made
+  whole_more s b h =
+      let more = bytes_append n m start s (b ∷ []) in
+      ⊎_elim
+      (λ (e : eqb b line_feed ≡ true).
+      record { bytes = s ++ b ∷ []; ended = rw (more, e) refl; facts_are = refl; second_is = refl })
+      (λ (e : eqb b line_feed ≡ false).
+      record {
+        bytes = h.bytes;
+        ended = h.ended;
+        facts_are = rw (more, e) h.facts_are;
+        second_is = rw (more, e) h.second_is;
+      })
+      (bool_cases (eqb b line_feed))
+
+  whole_on : (s t : List ℕ) → WholeLines n m start (bytes_read n m start s)
+      → WholeLines n m start (bytes_read n m start (s ++ t))
+  whole_on s [] h = rw append-nil h
+  whole_on s (b ∷ t) h =
+      let same : (s ++ b ∷ []) ++ t ≡ s ++ (b ∷ t) = append_assoc s (b ∷ []) t in
+      rw (← same) (whole_on (s ++ b ∷ []) t (whole_more s b h))
+
+  whole_lines : (s : List ℕ) → start.line ≡ empty_line → WholeLines n m start (bytes_read n m start s)
+  unfolding bytes_read
+  whole_lines s e = whole_on [] s (record { bytes = []; ended = e; facts_are = refl; second_is = refl })
+
 -- ---- the whole sheet
+
+-- a book of the words w that was fresh, and what is left after the bytes s
+sheet_made :
+    {w v w₁ w' v' : List ℕ} (s : List ℕ) → book_length ≡ length w → w₁ ≡ layout (length w) fresh
+    → Left (length w)
+    (last_ended (length w) (length v) (bytes_read (length w) (length v) (begun w₁ v empty_line) s)) w' v'
+    → SheetRead w v w' v'
+sheet_made {w} {v} {w₁} {w'} {v'} s e is left =
+    let n = length w in
+    let m = length v in
+    let start = begun w₁ v empty_line in
+    let calls = sheet_read n m s start refl in
+    let facts : facts_of w₁ ≡ fresh = ap facts_of is ∙ facts_of_layout n fresh (fresh_well_formed n (good_length e)) in
+    let done : Left n (calls_made n m (calls_in s) start) w' v' = rw calls at left in
+    record { bytes = s; words = rw facts at done.words; second = rw facts at done.second }
+
+-- where the input breaks off: the calls of its whole lines have been made
+pub sheet_cut :
+    {w v w₁ w₂ v₂ : List ℕ} → book_length ≡ length w → w₁ ≡ layout (length w) fresh → length w₁ ≡ length w
+    → SomeRead w₁ v w₂ v₂ → SheetRead w v w₂ v₂
+unfolding last_ended has_begun
+sheet_cut {w} {v} {w₁} {w₂} {v₂} e is long some =
+    let n = length w in
+    let m = length v in
+    let start = begun w₁ v empty_line in
+    let now = bytes_read n m start some.all.bytes in
+    let carried : Carried n now w₂ v₂ some.line = rw long at some.all.carried in
+    let whole = whole_lines n m start some.all.bytes refl in
+    let held = bytes_read n m start whole.bytes in
+    let left : Left n held w₂ v₂ =
+    record {
+      words = carried.left.words ∙ ap (layout n) (sym whole.facts_are);
+      second = carried.left.second ∙ sym whole.second_is;
+    } in
+    let none : has_begun held.line.phase ≡ false = rw whole.ended refl in
+    sheet_made whole.bytes e is (rw none left)
 
 pub sheet_left :
     {w v w₁ w₂ v₂ w₃ v₃ : List ℕ} {line : Line} → book_length ≡ length w → w₁ ≡ layout (length w) fresh
@@ -235,7 +343,4 @@ sheet_left {w} {v} {w₁} {w₂} {v₂} {w₃} {v₃} {line} e is long all size 
     let carried : Carried n now w₂ v₂ line = rw long at all.carried in
     let made : Left n (last_ended n m now) w₃ v₃ =
     left_same (last_unprinted n m (begun w₂ v₂ line) now (begun_same carried)) ended in
-    let calls = sheet_read n m all.bytes start refl in
-    let facts : facts_of w₁ ≡ fresh = ap facts_of is ∙ facts_of_layout n fresh (fresh_well_formed n (good_length e)) in
-    let done : Left n (calls_made n m (calls_in all.bytes) start) w₃ v₃ = rw calls at made in
-    record { bytes = all.bytes; words = rw facts at done.words; second = rw facts at done.second }
+    sheet_made all.bytes e is made

@@ -33,6 +33,13 @@ abbrev pub AfterBytes : List ℕ → List ℕ → Line → List ℕ → List ℕ
 AfterBytes w v line s w' v' line' =
     Carried (length w) (bytes_read (length w) (length v) (begun w v line) s) w' v' line'
 
+-- bytes at the front of s are read, and no more, and some line has not ended: what a read or a write that fails leaves
+pub record FrontRead (w v : List ℕ) (line : Line) (s w' v' : List ℕ) : Type 0 where
+  pub read : ℕ
+  pub within : read ≤ length s
+  pub next : Line
+  pub carried : AfterBytes w v line (take read s) w' v' next
+
 -- one turn: the bytes that were read stand at the front of the input
 pub record TurnTaken (w v : List ℕ) (line : Line) (r : Turn) (w' v' input : List ℕ) : Type 0 where
   pub within : r.count ≤ length input
@@ -42,6 +49,11 @@ pub record TurnTaken (w v : List ℕ) (line : Line) (r : Turn) (w' v' input : Li
 pub record AllRead (w v : List ℕ) (r : Line) (w' v' : List ℕ) : Type 0 where
   pub bytes : List ℕ
   pub carried : AfterBytes w v empty_line bytes w' v' r
+
+-- some turns, the last of which failed: the bytes that were read, and some line that has not ended
+pub record SomeRead (w v w' v' : List ℕ) : Type 0 where
+  pub line : Line
+  pub all : AllRead w v line w' v'
 
 -- a whole sheet over words w that are made a fresh book, with the second run v, and the bytes that were read
 pub record SheetRead (w v w' v' : List ℕ) : Type 0 where

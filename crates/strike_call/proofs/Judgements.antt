@@ -2,12 +2,12 @@
 -- next to the strike's place stand for all that stand. Assumes nothing.
 use Prim.Native.Nat.{ℕ, ◌+◌, ◌-◌, ◌≤◌}
 use mathlib.Core.Path.{◌≡◌, sym, ap, ◌∙◌}
-use mathlib.Core.Bool.{Bool, true, false, cond, ◌&&◌}
+use mathlib.Core.Bool.{Bool, true, false, cond, not, ◌&&◌}
 use mathlib.Core.List.{List, map}
 use native.Mathlib.Omega.{arith}
-use lib.Dec.{leb→le}
+use lib.Dec.{T, leb→le}
 use lib.ListN.{length, take, drop}
-use Rattle.word.specs.Limits.{highest_strike}
+use Rattle.word.specs.Limits.{highest_strike, is_month, is_strike}
 use Rattle.word.specs.declared.class.ClassRecord.{ClassRecord}
 use Rattle.word.proofs.RangeTests.{Ordered}
 use Rattle.word.specs.declared.answer.Answer.{Answer}
@@ -19,11 +19,14 @@ use Rattle.rule.specs.Spacing.{standing_of}
 use Rattle.rule.specs.Judgement.{judgement}
 use Rattle.book.specs.Layout.{used, facts_of}
 use Rattle.book.specs.Views.{View, view_of, is_not_open, is_standing, setting, standing_in}
-use Rattle.book.specs.Places.{strike_place}
-use Rattle.logic.proofs.Tests.{ands}
+use Rattle.book.specs.Books.{is_book}
+use Rattle.book.specs.Calls.{is_place}
+use Rattle.book.specs.Places.{ClassBegins, strike_place}
+use Rattle.logic.proofs.Tests.{ands, passed}
 use Rattle.book.proofs.Permits.{judged_answer}
 use Rattle.book.proofs.Runs.{strike_within}
 use Rattle.place.specs.declared.lookup.StrikeSearch.{StrikeSearch}
+use Rattle.place.specs.Lookups.{strike_search_of}
 use Rattle.word.specs.Figures.{figures_at, figures_length}
 use Rattle.place.proofs.Heads.{book_good, book_room}
 use Rattle.place.proofs.Found.{begins_room}
@@ -100,3 +103,15 @@ module _ {w : List ℕ} {at : ℕ} {r : StrikeSearch} {m h : ℕ} (x : Sought w 
               (first ∙ ap (λ (b : Bool). cond {A = ℕ} (b && is_strike_at w (r.at - 1)) (r.at - 1) r.at) has) last
               ∙ ap (λ (t : Setting). judgement t (standing_in seen m) h) is_here
               ∙ sym (judged_answer m seen h ∙ rw (opened, outside ∙ t, standing_is ∙ s, known))
+
+-- what the limits say of the month and the strike
+pub place_limits : (c m h : ℕ) → not (is_place c m h) ≡ false → T (is_month m) × T (is_strike h)
+place_limits c m h l = let numbers = passed (is_place c m h) l in (search ands, search ands)
+
+-- a strike within its limits that was looked up in a class can be judged
+abbrev pub sought :
+    {w : List ℕ} {at : ℕ} {r : StrikeSearch} (c m h : ℕ) → T (is_book w) → not (is_place c m h) ≡ false
+    → (x : ClassBegins (facts_of w) at) → r ≡ strike_search_of x.number m h (facts_of w) → Sought w at r m h
+sought c m h book l x place =
+    let numbers = place_limits c m h l in
+    record { book = book; month = numbers.0; strike = numbers.1; begins = x; place = place }

@@ -31,7 +31,9 @@ use Rattle.book.proofs.Layouts.{book_facts, used_taken}
 use Rattle.book.proofs.Order.{granted_answer, first_accepted, first_append}
 use Rattle.book.proofs.Splices.{words_listed}
 use Rattle.book.proofs.Answered.{made_refused, made_accepted}
-use Rattle.strike_call.specs.Judging.{judged}
+use Rattle.place.specs.declared.lookup.StrikeSearch.{StrikeSearch}
+use Rattle.edit.specs.EditsAsked.{Insertable}
+use Rattle.strike_call.specs.Judging.{Sought, judged}
 
 -- an answer by whose tag it is no ground
 pub no_ground : (r : Answer) → OneOf (0 ∷ 2 ∷ 3 ∷ 4 ∷ []) (tag_of the_type r) → (g : ℕ) → r ≡ Ground g → ⊥
@@ -71,6 +73,25 @@ module _ (m h : ℕ) (v : View) where
           absurd
           (none (ground_of v m h) (granted_answer (Ground (ground_of v m h)) (judging m h v) (accepts ∙ e)))
       go false e = refl
+
+-- a strike that was looked up and is permitted can be put at its place, where words are left for it
+abbrev pub insertable :
+    {w : List ℕ} {at : ℕ} {r : StrikeSearch} {m h g : ℕ} (x : Sought w at r m h)
+    → Permits m h (view_of x.begins.number (facts_of w)) g
+    → used (facts_of w) + cond {A = ℕ} r.expiration 1 2 ≤ length w → Insertable w r.at r.expiration m h g
+insertable x p room =
+    record {
+      book = x.book;
+      month = x.month;
+      strike = x.strike;
+      on = p.known;
+      class = x.begins.number;
+      is_open = x.begins.is_open;
+      absent = p.absent;
+      place = ap (λ (y : StrikeSearch). y.at) x.place;
+      expiration = ap (λ (y : StrikeSearch). y.expiration) x.place;
+      room = room;
+    }
 
 module _ (w : List ℕ) (book : T (is_book w)) (c m h : ℕ) (l : not (is_place c m h) ≡ false) where
   abbrev seen : View

@@ -2,7 +2,7 @@
 -- in their order, the words by what the inner function leaves. Assumes nothing.
 use Prim.Native.Nat.{ℕ, ◌+◌, ◌-◌, ◌≤◌, ◌<◌}
 use mathlib.Core.Path.{◌≡◌, refl, sym, ap, ◌∙◌}
-use mathlib.Core.Bool.{true, false, not, ◌&&◌}
+use mathlib.Core.Bool.{Bool, true, false, not, ◌&&◌}
 use mathlib.Core.List.{List, []}
 use native.Mathlib.Omega.{arith}
 use lib.Dec.{T, eqb}
@@ -17,7 +17,7 @@ use Rattle.book.specs.Books.{is_book}
 use Rattle.book.specs.Views.{View, view_of, class, is_not_open, is_standing, has_open_interest}
 use Rattle.book.specs.Changes.{update, strike_removed, marks_set}
 use Rattle.book.specs.Calls.{on, call_x, call_i, is_place, effect_on, answer_to}
-use Rattle.book.specs.Places.{strikes_place, strikes_end, strike_place}
+use Rattle.book.specs.Places.{StrikeStands, strikes_place, strikes_end, strike_place}
 use Rattle.book.specs.Made.{Made}
 use Rattle.logic.proofs.Tests.{passed}
 use Rattle.book.proofs.Layouts.{book_facts}
@@ -25,6 +25,7 @@ use Rattle.book.proofs.Runs.{strike_stands, standing_within, interest_says, used
 use Rattle.book.proofs.Answered.{made_refused, made_accepted}
 use Rattle.place.specs.declared.lookup.StrikeSearch.{StrikeSearch}
 use Rattle.place.specs.Lookups.{strike_search_of}
+use Rattle.removal.specs.RemovalsAsked.{Delistable}
 use Rattle.strike_call.proofs.Beside.{is_strike_at, strike_alone}
 use Rattle.strike_call.proofs.Settings.{class_open}
 
@@ -68,6 +69,25 @@ module _
         (not (is_strike_at w (r.at - 1)) && not (is_strike_at w (r.at + 1)))
         ≡ eqb (strikes_end c m (facts_of w)) (strikes_place c m (facts_of w) + 1)
     found_alone = strike_alone w book c m o r.at place_inside.0 place_inside.1
+
+    abbrev pub stands : StrikeStands (facts_of w) r.at
+    stands =
+        record { class = c; month = m; strike = h; is_open = o; standing = strike_standing; place = found_place }
+
+    abbrev pub delistable :
+        (alone : Bool) → alone ≡ (not (is_strike_at w (r.at - 1)) && not (is_strike_at w (r.at + 1)))
+        → Delistable w r.at alone
+    delistable alone beside =
+        record {
+          book = book;
+          class = c;
+          month = m;
+          strike = h;
+          is_open = o;
+          standing = strike_standing;
+          place = found_place;
+          last = beside ∙ found_alone;
+        }
 
     -- what the word of the strike says
     interest : is_marked_in (get_or w r.at 0) ≡ has_open_interest seen m h
