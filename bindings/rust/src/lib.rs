@@ -31,11 +31,11 @@
 //! them there, by what is proved of the library and by Rust's borrows:
 //!
 //! - [`Book::fresh`] makes a book. Where it accepts it leaves the layout of the fresh facts (the contract of
-//!   `scan::fresh`, `Begun`), which is a book (`fresh-well-formed` and `book-layout` of book `Layouts`).
-//! - [`Book::open`] takes a book: `scan::is_book` answers exactly what the definition `isBook` says.
+//!   `scan::fresh`, `Begun`), which is a book (`fresh_well_formed` and `book_layout` of book `Layouts`).
+//! - [`Book::open`] takes a book: `scan::is_book` answers exactly what the definition `is_book` says.
 //! - A call on a book leaves a book of as many words. Each call is `Made`, which is its contract, and a run
-//!   that is a book is one after a call that is `Made` (`made-book` of book `Followed`). A sheet leaves the
-//!   layout of the facts after all its calls (`SheetRun`), which is a book too (`steps-keep` of book `Keep`).
+//!   that is a book is one after a call that is `Made` (`made_book` of book `Followed`). A sheet leaves the
+//!   layout of the facts after all its calls (`SheetRun`), which is a book too (`steps_keep` of book `Keep`).
 //! - Nobody else writes the words. A `Book` has the only mutable borrow of them from when it is made on, and
 //!   lends them for reading alone ([`Book::words`]). No code outside of the module that makes these calls can
 //!   reach its borrow, or make a `Book` of other words.

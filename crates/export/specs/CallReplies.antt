@@ -1,5 +1,6 @@
 -- Document 01, clause a, for callers in C: the number and the value of the reply are those of the answer that the
--- contract of the call gives, with every word of both runs. Assumes nothing.
+-- contract of the call gives, with every word of both runs; and request #104, the three numbers of a counter's reply.
+-- Assumes nothing.
 use Rattle.std.specs.Prelude.{ℕ, ◌≡◌, List}
 use Rattle.word.specs.declared.answer.Answer.{Answer}
 use Rattle.word.specs.Answers.{answer_number, answer_value}

@@ -54,7 +54,7 @@ records_fit (x ∷ xs) t =
 
 -- ---- any two lists
 
--- what `compare_lists` answers to their records, which `records-fit` lets a caller lend
+-- what `compare_lists` answers to their records, which `records_fit` lets a caller lend
 pub any_two_lists :
     {left right pool left' right' pool' : List ℕ} {r : Comparison} (xs ys : List LentCall)
     → are_lengths (length left) (length right) ≡ true

@@ -1,5 +1,5 @@
 -- Tests joined by `and` and `or`, tests that fail, the test of equal numbers and numbers in order: by cases on the
--- tests. That a test passes is said by `T`; `true-T` and its kin lead there from what the branches of code give.
+-- tests. That a test passes is said by `T`; `true_T` and its kin lead there from what the branches of code give.
 -- Assumes nothing.
 use Prim.Native.Nat.{ℕ, ◌+◌, ◌≤◌, ◌<◌, min, max}
 use mathlib.Core.Path.{◌≡◌, refl, sym, ap, ◌∙◌}

@@ -172,7 +172,7 @@ cases =
     -- "In a $1 class ground 4 grants no strike below $50 that isn't a multiple of $5."
     answers (both_near 4850) [] 95 (Refused OffGrid) ∷
     answers (both_near 4850) [] 105 (Ground 4) ∷
-    -- a close of $54: $52.50, and $62.50 but not $65 is ground 4's
+    -- a close of $54: $52.50 and $62.50 are ground 4's, and $67.50 is $13.50 away
     answers (two_fifty_near 5400) [] 105 (Ground 4) ∷
     answers (two_fifty_near 5400) [] 125 (Ground 4) ∷
     answers (two_fifty_near 5400) [] 135 (Refused OffGrid) ∷

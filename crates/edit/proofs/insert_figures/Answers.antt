@@ -17,6 +17,7 @@ pub returns : goal.returns
 returns c =
     let count = c.used-count in
     let month = c.current-month in
+    let words = map packed (figures_words c.args.figures []) in
     c.write.ensures
-    ∙ pushed_between c.args.run.now (map packed (figures_words c.args.figures [])) c.push_figures.new.s c.args.at count.result figures_length month.result
+    ∙ pushed_between c.args.run.now words c.push_figures.new.s c.args.at count.result figures_length month.result
     count.ensures month.ensures refl (omega arith) (omega arith) c.push_figures.ensures

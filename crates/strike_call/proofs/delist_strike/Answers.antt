@@ -59,7 +59,7 @@ pub offset_bounds-run-at : goal.offset_bounds-run-at
 offset_bounds-run-at c = omega (arith, within c, book_long c.args.run.now c.requires)
 
 pub bounds-run-at : goal.bounds-run-at
-bounds-run-at c = (within (goal.at.bounds-run-at c).Else-not-found).1
+bounds-run-at c = omega (arith, within (goal.at.bounds-run-at c).Else-not-found)
 
 pub returns-then-is_marked : goal.returns-then-is_marked
 returns-then-is_marked c =

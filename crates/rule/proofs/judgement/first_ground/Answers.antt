@@ -1,8 +1,7 @@
 -- `first_ground` meets its contract: whether a row passes is told by its grid and range and by the standing words
 -- (`row_at`). Assumes nothing.
-use Rattle.std.proofs.Common.{◌≡◌, ℕ, ◌<◌, Bool, true, false, ◌&&◌, List, [], map, length, get_or, sym, ap, ◌∙◌}
+use Rattle.std.proofs.Common.{◌≡◌, ℕ, ◌<◌, Bool, true, false, ◌&&◌, List, [], map, length, get_or, sym, ap, ap₂, ◌∙◌}
 use Rattle.std.proofs.Common.{arith, rules}
-use mathlib.Core.Path.{ap₂}
 use Rattle.logic.specs.Lists.{every}
 use Rattle.logic.proofs.Lists.{every_mapped}
 use Rattle.logic.proofs.Walks.{passed_here, passed_next, cleared_not, cleared_all}
