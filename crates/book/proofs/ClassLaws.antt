@@ -25,10 +25,11 @@ pub class_order : StrictOrder is_numbered is_below
 class_order = record {
   transitive = λ x y z a b. lt→ltb (number x) (number z) (omega (arith, below x y a, below y z b));
   total = λ x y. compare x y (trichotomy (number x) (number y));
-  apart = λ x y a. not_T (is_numbered x y || is_numbered y x) (λ e. elim (or_cases (is_numbered x y) (is_numbered y x) e) [
-    | inl b ↦ omega (arith, below x y a, eqb→eq (number y) (number x) b)
-    | inr b ↦ omega (arith, below x y a, eqb→eq (number x) (number y) b)
-  ]);
+  apart = λ x y a. not_T (is_numbered x y || is_numbered y x)
+      (λ e. elim (or_cases (is_numbered x y) (is_numbered y x) e) [
+        | inl b ↦ omega (arith, below x y a, eqb→eq (number y) (number x) b)
+        | inr b ↦ omega (arith, below x y a, eqb→eq (number x) (number y) b)
+      ]);
   reflexive = λ x. eqb_refl (number x);
 }
   where
@@ -99,7 +100,8 @@ sum_put size y (x ∷ xs) o = go (eqb (number x) (number y)) o (sum_put size y x
   where
     go :
         (b : Bool) → T (b || is_class_open (number y) xs)
-        → (T (is_class_open (number y) xs) → sum size (put_class y xs) + size (class_of (number y) xs) ≡ sum size xs + size y)
+        → (T (is_class_open (number y) xs)
+        → sum size (put_class y xs) + size (class_of (number y) xs) ≡ sum size xs + size y)
         → sum size (cond b (y ∷ xs) (x ∷ put_class y xs)) + size (cond b x (class_of (number y) xs))
         ≡ size x + sum size xs + size y
     go true u r = omega arith
@@ -125,7 +127,8 @@ class_of_map g same c new (x ∷ xs) =
 class_of_none : (c : ℕ) (xs : List OpenClass) → T (not (is_class_open c xs)) → class_of c xs ≡ new_class c
 class_of_none c [] t = refl
 class_of_none c (x ∷ xs) t =
-    rw (not-true (eqb (number x) c) (T_true (not (eqb (number x) c)) (nor_left (eqb (number x) c) (is_class_open c xs) t)))
+    rw (not-true (eqb (number x) c)
+    (T_true (not (eqb (number x) c)) (nor_left (eqb (number x) c) (is_class_open c xs) t)))
     (class_of_none c xs (nor_right (eqb (number x) c) (is_class_open c xs) t))
 
 class_of_front :
@@ -137,7 +140,8 @@ class_of_front d c xs t = go (eqb d c) refl
     go false e = refl
 
 pub class_of_inserted :
-    (d c : ℕ) (xs : List OpenClass) → T (not (is_class_open d xs)) → class_of c (insert_class (new_class d) xs) ≡ class_of c xs
+    (d c : ℕ) (xs : List OpenClass) → T (not (is_class_open d xs))
+    → class_of c (insert_class (new_class d) xs) ≡ class_of c xs
 class_of_inserted d c [] t = class_of_front d c [] t
 class_of_inserted d c (x ∷ xs) t =
     go (ltb d (number x)) (class_of_inserted d c xs (nor_right (eqb (number x) d) (is_class_open d xs) t))

@@ -35,7 +35,8 @@ classes_apart (x ∷ xs) ys rest =
 
 -- ---- an open class
 
-class_first : (c : ℕ) (xs ys : List OpenClass) (y : OpenClass) → only (is_equal number c) xs ≡ y ∷ ys → class_of c xs ≡ y
+class_first : (c : ℕ) (xs ys : List OpenClass) (y : OpenClass) → only (is_equal number c) xs ≡ y ∷ ys
+    → class_of c xs ≡ y
 class_first c [] ys y e = let z : ◌≡◌ {A = ℕ} 0 1 = cc in absurd (omega arith)
 class_first c (x ∷ xs) ys y e = go (eqb (number x) c) e (class_first c xs ys y)
   where

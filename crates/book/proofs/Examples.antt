@@ -167,7 +167,8 @@ classes_owned ours (suc n) c = class_designated c ours ∷ classes_owned ours n 
 cap_dollar :
     let owned : ℕ → Facts = λ n. record { now = 0; classes = classes_owned (1 ∷ 0 ∷ 0 ∷ []) n 1 } in
     numbers 4096 (on 150 (call_c 4999) ∷ on 150 (call_d 1 1) ∷ []) (owned 149)
-    ++ numbers 4096 (on 151 (call_c 4999) ∷ on 151 (call_d 1 1) ∷ on 3 (call_d 1 2) ∷ on 151 (call_d 1 1) ∷ []) (owned 150)
+    ++ numbers 4096 (on 151 (call_c 4999) ∷ on 151 (call_d 1 1) ∷ on 3 (call_d 1 2) ∷ on 151 (call_d 1 1) ∷ [])
+    (owned 150)
     ≡ 0 ∷ 0 ∷ 0 ∷ 10 ∷ 0 ∷ 0 ∷ []
 unfolding numbers class_designated classes_owned
 cap_dollar = refl
@@ -391,5 +392,6 @@ counted :
     ∷ ((1 ∷ 2 ∷ []) ∷ (1 ∷ 0 ∷ []) ∷ (1 ∷ 0 ∷ []) ∷ [])
     ∷ ((1 ∷ 3 ∷ []) ∷ (1 ∷ 0 ∷ []) ∷ (1 ∷ 1 ∷ []) ∷ [])
     ∷ []
-unfolding steps step answer_to effect_on month_set class_opened class_grown reviewed_count in_programs counts lowest among_five
+unfolding steps step answer_to effect_on month_set class_opened class_grown reviewed_count in_programs counts lowest
+    among_five
 counted = refl

@@ -67,10 +67,15 @@ set_designation p q d r program-p program-q good = go (eqb p q) refl
         omega (arith, low_p, leb→le p program_count (search ands), designations_length programs ds good)
 
     go : (b : Bool) → eqb p q ≡ b
-        → (get_or (set ds (p - 1) d) (q - 1) 0 ≡ get_or ds (q - 1) 0) ⊎ ((get_or (set ds (p - 1) d) (q - 1) 0 ≡ d) × (p ≡ q))
+        → (get_or (set ds (p - 1) d) (q - 1) 0 ≡ get_or ds (q - 1) 0)
+        ⊎ ((get_or (set ds (p - 1) d) (q - 1) 0 ≡ d) × (p ≡ q))
     go true e =
         let same : p ≡ q = eqb-true p q e in
-        inr (ap (λ (k : ℕ). get_or (set ds (p - 1) d) (k - 1) 0) (sym same) ∙ get_or-set_same ds (p - 1) d 0 within, same)
+        inr (
+          ap (λ (k : ℕ). get_or (set ds (p - 1) d) (k - 1) 0) (sym same)
+              ∙ get_or-set_same ds (p - 1) d 0 within,
+          same,
+        )
     go false e =
         inl (get_or-set_other ds (p - 1) (q - 1) d 0 (λ k. eqb-false p q e (omega (arith, low_p, low_q, k))))
 
@@ -103,7 +108,8 @@ close_alone p t = close_between p p p t t (rw (le-ltb p p (omega arith)) tt)
 -- ---- one class put in its place
 
 module _
-    (n : ℕ) (f : Facts) (c : ℕ) (w : Well n f) (k : T (is_class_number c)) (o : T (not (is_not_open (view_of c f)))) where
+    (n : ℕ) (f : Facts) (c : ℕ) (w : Well n f) (k : T (is_class_number c))
+    (o : T (not (is_not_open (view_of c f)))) where
   is_open : T (is_class_open c f.classes)
   is_open = not_not (is_class_open c f.classes) o
 
@@ -177,7 +183,8 @@ module _
       (fewer_words (map (marked_at m h a b) ss)
       (omega (arith, expirations_marked m h a b ss, length-map ss (marked_at m h a b))))
 
-  keep_close : (p : ℕ) → T (is_price p) → Well n (update (with_figures (with_close p (class f c).figures) (class f c)) f)
+  keep_close : (p : ℕ) → T (is_price p)
+      → Well n (update (with_figures (with_close p (class f c).figures) (class f c)) f)
   keep_close p t =
       let l = class_good n f c good is_open in
       let prices = close_alone p t in
@@ -202,7 +209,8 @@ module _
       (λ q k. cap_kept (with_figures (with_volume v (class f c).figures) (class f c)) class_number q k (omega arith))
 
   keep_designation :
-      (p d : ℕ) → T (is_program p) → T (is_designation d) → T (not (is_new p d (class f c).figures && is_cap_reached p f))
+      (p d : ℕ) → T (is_program p) → T (is_designation d)
+      → T (not (is_new p d (class f c).figures && is_cap_reached p f))
       → Well n (update (with_figures (with_designation p d (class f c).figures) (class f c)) f)
   keep_designation p d k t new =
       keep_figures (with_designation p d r) class_number figures (λ q j. cap q j (set_designation p q d r k j all))

@@ -83,7 +83,8 @@ series_words_append p (s ∷ ss) ws rest =
     (series_words_append (suc m) ss ws rest)
     ∙ expiration_append (eqb p (suc m)) m (strike_word s ∷ series_words (suc m) ss ws) rest
 
-pub classes_words_append : (xs : List OpenClass) (rest : List Word) → classes_words xs rest ≡ classes_words xs [] ++ rest
+pub classes_words_append : (xs : List OpenClass) (rest : List Word)
+    → classes_words xs rest ≡ classes_words xs [] ++ rest
 classes_words_append [] rest = refl
 classes_words_append (x ∷ xs) rest =
     ap (figures_words x.figures)
@@ -250,7 +251,8 @@ book_layout n f good =
     rw (long, facts_of_layout n f good) (and_intro (is_well_formed n f) (same_words ws ws) good (same_words_lem ws))
 
 pub book_facts :
-    (ws : List ℕ) → T (is_book ws) → T (is_well_formed (length ws) (facts_of ws)) × (layout (length ws) (facts_of ws) ≡ ws)
+    (ws : List ℕ) → T (is_book ws)
+    → T (is_well_formed (length ws) (facts_of ws)) × (layout (length ws) (facts_of ws) ≡ ws)
 unfolding is_book
 book_facts ws book = (search ands, words_equal (layout (length ws) (facts_of ws)) ws (search ands))
 

@@ -132,7 +132,8 @@ module _ {w w' : List ℕ} {r : Answer} (book : T (is_book w)) where
     judged_ground e = granted made e
 
   pub opened_room :
-      {c : ℕ} → Made (on c call_o) w [] r w' [] → answer_number r ≡ 15 → length w < words_taken (class_opened c (facts_of w))
+      {c : ℕ} → Made (on c call_o) w [] r w' [] → answer_number r ≡ 15
+      → length w < words_taken (class_opened c (facts_of w))
   unfolding effect_on
   opened_room {c} made e =
       ltb→lt (length w) (words_taken (class_opened c (facts_of w)))

@@ -72,7 +72,8 @@ module _ (n : ℕ) (f : Facts) where
 
 standing_words :
     (now : ℕ) (ss : List Series) → T (every (is_series now) ss)
-    → map standing_of (map packed (map strike_word ss)) ≡ map (λ s. record { strike = s.strike; on_ground = s.on_ground }) ss
+    → map standing_of (map packed (map strike_word ss))
+    ≡ map (λ s. record { strike = s.strike; on_ground = s.on_ground }) ss
 standing_words now [] t = refl
 standing_words now (s ∷ ss) t =
     let e =
@@ -138,7 +139,8 @@ module _ (n : ℕ) (f : Facts) (c m : ℕ) (w : T (is_well_formed n f)) (o : T (
       ≡ map packed (map strike_word (in_month m (class f c).series))
   strikes_part =
       let ss = in_month m (class f c).series in
-      run_part n f (strikes_place c m f) (strikes_end c m f) before_strikes (map strike_word ss) after_strikes around_strikes
+      run_part n f (strikes_place c m f) (strikes_end c m f) before_strikes
+      (map strike_word ss) after_strikes around_strikes
       (sym before_length) (omega (arith, before_length, length-map ss strike_word))
 
   pub strikes_good : T (every (is_series f.now) (in_month m (class f c).series))
@@ -226,7 +228,8 @@ module _ (n : ℕ) (f : Facts) (c m h : ℕ) (w : T (is_well_formed n f)) (o : T
           ++ (strike_word s ∷ (map strike_word higher_strikes ++ after_strikes n f c m w o))
       around =
           around_strikes n f c m w o
-          ∙ ap (λ (l : List Series). before_strikes n f c m w o ++ (map strike_word l ++ after_strikes n f c m w o)) parts
+          ∙ ap (λ (l : List Series). before_strikes n f c m w o
+          ++ (map strike_word l ++ after_strikes n f c m w o)) parts
           ∙ regroup (before_strikes n f c m w o) (after_strikes n f c m w o) lower_strikes higher_strikes
         where
           regroup :

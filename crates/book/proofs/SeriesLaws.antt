@@ -197,5 +197,6 @@ pub series_inserted :
 series_inserted now s ss a n t =
     let b : T (every (is_series now) (insert_series s ss)) =
     every_inserted precedes (is_series now) s ss a (search ands) in
-    let c : T (rises precedes (insert_series s ss)) = rises_inserted is_with precedes series_order s ss n (search ands) in
+    let c : T (rises precedes (insert_series s ss)) =
+    rises_inserted is_with precedes series_order s ss n (search ands) in
     and_intro (every (is_series now) (insert_series s ss)) (rises precedes (insert_series s ss)) b c

@@ -112,7 +112,8 @@ module _ (now m : ℕ) (ss : List Series) (t : T (are_series now ss)) where
       (every_kept (is_equal month_of m) ss) (every_kept (is_over month_of m) ss)
       ∙ ap
       (λ (b : Bool).
-      series_words 0 early [] ++ expiration_unless (not b) m (map strike_word (in_month m ss) ++ series_words 0 late rest))
+      series_words 0 early []
+      ++ expiration_unless (not b) m (map strike_word (in_month m ss) ++ series_words 0 late rest))
       (some_only (is_equal month_of m) ss)
 
 -- ---- the series on either side of a month and a strike
@@ -144,7 +145,8 @@ module _ (ss : List Series) (m h : ℕ) where
       → ((s : Series) → s.month ≡ m → s.strike < h → T (p s)) → T (every p (early ++ low))
   every_before p f g =
       every_append p early low
-      (every_imply (is_under month_of m) p (λ s l. f s (ltb→lt s.month m l)) early (every_kept (is_under month_of m) ss))
+      (every_imply (is_under month_of m) p (λ s l. f s (ltb→lt s.month m l)) early
+      (every_kept (is_under month_of m) ss))
       (every_only (is_equal month_of m) p (is_under strike_of h)
       (λ s l e. g s (eqb→eq s.month m e) (ltb→lt s.strike h l)) (in_month m ss)
       (every_kept (is_equal month_of m) ss))
@@ -221,7 +223,8 @@ module _ (ss : List Series) (m h : ℕ) where
 
       go :
           (b : Bool) → has ≡ b
-          → series_words 0 early [] ++ (Expiration m ∷ (map strike_word (low ++ (y ∷ high)) ++ series_words 0 late rest))
+          → series_words 0 early []
+          ++ (Expiration m ∷ (map strike_word (low ++ (y ∷ high)) ++ series_words 0 late rest))
           ≡ words_before b ++ (expiration_unless b m (strike_word y ∷ []) ++ words_after rest)
       go true q = simp (map-append, append_assoc)
       go false q =
@@ -387,7 +390,8 @@ module _ (ss : List Series) (m h : ℕ) where
     alone_says k s one =
         let count : others ≡ ltb 0 (length (low ++ high)) =
         some_all (is_equal month_of m) (low ++ high)
-        (every_append (is_equal month_of m) low high (in_month_lem (is_under strike_of h)) (in_month_lem (is_over strike_of h))) in
+        (every_append (is_equal month_of m) low high (in_month_lem (is_under strike_of h))
+        (in_month_lem (is_over strike_of h))) in
         let all : length (in_month m ss) ≡ length low + suc (length high) =
         ap length (strike_parts ∙ ap (λ (l : List Series). low ++ (l ++ high)) one) ∙ length-append low (s ∷ high) in
         go (ltb 0 (length (low ++ high))) refl all ∙ ap not (sym count)

@@ -229,7 +229,8 @@ module _ (n : ℕ) (f : Facts) (c : ℕ) (w : T (is_well_formed n f)) (o : T (is
     pub it : Series
     pub limits : T (is_series f.now it)
     pub spliced :
-        Spliced (strike_place c m h f - cond {A = ℕ} alone 1 0) (expiration_unless (not alone) m (strike_word it ∷ [])) []
+        Spliced (strike_place c m h f - cond {A = ℕ} alone 1 0)
+        (expiration_unless (not alone) m (strike_word it ∷ [])) []
         f
         (update (strike_removed m h (class f c)) f)
 

@@ -20,7 +20,8 @@ counts_of p f = record { own = owned p f.classes; strikes = strikes_on p f.class
 -- of the program p over any words w: "1 the run is no book", "2 a number beyond its limits"
 abbrev pub counter_read : ℕ → List ℕ → CounterAnswer
 counter_read p w =
-    cond (is_book w) (cond (is_program p) (Counted (counts_of p (facts_of w))) (Refused BeyondLimits)) (Refused NotABook)
+    cond (is_book w) (cond (is_program p) (Counted (counts_of p (facts_of w))) (Refused BeyondLimits))
+    (Refused NotABook)
 
 -- what stands there, whether it is true or not, where the run is not tested: 1 where it is too short to be a book
 abbrev pub counter_said : ℕ → List ℕ → CounterAnswer

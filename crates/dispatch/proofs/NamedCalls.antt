@@ -48,7 +48,8 @@ module _ (letter : ℕ) where
   of_three (a ∷ b ∷ c ∷ d ∷ more) three = absurd (omega arith)
 
   pub of_five : (ns : List ℕ) → length ns ≡ 5
-      → call_of letter ns ≡ call_of_five letter (get_or ns 0 0) (get_or ns 1 0) (get_or ns 2 0) (get_or ns 3 0) (get_or ns 4 0)
+      → call_of letter ns ≡ call_of_five letter (get_or ns 0 0) (get_or ns 1 0) (get_or ns 2 0) (get_or ns 3 0)
+      (get_or ns 4 0)
   unfolding call_of
   of_five [] five = absurd (omega arith)
   of_five (a ∷ []) five = absurd (omega arith)

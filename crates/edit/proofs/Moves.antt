@@ -101,7 +101,8 @@ push_done {new} {ws} {s} {j} P l =
 
 -- k new words in the part from `at` to k words past the count, and the head that counts them
 pub pushed_between :
-    (ws new part : List ℕ) (at count k month : ℕ) → count ≡ used (facts_of ws) → month ≡ (facts_of ws).now → length new ≡ k
+    (ws new part : List ℕ) (at count k month : ℕ) → count ≡ used (facts_of ws) → month ≡ (facts_of ws).now
+    → length new ≡ k
     → at ≤ count → count + k ≤ length ws → part ≡ pushed new (mid_of at (count + k - at) ws)
     → set (put_mid at (count + k - at) ws part) 0 (packed (Head month (count + k))) ≡ insert_words at new ws
 unfolding insert_words

@@ -1,5 +1,5 @@
-// The proved functions as programs in C and Rust call them, under the names of include/strikebook.h, which says what each
-// means in plain words. `export_c` gives C these names.
+// The proved functions as programs in C and Rust call them, under the names of include/strikebook.h, which says what
+// each means in plain words. `export_c` gives C these names.
 #![tactic(auto)]
 
 ghost use Rattle.std.specs.Prelude.{[], ◌≡◌, T};

@@ -107,7 +107,8 @@ module _ (xs : List ℕ) (to from : ℕ) where
       let l : length ys ≡ length xs - from = length-drop from xs in
       let count : length (take (suc n) ys) ≡ suc n = length-take-le (suc n) ys (omega arith) in
       let more : take (suc (suc n)) ys ≡ take (suc n) ys ++ (get_or xs (from + suc n) 0 ∷ []) =
-      take-suc ys (suc n) 0 (omega arith) ∙ ap (λ (v : ℕ). take (suc n) ys ++ (v ∷ [])) (get_or-drop from xs (suc n) 0) in
+      take-suc ys (suc n) 0 (omega arith)
+      ∙ ap (λ (v : ℕ). take (suc n) ys ++ (v ∷ [])) (get_or-drop from xs (suc n) 0) in
       ap (λ (l : List ℕ). set l (to + suc n) (get_or xs (from + suc n) 0)) (stored_all n (omega arith))
       ∙ ap (λ (j : ℕ). set (sets xs to (take (suc n) ys)) (to + j) (get_or xs (from + suc n) 0)) (sym count)
       ∙ sym (sets_append xs to (take (suc n) ys) (get_or xs (from + suc n) 0 ∷ []))

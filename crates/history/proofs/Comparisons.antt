@@ -109,7 +109,8 @@ module _ {left right pool calls others left' right' pool' pool'' : List ℕ} {a 
 -- ---- refused
 
 refused_lengths :
-    {left right pool calls others left' pool' : List ℕ} → are_lengths (length left) (length right) ≡ false → left' ≡ left
+    {left right pool calls others left' pool' : List ℕ} → are_lengths (length left) (length right) ≡ false
+    → left' ≡ left
     → pool' ≡ pool → Compared left right pool calls others BadLength left' right pool'
 refused_lengths bad kept-left kept-pool =
     record {

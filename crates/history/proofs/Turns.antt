@@ -46,7 +46,8 @@ turns_answers book (turn m later) =
     let next = made_book book m in
     rw (answer_made book m, turns_answers next.0 later, next.1, next.2)
 
-turns_never_one : {xs : List Call} {w w'' : List ℕ} → T (is_book w) → (t : Turns xs w w'') → T (never_draw_one (answers_of t))
+turns_never_one : {xs : List Call} {w w'' : List ℕ} → T (is_book w) → (t : Turns xs w w'')
+    → T (never_draw_one (answers_of t))
 turns_never_one book done = tt
 turns_never_one book (turn {r} m later) =
     and_intro (not (eqb (answer_number r) 1)) (never_draw_one (answers_of later)) (not_one book m)

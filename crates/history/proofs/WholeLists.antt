@@ -114,7 +114,8 @@ whole_exists {n} long xs =
 
 -- they are those, and the only ones, that the calls of the list leave when anybody makes them in turn
 pub run_whole :
-    {w pool calls w' pool' : List ℕ} {r : Answer} → T (is_length (length w)) → Ran w pool calls r w' pool' → (u : List ℕ)
+    {w pool calls w' pool' : List ℕ} {r : Answer} → T (is_length (length w)) → Ran w pool calls r w' pool'
+    → (u : List ℕ)
     → Whole (length w) (calls_alone (calls_of calls)) u ↔ (u ≡ w')
 run_whole {w} {pool} {calls} {w'} long ran u =
     let left : w' ≡ layout (length w) (after (length w) (calls_alone (calls_of calls))) =

@@ -36,5 +36,6 @@ pub record Ran (w pool calls : List ℕ) (r : Answer) (w' pool' : List ℕ) : Ty
   pub words : w' ≡ cond (is_length (length w)) (layout (length w) (after (length w) (calls_alone (calls_of calls)))) w
   pub second :
       pool'
-      ≡ cond (is_length (length w)) (second_after (length w) (map (lent_within (length pool)) (calls_of calls)) fresh pool)
+      ≡ cond (is_length (length w))
+      (second_after (length w) (map (lent_within (length pool)) (calls_of calls)) fresh pool)
       pool

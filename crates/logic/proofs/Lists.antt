@@ -50,7 +50,8 @@ module _ {A : Type 0} where
       (every_places p none xs (λ i l. each (suc i) (omega arith)))
 
   pub every_not :
-      (p : A → Bool) (none : A) (xs : List A) (i : ℕ) → i < length xs → p (get_or xs i none) ≡ false → every p xs ≡ false
+      (p : A → Bool) (none : A) (xs : List A) (i : ℕ) → i < length xs → p (get_or xs i none) ≡ false
+      → every p xs ≡ false
   every_not p none xs i l e = sym (refuted (every p xs) (λ t. rw e at (every_at p none xs i l t)))
 
   pub every_mapped :

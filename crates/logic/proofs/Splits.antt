@@ -62,7 +62,8 @@ module _ {A : Type 0} (key : A → ℕ) (k : ℕ) where
   leads [] = false
   leads (x ∷ xs) = eqb (key x) k
 
-  pub some_leads : (xs : List A) → some (is_equal key k) xs ≡ leads (only (is_equal key k) xs ++ only (is_over key k) xs)
+  pub some_leads : (xs : List A)
+      → some (is_equal key k) xs ≡ leads (only (is_equal key k) xs ++ only (is_over key k) xs)
   some_leads xs =
       some_length (is_equal key k) xs
       ∙ go (only (is_equal key k) xs) (only (is_over key k) xs)

@@ -41,7 +41,12 @@ module _ {s : Setting} {ws : List ℕ} {from h : ℕ} (t : Triable s ws from h) 
         end = omega (arith, found.most, t.behind.within);
         above = λ l.
             let here : to < from + (length ws - from) = omega (arith, t.behind.within) in
-            omega (arith, reach_most s, leb-true (h + beyond_reach) (strike_in (get_or ws to 0)) (found.passes_here here));
+            omega (
+              arith,
+              reach_most s,
+              leb-true (h + beyond_reach) (strike_in (get_or ws to 0))
+                  (found.passes_here here),
+            );
       }
     where
       found : First (λ i. leb (h + beyond_reach) (strike_in (get_or ws i 0))) (length ws - from) from to

@@ -32,7 +32,8 @@ module _
     digits_none : bits ≡ 0 → first_at p xs ≡ n
     digits_none z = sym (first_mapped p xs) ∙ no_one (map p xs) (omega arith) ∙ digits_long
 
-    digits_some : (k : ℕ) → n < k → (bits ≡ 0 → ⊥) → (count_trailing_zeros k bits ≡ suc (first_at p xs)) × (first_at p xs < n)
+    digits_some : (k : ℕ) → n < k → (bits ≡ 0 → ⊥)
+        → (count_trailing_zeros k bits ≡ suc (first_at p xs)) × (first_at p xs < n)
     digits_some k wide z =
         let d : bits ≡ binary (false ∷ map p xs) = omega arith in (
           ap (count_trailing_zeros k) d
@@ -54,7 +55,8 @@ module _
 
     pub seek_digit :
         (k : ℕ) → n < k → (bits ≡ 0 → ⊥)
-        → (i + count_trailing_zeros k bits - 1 ≡ first_at p xs) × (1 ≤ count_trailing_zeros k bits) × (count_trailing_zeros k bits ≤ n)
+        → (i + count_trailing_zeros k bits - 1 ≡ first_at p xs) × (1 ≤ count_trailing_zeros k bits)
+        × (count_trailing_zeros k bits ≤ n)
     seek_digit k wide z =
         let d = digits_some p block n bits block_long q k wide z in
         let f =

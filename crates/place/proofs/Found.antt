@@ -159,7 +159,8 @@ module _ (ws : List ℕ) (b : T (is_book ws)) where
   numbers c = distinct_parts number c facts.classes (numbers_rise (length ws) facts (book_good ws b))
 
   pub class_sought :
-      (c end i : ℕ) → end ≡ used facts → i ≡ first_at (is_from class_kind c) (take (end - first_place) (drop first_place ws))
+      (c end i : ℕ) → end ≡ used facts
+      → i ≡ first_at (is_from class_kind c) (take (end - first_place) (drop first_place ws))
       → first_place + i ≡ class_place c facts
   class_sought c end i d e =
       let q =

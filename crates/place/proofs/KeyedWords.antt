@@ -89,7 +89,8 @@ is_keyed kind key x = eqb (kind_in x) kind && leb key (key_in x)
 
 pub key_said :
     (kind : ℕ) (x : Word) → is_legal x ≡ true → kind_in x ≡ kind → key_of (kind_numbered kind) (packed x) ≡ key_in x
-key_said kind x legal e = ap (λ (k : ℕ). key_of (kind_numbered k) (packed x)) (sym e) ∙ key_packed x (legal_fits x legal)
+key_said kind x legal e =
+    ap (λ (k : ℕ). key_of (kind_numbered k) (packed x)) (sym e) ∙ key_packed x (legal_fits x legal)
 
 pub from_packed :
     (kind key : ℕ) (x : Word) → is_legal x ≡ true

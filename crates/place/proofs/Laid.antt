@@ -90,7 +90,8 @@ module _ {A : Type 0} (key : A → ℕ) (kind : ℕ) (lay : List A → List Word
 
   -- .. also before other words at which it stops
   pub ends_there :
-      (k : ℕ) (xs : List A) (rest : List Word) → T (every (λ x. leb k (key x)) xs) → first_at (is_ending kind k) rest ≡ 0
+      (k : ℕ) (xs : List A) (rest : List Word) → T (every (λ x. leb k (key x)) xs)
+      → first_at (is_ending kind k) rest ≡ 0
       → first_at (is_ending kind k) (lay xs ++ rest) ≡ 0
   ends_there k [] rest t stop = rw laid.none stop
   ends_there k (x ∷ xs) rest t stop =
@@ -105,7 +106,8 @@ module _ {A : Type 0} (key : A → ℕ) (kind : ℕ) (lay : List A → List Word
 
   -- the first word has the key exactly where the first of the list has it
   begins_there :
-      (k : ℕ) (test : ℕ → Bool) → ((w : Word) → is_legal w ≡ true → kind_in w ≡ kind → test (packed w) ≡ eqb (key_in w) k)
+      (k : ℕ) (test : ℕ → Bool)
+      → ((w : Word) → is_legal w ≡ true → kind_in w ≡ kind → test (packed w) ≡ eqb (key_in w) k)
       → (xs : List A) (rest : List Word) → T (every is_legal (lay xs)) → begins test rest ≡ false
       → begins test (lay xs ++ rest) ≡ leads key k xs
   begins_there k test says [] rest legal other = rw laid.none other

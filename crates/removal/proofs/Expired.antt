@@ -111,7 +111,8 @@ module _ (m : ℕ) where
     pub left :
         classes_words (map kept_from (x ∷ xs)) []
         ≡ figures_words x.figures [] ++ (staying ++ classes_words (map kept_from xs) [])
-    pub stays : first_at (is_up_to expiration_kind m) (map packed (going ++ (staying ++ classes_words xs []))) ≡ length going
+    pub stays : first_at (is_up_to expiration_kind m) (map packed (going ++ (staying ++ classes_words xs [])))
+        ≡ length going
     pub next : first_at (is_up_to class_kind 0) (map packed (staying ++ classes_words xs [])) ≡ length staying
     pub legal : T (every is_legal going)
     -- of the strikes of any program those that go are counted once

@@ -44,7 +44,8 @@ module _ (now : ℕ) where
       ap (λ (l : List Series). reverse (words_of_series l)) (reverse-cons s down)
       ∙ ap (λ (l : List ℕ). reverse l) (words_last (reverse down) s)
       ∙ reverse-append (words_of_series (reverse down)) (e ++ (packed (strike_word s) ∷ []))
-      ∙ ap (λ (l : List ℕ). l ++ reverse (words_of_series (reverse down))) (reverse-append e (packed (strike_word s) ∷ []))
+      ∙ ap (λ (l : List ℕ). l ++ reverse (words_of_series (reverse down)))
+      (reverse-append e (packed (strike_word s) ∷ []))
 
   -- ---- how many strikes it has
 
@@ -140,7 +141,8 @@ module _ (now : ℕ) where
           (c : Bool) → stood s down ≡ c
           → bounds_in (with_strike b s.strike s.put s.call) (reverse (words_of_series (reverse down)))
           ≡ widened_by (with_strike b s.strike s.put s.call) (marked_last down)
-          → bounds_in b (packed (strike_word s) ∷ (reverse (expiration_of c s) ++ reverse (words_of_series (reverse down))))
+          → bounds_in b (packed (strike_word s)
+          ∷ (reverse (expiration_of c s) ++ reverse (words_of_series (reverse down))))
           ≡ widened_by b (marked_in s.month (s ∷ down))
       go true e ih =
           rw (said_packed (strike_word s) (strike_legal now s u.1.limits), eq-eqb s.month s.month refl)
@@ -175,7 +177,8 @@ module _ (now : ℕ) where
   bounds_are low rest q a l r =
       let e = reverse-reverse low in
       subst
-      (λ (l : List Series). bounds_in none_marked (reverse (words_of_series l)) ≡ bounds_of (l ++ rest) (standing 0 l)) e
+      (λ (l : List Series). bounds_in none_marked (reverse (words_of_series l))
+      ≡ bounds_of (l ++ rest) (standing 0 l)) e
       (bounds_down none_marked (reverse low) (rw e a) ∙ go (reverse low) (rw e l))
     where
       go :

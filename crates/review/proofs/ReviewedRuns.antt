@@ -209,7 +209,8 @@ module _ {ws : List ℕ} {from to price : ℕ} (X : Reviewable ws from to price)
         set (put_mid at (used f - at) between (closed gap (mid_of at (used f - at) between))) 0 head
         ≡ uncounted (length ws) f (update (after_steps n x) f)
     closed_up =
-        (λ i. set (put_mid at (used f - at) (between_is i) (closed gap (mid_of at (used f - at) (between_is i)))) 0 head)
+        (λ i. set (put_mid at (used f - at) (between_is i)
+        (closed gap (mid_of at (used f - at) (between_is i)))) 0 head)
         ∙ ap (λ (l : List ℕ). set l 0 head)
         (closed_inside (a ++ low) free (high ++ c) d at (used f - at) gap place size (length-replicate gap 0))
         ∙ ap (λ (l : List ℕ). set l 0 head) (regroup_after a low free high c (free ++ d))

@@ -9,7 +9,8 @@ use Rattle.book.specs.Facts.{Series, OpenClass}
 use Rattle.review.specs.ReviewSteps.{gone_count, words_after}
 
 series : (month strike on_ground put : ℕ) → Series
-series month strike on_ground put = record { month = month; strike = strike; on_ground = on_ground; put = put; call = 0 }
+series month strike on_ground put =
+    record { month = month; strike = strike; on_ground = on_ground; put = put; call = 0 }
 
 -- "Dollar $7, $8, $19, Standard $20, none marked: $7 and $19 go. With $7 marked, $19 goes."
 reviewed : OpenClass

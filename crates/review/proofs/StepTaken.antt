@@ -378,7 +378,8 @@ module _
       seen : take start after ≡ words_of_series low
       seen =
           ap (take start) after_is
-          ∙ take_at (words_of_series low) (replicate (lifted_to written stays_on - start) 0 ++ high_words) start start_is
+          ∙ take_at (words_of_series low)
+          (replicate (lifted_to written stays_on - start) 0 ++ high_words) start start_is
 
       pub step_lowest :
           (next : LastStrikes) → EndsWith (take start after) next → (emptied : ℕ)

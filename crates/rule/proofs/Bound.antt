@@ -54,7 +54,8 @@ fifth_low dollar p l = go dollar (ltb (in_halves p) (in_halves fifteen_dollars))
     go : (d t : Bool) → ltb (in_halves p) (in_halves fifteen_dollars) ≡ t →
         cond d (fifth_on (in_halves one_dollar) (in_halves p))
         (cond d (fifth_on (in_halves five_dollars) (in_halves p))
-        (cond t (fifth_on (in_halves two_fifty) (in_halves p)) (in_halves p / in_halves two_fifty * in_halves five_dollars)))
+        (cond t (fifth_on (in_halves two_fifty) (in_halves p))
+        (in_halves p / in_halves two_fifty * in_halves five_dollars)))
         ≤ max last_two_fifty (p / quarter_dollar)
     go true t e = omega arith
     go false true e = omega (arith, ltb-true (in_halves p) (in_halves fifteen_dollars) e)
@@ -331,7 +332,8 @@ module _ (s : Setting) (p : ℕ) where
           let over : ltb (in_halves p) h ≡ true = lt-ltb (in_halves p) h (omega arith) in
           rw (q, five_half_dollars p h, on, over, le-leb h (in_halves p + range_count) (omega arith))
 
-  pub half_each : (h : ℕ) → 1 ≤ h → h ≤ half_end s p → (half_grid s (cents h) ≡ true) × (range_by half_dollars p h ≡ true)
+  pub half_each : (h : ℕ) → 1 ≤ h → h ≤ half_end s p
+      → (half_grid s (cents h) ≡ true) × (range_by half_dollars p h ≡ true)
   half_each h l = go half_asked refl
     where
       go : (t : Bool) → half_asked ≡ t →

@@ -121,7 +121,8 @@ among_above grid p h =
 -- the range grid of Standard and Dollar, by what it asks of the class and the expiration
 abbrev grid_by : Bool → Bool → ℕ → Bool
 grid_by whole dollar k =
-    cond whole (multiple one_dollar k) (ladder k && not (dollar && ltb k fifty_dollars && not (multiple five_dollars k)))
+    cond whole (multiple one_dollar k)
+    (ladder k && not (dollar && ltb k fifty_dollars && not (multiple five_dollars k)))
 
 -- the closed form is right for each strike q of at most $20
 end_test : Bool → Bool → ℕ → Bool
@@ -145,7 +146,8 @@ five_by whole dollar p h cheap =
     (every_number (end_test whole dollar) (in_halves low_price + 1) 0 (ends whole dollar) (in_halves p) (omega arith)
     (omega arith)) in
     among_above (grid_by whole dollar) p h
-    ∙ ap (λ (t : Bool). ltb (in_halves p) h && t && grid_by whole dollar (cents h)) (ap (ltb h) end ∙ leb-suc-suc h fifth)
+    ∙ ap (λ (t : Bool). ltb (in_halves p) h && t && grid_by whole dollar (cents h))
+    (ap (ltb h) end ∙ leb-suc-suc h fifth)
 
 pub five : (s : Setting) (p h : ℕ) → p ≤ low_price →
     among_five (range_grid s) p h
@@ -170,7 +172,8 @@ half_end_lem q h low high =
   where
     go : (t : Bool) → ltb q 7 ≡ t → end_above half_dollars q ≡ cond t (q + range_count + 1) (highest_strike + 1) →
         ltb h (end_above half_dollars q) ≡ leb h (q + range_count)
-    go true e end = same_leb (suc h) (end_above half_dollars q) h (q + range_count) (λ l. omega arith) (λ l. omega arith)
+    go true e end = same_leb (suc h) (end_above half_dollars q) h (q + range_count) (λ l. omega arith)
+        (λ l. omega arith)
     go false e end =
         lt-ltb h (end_above half_dollars q) (omega arith)
         ∙ sym (le-leb h (q + range_count) (omega (arith, ltb-false q 7 e)))
@@ -179,7 +182,8 @@ pub five_half_dollars : (p h : ℕ) →
     among_five half_dollars p h ≡ (ltb (in_halves p) h && leb h (in_halves p + range_count) && half_dollars (cents h))
 five_half_dollars p h =
     among_above half_dollars p h
-    ∙ and_middle (ltb (in_halves p) h) (ltb h (end_above half_dollars (in_halves p))) (leb h (in_halves p + range_count))
+    ∙ and_middle (ltb (in_halves p) h) (ltb h (end_above half_dollars (in_halves p)))
+    (leb h (in_halves p + range_count))
     (half_dollars (cents h))
     (λ low on. half_end_lem (in_halves p) h (ltb→lt (in_halves p) h low) (high on))
   where

@@ -42,7 +42,8 @@ module _ (s : Setting) (h : ℕ) where
   passes_at standing g = passes (row_of s standing h g)
 
   -- a strike is accepted where some ground passes
-  accepted : (standing : List Standing) → T (is_accepted (judgement s standing h)) → T (some (passes_at standing) grounds)
+  accepted : (standing : List Standing) → T (is_accepted (judgement s standing h))
+      → T (some (passes_at standing) grounds)
   accepted standing t = subst T (accepted_passes (rows_of s standing h)) t
 
   opened : T (some (passes_at []) grounds) → T (is_open_strike s h)
@@ -55,7 +56,8 @@ module _ (s : Setting) (h : ℕ) where
   pub accepted_open : (standing : List Standing) → T (is_accepted (judgement s standing h)) → T (is_open_strike s h)
   accepted_open standing t =
       opened
-      (some_imply (passes_at standing) (passes_at []) (λ g u. beside_none g (search ands)) grounds (accepted standing t))
+      (some_imply (passes_at standing) (passes_at []) (λ g u. beside_none g (search ands)) grounds
+      (accepted standing t))
 
   pub permitted_open : (standing : List Standing) → T (is_permitted_beside s standing h) → T (is_open_strike s h)
   permitted_open standing t = accepted_open standing (search ands)

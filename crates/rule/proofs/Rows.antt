@@ -25,7 +25,8 @@ use Rattle.rule.specs.Judgement.{row_of, rows_of, passes, passes_grid, passes_ra
 use Rattle.rule.specs.Judgement.{found_row, found_rows, rows_at, none_passes, either_rows, first_ground, judgement, Judged}
 
 first_step : (rows : List (List Bool)) (g : ℕ) → g < length rows → (v : Answer) →
-    ground_from v g (drop g rows) ≡ cond (passes (get_or rows g [])) (Ground g) (ground_from v (g + 1) (drop (g + 1) rows))
+    ground_from v g (drop g rows)
+    ≡ cond (passes (get_or rows g [])) (Ground g) (ground_from v (g + 1) (drop (g + 1) rows))
 first_step rows g l v = rw (ap (λ (n : ℕ). drop n rows) (add-one g), drop-cons rows g [])
 
 -- what is known before row g: no row below g passes, and whether one of them passes its grid, and its range too
@@ -133,7 +134,8 @@ module _ (s : Setting) (h : ℕ) where
     found_from v zero g = refl
     found_from v (suc n) g =
         go (passes_at g) refl
-        (ap (λ (k : ℕ). ground_from v k (map (found_row s h (first_from passes_at n k)) (up_from n (suc g)))) (add-one g)
+        (ap (λ (k : ℕ). ground_from v k (map (found_row s h (first_from passes_at n k)) (up_from n (suc g))))
+        (add-one g)
         ∙ found_from v n (suc g)
         ∙ ap (λ (k : ℕ). ground_from v k (map (row_of s standing h) (up_from n (suc g)))) (sym (add-one g)))
       where

@@ -114,7 +114,8 @@ module _ (c : ClassRecord) (h : ℕ) where
       less : Bool → Bool
       less t = not (t && ltb (cents h) fifty_dollars && not (multiple five_dollars (cents h)))
 
-      go : (u : Bool) → multiple five_dollars (cents h) ≡ u → not (true && ltb (cents h) fifty_dollars && not u) ≡ true →
+      go : (u : Bool) → multiple five_dollars (cents h) ≡ u
+          → not (true && ltb (cents h) fifty_dollars && not u) ≡ true →
           h % 10 ≡ 0
       go true b n = times 10 h (cents h / five_dollars) (omega (arith, eqb-true (cents h % five_dollars) 0 b))
       go false b n = absurd (true≢false (sym n ∙ rw (lt-ltb (cents h) fifty_dollars (omega arith))))
@@ -395,7 +396,8 @@ module _ (s : Setting) (h : ℕ) where
           omega (arith, w.most, w.close (omega arith))
 
   -- and which strikes are on it: outside the $1 classes those below $50, and those no more than $10 from the close
-  pub two_fifty_low : has_two_fifties s ≡ true → is_dollar_class c ≡ false → h % 5 ≡ 0 → last_two_fifty < h → h < last_dollar →
+  pub two_fifty_low : has_two_fifties s ≡ true → is_dollar_class c ≡ false → h % 5 ≡ 0 → last_two_fifty < h
+      → h < last_dollar →
       two_fifty_grid s (cents h) ≡ true
   two_fifty_low asked d m l k =
       rw (

@@ -144,7 +144,8 @@ module _ (ws : List ℕ) (f : Facts) (good : T (is_well_formed (length ws) f)) (
   head_says = head_fields (get_or ws 0 0) f.now (used f) head_holds head_word
 
   counter_says : (p : ℕ) → T (is_program p) → (own_in p ws ≡ owned p xs) × (strikes_in p ws ≡ strikes_on p xs)
-  counter_says p k = counter_fields (get_or ws p 0) (owned p xs) (strikes_on p xs) (counter_holds p k) (counter_word p k)
+  counter_says p k = counter_fields (get_or ws p 0) (owned p xs) (strikes_on p xs) (counter_holds p k)
+      (counter_word p k)
 
   -- the counters say it among the words used, too
   used_says :

@@ -43,7 +43,8 @@ pub record Tells (ws : List ℕ) (ahead : Ahead) : Type 0 where
       (take (ahead.base + block_length - suc ahead.at) (drop (suc ahead.at) ws)))
   pub further :
       ahead.more
-      ≡ other_bits (get_or ws (ahead.base + block_length - 1) 0) (take block_length (drop (ahead.base + block_length) ws))
+      ≡ other_bits (get_or ws (ahead.base + block_length - 1) 0)
+      (take block_length (drop (ahead.base + block_length) ws))
 
 -- the same, and `to` is a later index
 pub record Passable (ws : List ℕ) (ahead : Ahead) (to : ℕ) : Type 0 where

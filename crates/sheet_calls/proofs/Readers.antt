@@ -33,13 +33,15 @@ use Rattle.sheet_calls.specs.declared.piece.Lines.{Lines}
 
 -- in two parts
 pub bytes_append :
-    (n room : ℕ) (r : Reader) (a b : List ℕ) → bytes_read n room r (a ++ b) ≡ bytes_read n room (bytes_read n room r a) b
+    (n room : ℕ) (r : Reader) (a b : List ℕ)
+    → bytes_read n room r (a ++ b) ≡ bytes_read n room (bytes_read n room r a) b
 unfolding bytes_read
 bytes_append n room r [] b = refl
 bytes_append n room r (x ∷ a) b = bytes_append n room (byte_read n room r x) a b
 
 byte_more : (n room : ℕ) (r : Reader) (piece : List ℕ) (i : ℕ) → i < length piece
-    → bytes_read n room r (take (i + 1) piece) ≡ byte_read n room (bytes_read n room r (take i piece)) (get_or piece i 0)
+    → bytes_read n room r (take (i + 1) piece)
+    ≡ byte_read n room (bytes_read n room r (take i piece)) (get_or piece i 0)
 unfolding bytes_read
 byte_more n room r piece i h = rw (add-one, take-suc piece i 0, bytes_append)
 
@@ -50,10 +52,12 @@ unprinted r = record { line = r.line; facts = r.facts; second = r.second; text =
 
 -- it does not depend on what was printed before
 module _ (n room : ℕ) where
-  byte_unprinted : (r : Reader) (b : ℕ) → unprinted (byte_read n room r b) ≡ unprinted (byte_read n room (unprinted r) b)
+  byte_unprinted : (r : Reader) (b : ℕ)
+      → unprinted (byte_read n room r b) ≡ unprinted (byte_read n room (unprinted r) b)
   unfolding byte_read call_made
   byte_unprinted r b =
-      ⊎_elim (λ (e : eqb b line_feed ≡ true). rw e) (λ (e : eqb b line_feed ≡ false). rw e) (bool_cases (eqb b line_feed))
+      ⊎_elim (λ (e : eqb b line_feed ≡ true). rw e) (λ (e : eqb b line_feed ≡ false). rw e)
+      (bool_cases (eqb b line_feed))
 
   pub bytes_unprinted :
       (r q : Reader) (s : List ℕ) → unprinted r ≡ unprinted q
@@ -117,7 +121,8 @@ module _ (n room size : ℕ) where
   first_line r [] ends fits = absurd (omega arith)
   first_line r (b ∷ s) ends fits =
       ⊎_elim
-      (λ (is : b ≡ line_feed). rw (eq-eqb b line_feed is) (rw (eq-eqb b line_feed is) at (first_byte r b s (λ _. fits))))
+      (λ (is : b ≡ line_feed). rw (eq-eqb b line_feed is)
+      (rw (eq-eqb b line_feed is) at (first_byte r b s (λ _. fits))))
       (λ differs.
       let later = rw (ne_eqb b line_feed differs) at ends in
       let same = ap length (fed_text n room r b differs) in

@@ -70,7 +70,8 @@ module _ (w : List ℕ) (book : T (is_book w)) where
       (i : ℕ) (before rest : List Word) (x : Word) → book_words (length w) (facts_of w) ≡ before ++ (x ∷ rest)
       → i ≡ length before → kind_of (get_or w i 0) ≡ kind_in x
   kind_at i before rest x e d =
-      let t = (every_split is_legal before (x ∷ rest) (subst (λ (l : List Word). T (every is_legal l)) e words_legal)).1 in
+      let t = (every_split is_legal before (x ∷ rest)
+      (subst (λ (l : List Word). T (every is_legal l)) e words_legal)).1 in
       let fits = legal_fits x (T_true (is_legal x) (search ands)) in
       let word : get_or w i 0 ≡ packed x =
       subst (λ (l : List ℕ). get_or l i 0 ≡ packed x) (book_is w book)
@@ -80,7 +81,8 @@ module _ (w : List ℕ) (book : T (is_book w)) where
   -- no strike stands at i, between some words and others
   abbrev NoStrike : ℕ → List Word → List Word → Type 0
   NoStrike i before rest =
-      book_words (length w) (facts_of w) ≡ before ++ rest → i ≡ length before → is_of_kind strike_kind (get_or w i 0) ≡ false
+      book_words (length w) (facts_of w) ≡ before ++ rest → i ≡ length before
+      → is_of_kind strike_kind (get_or w i 0) ≡ false
 
   -- the word after those of an expiration's strikes is none
   kind_after :
@@ -195,14 +197,16 @@ module _ (w : List ℕ) (book : T (is_book w)) (c m : ℕ) (o : T (is_class_open
           ∙ and-false (ltb i (used (facts_of w)))
 
   -- where the expiration has strikes, the word before such a place is one exactly where the place is not the first
-  strike_before : has_expiration c m (facts_of w) ≡ true → (i : ℕ) → from ≤ i → i ≤ to → is_strike_at w (i - 1) ≡ ltb from i
+  strike_before : has_expiration c m (facts_of w) ≡ true → (i : ℕ) → from ≤ i → i ≤ to
+      → is_strike_at w (i - 1) ≡ ltb from i
   strike_before has i l k = go (ltb from i) refl
     where
       first : is_of_kind strike_kind (get_or w (from - 1) 0) ≡ false
       first =
           ap (λ (n : ℕ). eqb n strike_kind.number)
           (kind_at w book (from - 1) before (map strike_word here ++ after) (Expiration m)
-          (around ∙ ap (λ (b : Bool). before ++ (expiration_unless (not b) m [] ++ (map strike_word here ++ after))) has)
+          (around ∙ ap (λ (b : Bool). before
+          ++ (expiration_unless (not b) m [] ++ (map strike_word here ++ after))) has)
           (omega (arith, before_length, ap (λ (b : Bool). cond {A = ℕ} b 1 0) has)))
 
       go : (b : Bool) → ltb from i ≡ b → is_strike_at w (i - 1) ≡ b
@@ -217,7 +221,8 @@ module _ (w : List ℕ) (book : T (is_book w)) (c m : ℕ) (o : T (is_class_open
           ∙ and-false (ltb (i - 1) (used (facts_of w)))
 
   -- a place has a strike of its expiration before it exactly where it is not the first
-  pub strike_below : (i : ℕ) → from ≤ i → i ≤ to → (has_expiration c m (facts_of w) && is_strike_at w (i - 1)) ≡ ltb from i
+  pub strike_below : (i : ℕ) → from ≤ i → i ≤ to
+      → (has_expiration c m (facts_of w) && is_strike_at w (i - 1)) ≡ ltb from i
   strike_below i l k = go (has_expiration c m (facts_of w)) refl
     where
       go : (b : Bool) → has_expiration c m (facts_of w) ≡ b → (b && is_strike_at w (i - 1)) ≡ ltb from i

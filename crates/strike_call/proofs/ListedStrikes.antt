@@ -160,5 +160,6 @@ module _ (w : List ℕ) (book : T (is_book w)) (c m h : ℕ) (l : not (is_place 
         made_accepted (on c (call_l m h)) w [] book (Ground g) w' refl
         (listing ∙ rw (p.granted, taken, le-ltb (length w) (used (facts_of w) + needed) left, p.on_ground))
         (added
-        ∙ ap (λ (i : ℕ). layout (length w) (update (strike_added (new_series m h i) (class (facts_of w) c)) (facts_of w)))
+        ∙ ap (λ (i : ℕ). layout (length w)
+        (update (strike_added (new_series m h i) (class (facts_of w) c)) (facts_of w)))
         (sym p.on_ground))

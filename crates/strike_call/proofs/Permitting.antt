@@ -47,7 +47,8 @@ part_within w book c m o r e =
 
 module _
     (w v : List ℕ) (book : T (is_book w)) (c m : ℕ) (l : not (is_class_number c && is_month m) ≡ false)
-    (o : T (is_class_open c (facts_of w).classes)) (at : ℕ) (k : at ≡ class_place c (facts_of w)) (figures : ClassRecord)
+    (o : T (is_class_open c (facts_of w).classes)) (at : ℕ) (k : at ≡ class_place c (facts_of w))
+    (figures : ClassRecord)
     (g : figures ≡ figures_at at w) (current : ℕ) (d : current ≡ (facts_of w).now) where
   abbrev call : Call
   call = on c (call_a m)

@@ -29,7 +29,8 @@ module _ (w : List ℕ) (book : T (is_book w)) (c : ℕ) (o : T (is_class_open c
   class_open = ap not (T_true (is_class_open c (facts_of w).classes) o)
 
   module _
-      (at : ℕ) (place : at ≡ class_place c (facts_of w)) (figures : ClassRecord) (read : figures ≡ figures_at at w) where
+      (at : ℕ) (place : at ≡ class_place c (facts_of w)) (figures : ClassRecord)
+      (read : figures ≡ figures_at at w) where
     figures_are : figures ≡ seen.class.figures
     figures_are = read ∙ figures_found w book c o at place
 

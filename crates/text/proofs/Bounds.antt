@@ -71,7 +71,8 @@ answer_below (Refused why) vs ok =
 number_bound : (v : ℕ) → v < word_limit → length (spaced_number v) ≤ strike_room
 number_bound v h = omega (arith, length_decimal 9 v (omega arith))
 
-numbers_bound : (vs : List ℕ) → ((k : ℕ) → get_or vs k 0 < word_limit) → length (spaced_numbers vs) ≤ strike_room * length vs
+numbers_bound : (vs : List ℕ) → ((k : ℕ) → get_or vs k 0 < word_limit)
+    → length (spaced_numbers vs) ≤ strike_room * length vs
 unfolding spaced_numbers
 numbers_bound [] small = omega arith
 numbers_bound (v ∷ vs) small =

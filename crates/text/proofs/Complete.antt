@@ -34,7 +34,8 @@ feed_digit b c v k ns low high =
     )
 
 run_digits : {ds : List ℕ} → Digits ds → (c v k : ℕ) (ns rest : List ℕ)
-    → run_of (state Number c (capped v) k ns) (ds ++ rest) ≡ run_of (state Number c (capped (value_from v ds)) k ns) rest
+    → run_of (state Number c (capped v) k ns) (ds ++ rest)
+    ≡ run_of (state Number c (capped (value_from v ds)) k ns) rest
 unfolding run_of value_from
 run_digits no_digits c v k ns rest = refl
 run_digits (a_digit {b} {ds} low high more) c v k ns rest =
@@ -85,7 +86,8 @@ end_number in_number c v k ns h = push_room Number Letter c v k ns h
 -- the numbers after one that is read but not ended
 run_rest : {ts : List (List ℕ)} → Numerals ts → {p : Phase} → Pending p → (c v k : ℕ) (ns : List ℕ)
     → k + length ts < numbers_kept
-    → end_of (run_of (state p c v k ns) (spaced ts)) ≡ state Letter c 0 (k + 1 + length ts) (sets ns k (v ∷ map held ts))
+    → end_of (run_of (state p c v k ns) (spaced ts))
+    ≡ state Letter c 0 (k + 1 + length ts) (sets ns k (v ∷ map held ts))
 unfolding run_of spaced
 run_rest no_numbers w c v k ns h =
     end_number w c v k ns (omega arith) ∙ ap (λ (j : ℕ). state Letter c 0 j (set ns k v)) (omega arith)

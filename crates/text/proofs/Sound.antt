@@ -29,7 +29,8 @@ run_malformed (b ∷ s) = run_malformed s
 malformed_never : (s : List ℕ) → Ends malformed_line s → ⊥
 unfolding end_by
 malformed_never s h =
-    let e : (end_of (run_of malformed_line s)).phase ≡ Malformed = ap (λ (l : Line). (end_of l).phase) (run_malformed s) in
+    let e : (end_of (run_of malformed_line s)).phase ≡ Malformed =
+    ap (λ (l : Line). (end_of l).phase) (run_malformed s) in
     let z : ◌≡◌ {A = ℕ} 0 1 = cc in
     omega arith
 
@@ -60,7 +61,8 @@ malformed_phase l e h =
     omega arith
 
 -- a number may end where fewer than five have
-push_ends : (p : Phase) (c v k : ℕ) (ns : List ℕ) → (push_of (state p c v k ns) Letter).phase ≡ Letter → k < numbers_kept
+push_ends : (p : Phase) (c v k : ℕ) (ns : List ℕ) → (push_of (state p c v k ns) Letter).phase ≡ Letter
+    → k < numbers_kept
 push_ends p c v k ns h = ⊎_elim (λ lt. lt) (λ full. absurd (malformed_phase _ (push_full p Letter c v k ns full) h))
     (lt_or_le k numbers_kept)
 

@@ -26,7 +26,8 @@ module _ (vs : List ℕ) (i : ℕ) (h : i < length vs) where
 
   pub length_more_numbers : length (spaced_numbers (take (i + 1) vs)) ≡ length (spaced_numbers (take i vs)) + length
       (spaced_number (get_or vs i 0))
-  length_more_numbers = ap length numbers_more ∙ length-append (spaced_numbers (take i vs)) (spaced_number (get_or vs i 0))
+  length_more_numbers =
+      ap length numbers_more ∙ length-append (spaced_numbers (take i vs)) (spaced_number (get_or vs i 0))
 
   pub room_for_number : length (spaced_numbers (take i vs)) + length (spaced_number (get_or vs i 0)) ≤ length
       (spaced_numbers vs)

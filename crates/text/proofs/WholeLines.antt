@@ -70,7 +70,8 @@ module _ (s : List ℕ) (i : ℕ) where
 
     pub grown_later : (v : ℕ)
         → grown_by v (take (digits_length (drop i s)) (drop i s))
-        ≡ grown_by (capped (base * v + (get_or s i 0 - zero_digit))) (take (digits_length (drop (i + 1) s)) (drop (i + 1) s))
+        ≡ grown_by (capped (base * v + (get_or s i 0 - zero_digit)))
+        (take (digits_length (drop (i + 1) s)) (drop (i + 1) s))
     unfolding digits_length grown_by
     grown_later v = rw (add-one, drop-cons s i 0 l, digit)
 
@@ -143,7 +144,8 @@ module _ (c k : ℕ) (ns : List ℕ) (few : k < numbers_kept) where
 
   digits_read : (s : List ℕ) (v : ℕ)
       → line_after (state Number c v k ns) s
-      ≡ line_after (state Letter c 0 (k + 1) (set ns k (grown_by v (take (digits_length s) s)))) (drop (digits_length s) s)
+      ≡ line_after (state Letter c 0 (k + 1) (set ns k (grown_by v (take (digits_length s) s))))
+      (drop (digits_length s) s)
   unfolding feed_by end_by run_of line_end digits_length grown_by
   digits_read [] v = end_number in_number c v k ns few
   digits_read (b ∷ s) v =
@@ -215,7 +217,8 @@ numeral_end (b ∷ s) =
 -- ---- what is refused after a space
 
 -- no number
-space_refused : (c v k : ℕ) (ns s : List ℕ) → numeral_length s ≡ 0 → line_after (state Space c v k ns) s ≡ malformed_line
+space_refused : (c v k : ℕ) (ns s : List ℕ) → numeral_length s ≡ 0
+    → line_after (state Space c v k ns) s ≡ malformed_line
 unfolding feed_by end_by run_of line_end numeral_length
 space_refused c v k ns [] none = refl
 space_refused c v k ns (b ∷ s) none =
@@ -294,7 +297,8 @@ module _ (s : List ℕ) (i : ℕ) where
             end_is = rw (drop-cons s i 0 l, ne_eqb (get_or s i 0) zero_digit differs, digit s i l h)
                 (omega (arith, rw add-one at e));
             within = within;
-            value_is = rw (drop-cons s i 0 l, ne_eqb (get_or s i 0) zero_digit differs, digit s i l h) (rw add-one at v);
+            value_is = rw (drop-cons s i 0 l, ne_eqb (get_or s i 0) zero_digit differs, digit s i l h)
+                (rw add-one at v);
           }
 
 -- ---- the ways a line goes on from a place

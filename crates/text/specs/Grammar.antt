@@ -81,4 +81,5 @@ held t = capped (number_in t)
 
 -- what reading a line of the form gives
 abbrev pub line_for : ℕ → List (List ℕ) → Line
-line_for c ts = record { phase = Letter; letter = c; value = 0; count = length ts; numbers = sets zeros 0 (map held ts) }
+line_for c ts = record
+    { phase = Letter; letter = c; value = 0; count = length ts; numbers = sets zeros 0 (map held ts) }

@@ -82,7 +82,8 @@ key_strike :
 key_strike w =
     each_program _ (
       rw (key_same w dollar_ground (omega arith), key_same w wing_ground (omega arith))
-          (two (is_of_kind strike_kind w) (eqb (field w ground_field) dollar_ground) (eqb (field w ground_field) wing_ground)),
+          (two (is_of_kind strike_kind w) (eqb (field w ground_field) dollar_ground)
+          (eqb (field w ground_field) wing_ground)),
       (
         rw (key_same w half_ground (omega arith))
             (one (is_of_kind strike_kind w) (eqb (field w ground_field) half_ground)),

@@ -64,7 +64,8 @@ binary_later j k bs =
 
 -- ---- one digit more, above the others
 
-digit_put : (bs : List Bool) (b : Bool) → bit_or (binary bs) (cond {A = ℕ} b (2 ^ length bs) 0) ≡ binary (bs ++ (b ∷ []))
+digit_put : (bs : List Bool) (b : Bool)
+    → bit_or (binary bs) (cond {A = ℕ} b (2 ^ length bs) 0) ≡ binary (bs ++ (b ∷ []))
 digit_put bs true =
     let small : binary bs < 2 ^ length bs =
     subst (λ (l : List Bool). binary l < 2 ^ length bs) (take-length bs) (binary_small (length bs) bs) in

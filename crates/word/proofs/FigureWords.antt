@@ -87,7 +87,8 @@ module _ (at : ℕ) (ws : List ℕ) (room : at + figures_length ≤ length ws) w
         let ec : packed (Close (key_of close_kind c)) ≡ c = rw kc at (close_packed c (search ands)) in
         let ev : packed (Volume (key_of volume_kind v)) ≡ v = rw kv at (volume_packed v volume) in
         let el : packed (DayPrice (key_of day_price_kind l)) ≡ l = rw kl at (day_price_packed l (search ands)) in
-        let eh : packed (DayPrice (key_of day_price_kind h)) ≡ h = rw kh at (day_price_packed h (search ands depth 8)) in (
+        let eh : packed (DayPrice (key_of day_price_kind h)) ≡ h =
+        rw kh at (day_price_packed h (search ands depth 8)) in (
           search (ands, and_intro) depth 12,
           λ rest e. (λ i. said.0 i ∷ ec i ∷ ev i ∷ el i ∷ eh i ∷ e i) ∙ sym words_at,
         )

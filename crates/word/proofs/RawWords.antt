@@ -65,7 +65,8 @@ IsStrike w = IsBare strike_kind (end call_field) w
 abbrev pub is_strike_above : ℕ → ℕ → Bool
 is_strike_above above w =
     is_bare strike_kind (end call_field) w
-    && (is_ground (field w ground_field) && (ltb above (key_of strike_kind w) && leb (key_of strike_kind w) highest_strike))
+    && (is_ground (field w ground_field)
+    && (ltb above (key_of strike_kind w) && leb (key_of strike_kind w) highest_strike))
 
 marks_bits :
     (w : ℕ) → IsStrike w
@@ -97,7 +98,8 @@ strike_packed above w t =
     (strike_bits w (bare strike_kind (end call_field) w (search ands)), search and_intro)
 
 pub strike_test :
-    (above w h on_ground put call : ℕ) → T (is_legal (Strike h on_ground put call)) → packed (Strike h on_ground put call) ≡ w
+    (above w h on_ground put call : ℕ) → T (is_legal (Strike h on_ground put call))
+    → packed (Strike h on_ground put call) ≡ w
     → above < h → T (is_strike_above above w) × (key_of strike_kind w ≡ h)
 strike_test above w h on_ground put call legal e l =
     let small = fits (Strike h on_ground put call) legal in

@@ -105,7 +105,8 @@ class_fields w number (d ∷ h ∷ t ∷ []) fits e =
 class_fields w number (d ∷ h ∷ t ∷ x ∷ ds) fits e = absurd fits.1.1.1.1
 
 -- its designations stand in the order of the programs
-pub designation_said : (w p : ℕ) → T (is_program p) → designation_in (program p) w ≡ get_or (designations_in w) (p - 1) 0
+pub designation_said : (w p : ℕ) → T (is_program p)
+    → designation_in (program p) w ≡ get_or (designations_in w) (p - 1) 0
 designation_said w p k =
     sym
     (mapped_at (λ g. designation_in g w) dollar_program 0 programs (p - 1)
@@ -128,7 +129,8 @@ class_packed number (d ∷ h ∷ t ∷ x ∷ ds) fits = absurd fits.1.1.1.1
 
 pub strike_fields :
     (w h on_ground put call : ℕ) → Fits (Strike h on_ground put call) → packed (Strike h on_ground put call) ≡ w
-    → (key_of strike_kind w ≡ h) × (field w ground_field ≡ on_ground) × (field w put_field ≡ put) × (field w call_field ≡ call)
+    → (key_of strike_kind w ≡ h) × (field w ground_field ≡ on_ground) × (field w put_field ≡ put)
+    × (field w call_field ≡ call)
 strike_fields w h on_ground put call fits e =
     let marked = h + shifted on_ground ground_field in
     let above = call * 2 + kind_above strike_kind ground_field in (
@@ -165,7 +167,8 @@ fields_packed x fits = ap (λ (k : ℕ). fields_as k (packed x)) (kind_packed x 
     go (Strike h on_ground put call) f =
         let e = strike_fields (packed (Strike h on_ground put call)) h on_ground put call f refl in
         λ i. Strike (e.0 i) (e.1 i) (e.2 i) (e.3 i)
-    go (DayPrice price) f = let e : key_of day_price_kind (packed (DayPrice price)) ≡ price = omega arith in ap DayPrice e
+    go (DayPrice price) f = let e : key_of day_price_kind (packed (DayPrice price)) ≡ price = omega arith in
+        ap DayPrice e
     go (Counter own strikes) f =
         let e = counter_fields (packed (Counter own strikes)) own strikes f refl in λ i. Counter (e.0 i) (e.1 i)
     go Invalid f = refl

@@ -62,4 +62,5 @@ are_figures_at above at ws =
     && (is_of_kind day_price_kind (slice_index ws (at + 3))
     && (is_of_kind day_price_kind (slice_index ws (at + 4))
     && are_day_prices
-    (below_kind (slice_index ws (at + 3))) (below_kind (slice_index ws (at + 1))) (below_kind (slice_index ws (at + 4)))))))
+    (below_kind (slice_index ws (at + 3))) (below_kind (slice_index ws (at + 1)))
+    (below_kind (slice_index ws (at + 4)))))))

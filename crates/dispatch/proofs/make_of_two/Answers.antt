@@ -1,5 +1,5 @@
--- `make_of_two` keeps the contract of the call that the letter names: the letter decides the call, whose own contract is
--- the answer. No other letter names a call.
+-- `make_of_two` keeps the contract of the call that the letter names: the letter decides the call, whose own contract
+-- is the answer. No other letter names a call.
 use Rattle.std.proofs.Common.{◌≢◌, refl, arith, ne_eqb}
 use Rattle.book.specs.Calls.{on, call_c, call_v, effect_on}
 use Rattle.book.proofs.Answered.{made_anyhow}

@@ -1,5 +1,5 @@
--- `compare_lists` runs both lists and compares the words that they leave: its ways out by the lengths, the answer of the
--- first run, and the words.
+-- `compare_lists` runs both lists and compares the words that they leave: its ways out by the lengths, the answer of
+-- the first run, and the words.
 use Rattle.std.proofs.Common.{true, false, sym}
 use Rattle.history.proofs.Comparisons.{compared}
 use Rattle.history.proofs.compare_lists.Goals as goal

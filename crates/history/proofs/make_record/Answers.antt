@@ -1,5 +1,5 @@
--- `make_record` lends the call of a record the front of the pool, as long as it asks for, and keeps the rest; its numbers
--- are those that it counts, or all that it holds.
+-- `make_record` lends the call of a record the front of the pool, as long as it asks for, and keeps the rest; its
+-- numbers are those that it counts, or all that it holds.
 use Rattle.std.proofs.Common.{◌+◌, ◌-◌, get_or, drop, arith}
 use Rattle.dispatch.proofs.NamedCalls.{counted_of}
 use Rattle.history.specs.Records.{count_at, numbers_at, numbers_held, call_at}
