@@ -1,11 +1,12 @@
 -- A run is a book exactly when its length, its head, the words used, the strikes counted and the words past those used
 -- pass their tests: by the layout of the facts. Assumes nothing.
 use Prim.Native.Nat.{ℕ, ◌-◌, ◌≤◌}
-use mathlib.Core.Path.{◌≡◌, sym, ap, ◌∙◌}
+use mathlib.Core.Path.{◌≡◌, refl, sym, ap, ◌∙◌}
 use mathlib.Core.Logic.{◌↔◌}
-use mathlib.Core.Bool.{true, false, not, ◌&&◌}
+use mathlib.Core.Bool.{Bool, true, false, not, ◌&&◌, and-false}
 use mathlib.Core.List.{List, [], ◌∷◌, ◌++◌, map}
 use native.Mathlib.Omega.{arith}
+use native.Mathlib.Nat.{sub-zero}
 use lib.ListN.{length, take, drop, get_or, replicate, length-map, length-drop, length-replicate, take-append-drop}
 use lib.Seq.{drop-cons, take_all, take_at, drop_at, drop-append-le, get_or-take, length-take-le}
 use lib.Dec.{T, leb, ltb, leb→le, le→leb, eqb→eq}
@@ -30,6 +31,7 @@ use Rattle.book.proofs.Forms.{Well, well, well_formed}
 use Rattle.book.proofs.Layouts.{counter_legal, facts_legal, words_legal, used_taken, book_facts, book_exactly}
 use Rattle.scan.specs.Stretches.{leads, AllClasses, are_counted, is_zero}
 use Rattle.scan.proofs.Zeros.{zeros_replicate, replicate_zeros}
+use Rattle.scan.proofs.CountedZeros.{counted_further}
 
 -- the words used, and those past them, as parts of the run are lent
 abbrev pub words_used : List ℕ → List ℕ
@@ -321,6 +323,11 @@ some_words n t =
     let long = true_T (is_length n) t in
     (leb→le first_place n (search ands), leb→le n longest_run (search ands))
 
+-- two tests are one beside a third, where they are when that passes
+where_passed : (a b c : Bool) → (T c → a ≡ b) → (a && c) ≡ (b && c)
+where_passed a b true e = rw (e tt) refl
+where_passed a b false e = and-false a ∙ sym (and-false b)
+
 module _ (ws : List ℕ) where
   good_head : not (is_head ws) ≡ false → T (is_head ws)
   good_head t =
@@ -360,3 +367,18 @@ module _ (ws : List ℕ) where
         zeros = and_right strikes zeros both;
       }))
       (λ b. and_intro strikes zeros ((book_parts ws).0 b).strikes ((book_parts ws).0 b).zeros)
+
+  -- the same where strikes are counted up to an end past the words used: where those past them are not all zero, what
+  -- is counted does not matter
+  pub counts_further :
+      (to : ℕ) → used_in ws ≤ to → to ≤ length ws
+      → is_length (length ws) ≡ true → not (is_head ws) ≡ false → AllClasses (month_in ws) (words_used ws)
+      → are_counted (take (to - 0) ws) && every is_zero (words_past ws) ≡ is_book ws
+  counts_further to l e long h classes =
+      where_passed (are_counted (take (to - 0) ws)) (are_counted (words_used ws)) (every is_zero (words_past ws))
+      (λ z.
+      rw (sub-zero to, sub-zero (used_in ws))
+      (counted_further ws (used_in ws) to (head_within h).0 l e
+      (rw (take_all (length ws - used_in ws) (drop (used_in ws) ws)
+      (omega (arith, length-drop (used_in ws) ws))) at z)))
+      ∙ counts_left long h classes

@@ -6,6 +6,8 @@ pub mod ExpirationLoop
 pub mod FiguresFirst
 pub mod Classes
 pub mod Zeros
+pub mod ZeroWords
+pub mod CountedZeros
 pub mod BookParts
 pub mod FreshBooks
 pub mod OtherBits

@@ -1,3 +1,4 @@
 pub mod NextStrikes
 pub mod Ahead
+pub mod Joined
 pub mod Stretches

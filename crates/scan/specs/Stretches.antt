@@ -1,6 +1,6 @@
 -- Inner: what the loops test, which proofs/ shows to be `is_book`: words that end a book's classes, or a class's series
 -- and the classes after it. Assumes nothing.
-use Rattle.std.specs.Prelude.{ℕ, ◌+◌, ◌≤◌, ◌≡◌, ◌↔◌, Bool, true, ◌&&◌, List, [], ◌∷◌, map, length, drop, T, eqb, leb, ltb}
+use Rattle.std.specs.Prelude.{ℕ, ◌+◌, ◌-◌, ◌%◌, ◌≤◌, min, ◌≡◌, ◌↔◌, Bool, true, ◌&&◌, List, [], ◌∷◌, map, length, drop, T, eqb, leb, ltb}
 use Rattle.logic.specs.Lists.{rises, every, sum}
 use Rattle.word.specs.Limits.{highest_strike, last_month, longest_run}
 use Rattle.word.specs.Head.{first_place, own_in, strikes_in}
@@ -67,6 +67,15 @@ AllClasses now ws = Classes now 0 (λ p. 0) (λ p. own_in p ws) (drop first_plac
 abbrev pub are_counted : List ℕ → Bool
 are_counted ws =
     every (λ g. eqb (strikes_in g.number ws) (sum (strike_of g.number) (drop first_place ws))) programs
+
+-- how many words strikes are counted of at once
+abbrev pub counted_length : ℕ
+counted_length = 8
+
+-- up to where they are counted in a run of n words: past those used, so that none of them is counted singly, or to its
+-- end
+abbrev pub counted_end : ℕ → ℕ → ℕ
+counted_end used n = min (used + (counted_length - (used - first_place) % counted_length) % counted_length) n
 
 -- words that can be those of a book's head, counters and classes
 pub record Scannable (now : ℕ) (ws : List ℕ) : Type 0 where

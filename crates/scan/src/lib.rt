@@ -4,13 +4,13 @@
 ghost use Rattle.std.specs.Prelude.{◌≡◌, ◌↔◌, ◌≤◌, length, T};
 ghost use Rattle.word.specs.Limits.{last_month, longest_run};
 ghost use Rattle.word.specs.Head.{first_place};
-ghost use Rattle.logic.specs.Lists.{every};
 ghost use Rattle.book.specs.Books.{is_book};
 ghost use Rattle.book.specs.Made.{Begun};
 ghost use Rattle.scan.specs.Ahead.{Tells};
-ghost use Rattle.scan.specs.Stretches.{AllClasses, Scannable, Stretched, are_counted, are_strikes, is_zero};
+ghost use Rattle.scan.specs.Stretches.{AllClasses, Scannable, Stretched, are_counted, are_strikes, counted_end};
 
 use crate::ahead::{Ahead, look_ahead, next_other, skip_to};
+use crate::all_zero::are_zero;
 use gap::zeros::zero_all;
 use word::answer::{Answer, Refusal};
 use word::caps::{DollarCount, HalfCount, TwoFiftyCount};
@@ -24,6 +24,7 @@ use word::strike::{Strike, is_first_strike};
 use word::{counter, figures, head};
 
 mod ahead;
+mod all_zero;
 
 // What is ahead of where the expirations of a class end, or that they are no expirations of a book.
 #[derive(Clone, Copy)]
@@ -119,17 +120,18 @@ fn are_counted(s: &[u32]) -> bool
     (said[0] == among[0]) & ((said[1] == among[1]) & (said[2] == among[2]))
 }
 
-// Whether every word is zero; without an early exit, so that it runs many words at a time.
-fn are_zero(s: &[u32]) -> bool
-    ensures { result ≡ every is_zero s.now }
+// How many words strikes are counted of at once.
+const COUNTED: usize = 8;
+
+// Up to where the strikes are counted: past the words used, which zeros follow, so that none is counted singly; or to
+// the end.
+fn counted_end(used: usize, n: usize) -> usize
+    requires { (first_place ≤ used) × ((used ≤ n) × (n ≤ longest_run)) }
+    ensures { result ≡ counted_end used n }
 {
-    let mut all = 0;
-    let mut i = 0;
-    while i < s.len() {
-        all = all | s[i];
-        i += 1;
-    }
-    all == 0
+    let single = (used - head::FIRST) % COUNTED;
+    let end = used + (COUNTED - single) % COUNTED;
+    if end < n { end } else { n }
 }
 
 // Whether the run is a book.
@@ -148,7 +150,8 @@ pub fn is_book(run: &[u32]) -> bool
     if !are_classes(head::month(words), &words[0..used]) {
         return false;
     }
-    are_counted(&words[0..used]) & are_zero(&words[used..])
+    let end = counted_end(used, n);
+    are_counted(&words[0..end]) & are_zero(&words[used..])
 }
 
 // Makes a fresh book of the run, whatever it held; a run of a bad length is refused and keeps its words.

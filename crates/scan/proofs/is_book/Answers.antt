@@ -1,9 +1,10 @@
 -- `is_book` tests what a book is: each return is one law of the parts of a book.
-use Rattle.std.proofs.Common.{◌≡◌, ◌↔◌, T, not, ◌&&◌, ◌∙◌, sym, ap}
-use Rattle.word.specs.Head.{month_in}
+use Rattle.std.proofs.Common.{◌≤◌, ◌↔◌, T, not, ◌&&◌, ◌∙◌, sym, ap, length}
+use Rattle.word.specs.Head.{month_in, used_in}
 use Rattle.logic.proofs.Tests.{true_T}
-use Rattle.scan.specs.Stretches.{AllClasses, are_counted}
-use Rattle.scan.proofs.BookParts.{words_used, wrong_length, wrong_head, wrong_classes, counts_left}
+use Rattle.scan.specs.Stretches.{AllClasses}
+use Rattle.scan.proofs.BookParts.{words_used, wrong_length, wrong_head, wrong_classes, head_within, counts_further}
+use Rattle.scan.proofs.CountedZeros.{end_within}
 use Rattle.scan.proofs.is_book.Goals as goal
 use Rattle.scan.proofs.is_book.Goals.{After-are_classes}
 
@@ -29,11 +30,13 @@ returns-then-not-are_classes c =
 
 pub returns : goal.returns
 returns c =
-    let strikes : c.are_counted.result ≡ are_counted (words_used c.args.run.now) =
-    rw (← c.used-used.ensures) c.are_counted.ensures in
+    let ws = c.args.run.now in
+    let long = sym c.is_length.ensures ∙ c.if-not-is_length.false in
+    let headed = ap not (sym c.is_head.ensures ∙ c.if-not-is_head.false) in
     let past = rw c.used-used.ensures at c.are_zero.ensures in
-    (λ i. strikes i && past i)
-    ∙ counts_left c.args.run.now (sym c.is_length.ensures ∙ c.if-not-is_length.false)
-    (ap not (sym c.is_head.ensures ∙ c.if-not-is_head.false))
+    let to : (used_in ws ≤ c.counted_end-end.result) × (c.counted_end-end.result ≤ length ws) =
+    rw (c.counted_end-end.ensures, c.used-used.ensures) (end_within _ _ (head_within ws headed).1) in
+    (λ i. c.are_counted.ensures i && past i)
+    ∙ counts_further ws c.counted_end-end.result to.0 to.1 long headed
     ((classes (goal.at.returns c).After-are_classes).0
     (true_T c.are_classes.result c.if-not-are_classes.false))
