@@ -5,7 +5,7 @@ ghost use Rattle.scan.specs.Joined.{joined, joined_length};
 ghost use Rattle.scan.specs.Stretches.{is_zero};
 
 // How many words are joined at once.
-const BLOCK: usize = 128;
+const JOINED: usize = 128;
 
 // The bits of the block of words that begins at `from`, joined to `all`. The constant lets it compile to a stretch of
 // code that is as fast wherever it lies.
@@ -15,7 +15,7 @@ fn join_block(s: &[u32], from: usize, all: u32) -> u32
 {
     let mut bits = all;
     let mut i = 0;
-    while i < BLOCK {
+    while i < JOINED {
         bits = bits | s[from + i];
         i += 1;
     }
@@ -30,7 +30,7 @@ fn join_blocks(s: &[u32], count: usize) -> u32
     let mut bits = 0;
     let mut k = 0;
     while k < count {
-        bits = join_block(s, k * BLOCK, bits);
+        bits = join_block(s, k * JOINED, bits);
         k += 1;
     }
     bits
@@ -54,6 +54,6 @@ fn join_rest(s: &[u32], from: usize, all: u32) -> u32
 pub fn are_zero(s: &[u32]) -> bool
     ensures { result ≡ every is_zero s.now }
 {
-    let count = s.len() / BLOCK;
-    join_rest(s, count * BLOCK, join_blocks(s, count)) == 0
+    let count = s.len() / JOINED;
+    join_rest(s, count * JOINED, join_blocks(s, count)) == 0
 }
