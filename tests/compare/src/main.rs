@@ -6,6 +6,7 @@
 
 mod counters;
 mod examples;
+mod failures;
 mod known;
 mod lists;
 mod pair;

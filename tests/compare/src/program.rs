@@ -1,26 +1,29 @@
 //! The sheet program over sheets of several pieces, byte by byte: from a file, which is read in whole
 //! pieces, and through a pipe, at once and in parts of odd sizes.
 
+use crate::failures;
 use crate::proved::Proved;
 use calls::program::{filed, piped, same};
 use calls::{pieces, Random, StrikeBook};
 use second::{sheet_program, PlainBook};
+use std::io;
 use std::path::{Path, PathBuf};
 
 /// Where `tools/build` leaves the program.
 const PROGRAM: &str = concat!(env!("CARGO_MANIFEST_DIR"), "/../../target/bin/sheet");
 
-/// A file beside this program.
-fn file() -> std::io::Result<PathBuf> {
-    Ok(std::env::current_exe()?.with_file_name("pieces.txt"))
+/// A file beside this program, which the sheet is written to.
+pub fn stored(sheet: &[u8]) -> io::Result<PathBuf> {
+    let file = std::env::current_exe()?.with_file_name("pieces.txt");
+    std::fs::write(&file, sheet)?;
+    Ok(file)
 }
 
 /// Compares what the program prints with what is wanted, however the sheet comes.
 fn print(sheet: &[u8], wanted: &[u8]) -> Result<(), String> {
     let program = Path::new(PROGRAM);
-    let told = |error: std::io::Error| format!("{PROGRAM}: {error}");
-    let file = file().map_err(told)?;
-    std::fs::write(&file, sheet).map_err(told)?;
+    let told = |error: io::Error| format!("{PROGRAM}: {error}");
+    let file = stored(sheet).map_err(told)?;
     let ways = [
         ("from a file", filed(program, &file)),
         ("through a pipe", piped(program, &[sheet])),
@@ -56,5 +59,5 @@ pub fn compare() -> Result<(), String> {
         wanted.len(),
         others.len()
     );
-    Ok(())
+    failures::compare(Path::new(PROGRAM), &long)
 }
