@@ -9,3 +9,4 @@ pub mod Walks
 pub mod Multiples
 pub mod Numbers
 pub mod Stores
+pub mod Results

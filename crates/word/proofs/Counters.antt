@@ -1,16 +1,17 @@
--- What counters hold is small enough for their bits; and strikes counted word by word: the counts and what the words
--- from the index on add are together those of all words. Assumes nothing.
-use Rattle.std.proofs.Common.{◌≡◌, ℕ, ◌+◌, ◌-◌, ◌^◌, ◌<◌, ◌≤◌, Bool, true, false, cond, ◌&&◌, ◌||◌, T, eqb, leb, List, [], ◌∷◌, length, get_or, drop, sym, refl, ap, ◌∙◌, add-one, arith, le→leb, drop_of_length-le, drop-cons, eq-eqb, ne_eqb, eqb-true}
+-- What counters hold is small enough for their bits; and strikes counted word by word: a word more adds its own.
+-- Assumes nothing.
+use Rattle.std.proofs.Common.{◌≡◌, ℕ, ◌+◌, ◌-◌, ◌^◌, ◌<◌, ◌≤◌, Bool, true, false, cond, ◌&&◌, ◌||◌, T, eqb, leb, List, [], ◌∷◌, length, get_or, take, sym, refl, ap, ◌∙◌, add-one, arith, le→leb, eq-eqb, ne_eqb, eqb-true}
 use borrow.Author.Tests.{eqb-false}
 use Rattle.logic.specs.Lists.{sum}
 use Rattle.logic.proofs.Tests.{choose, and_intro}
-use Rattle.logic.proofs.Lists.{sum_few}
+use Rattle.logic.proofs.Lists.{sum_append, sum_few}
+use Rattle.std.proofs.Math.Seq.{take-suc}
 use Rattle.word.specs.Kinds.{kind_of, is_of_kind, strike_kind, ground_field, counter_kind, strikes_field}
 use Rattle.word.specs.Field.{field}
 use Rattle.word.specs.Limits.{longest_run}
 use Rattle.word.specs.Programs.{program, program_count, is_program, IsProgram, is_of}
 use Rattle.word.specs.Grounds.{dollar_ground, half_ground, wing_ground, two_fifty_ground}
-use Rattle.word.specs.Counters.{by_program, strikes_for, AreFew, ground_key, key_on, is_key_of, one_of, strike_of, strikes_among, strike_among, strikes_said, without}
+use Rattle.word.specs.Counters.{by_program, strikes_for, AreFew, ground_key, key_on, is_key_of, one_of, strike_of, strikes_among, strike_among, together, strikes_said, without}
 use Rattle.word.specs.Head.{own_in, strikes_in}
 use Rattle.word.proofs.Fields.{field_less}
 use Rattle.word.proofs.EachProgram.{each_program}
@@ -116,36 +117,14 @@ strike_keyed w p k =
     both true b = refl
     both false b = refl
 
--- the count has come to the index i
-pub record Counting (ws : List ℕ) (i : ℕ) (strikes : List ℕ) : Type 0 where
-  pub within : i ≤ length ws
-  pub few : (p : ℕ) → T (is_program p) → strikes_for strikes p ≤ i
-  pub total : (p : ℕ) → T (is_program p) → strikes_for strikes p + sum (strike_of p) (drop i ws) ≡ sum (strike_of p) ws
-
-pub count_start : (ws : List ℕ) → Counting ws 0 (0 ∷ 0 ∷ 0 ∷ [])
-count_start ws = record {
-  within = omega arith;
-  few = each_program _ (omega arith, (omega arith, (omega arith, tt)));
-  total = each_program _ (omega arith, (omega arith, (omega arith, tt)));
-}
-
-module _ {ws : List ℕ} {i : ℕ} {strikes : List ℕ} (c : Counting ws i strikes) where
-  pub count_more :
-      (more : List ℕ) → i < length ws
-      → ((p : ℕ) → T (is_program p) → strikes_for more p ≡ strikes_for strikes p + strike_of p (get_or ws i 0))
-      → Counting ws (i + 1) more
-  count_more more l e = record {
-    within = omega arith;
-    few = λ p k. omega (arith, e p k, c.few p k, strike_at_most p (get_or ws i 0));
-    total = λ p k. omega (arith, e p k, c.total p k, here p);
-  }
-    where
-      here :
-          (p : ℕ)
-          → sum (strike_of p) (drop i ws) ≡ strike_of p (get_or ws i 0) + sum (strike_of p) (drop (i + 1) ws)
-      here p =
-          ap (sum (strike_of p)) (drop-cons ws i 0 l)
-          ∙ ap (λ (n : ℕ). strike_of p (get_or ws i 0) + sum (strike_of p) (drop n ws)) (sym (add-one i))
-
-  pub count_done : length ws ≤ i → (p : ℕ) → T (is_program p) → strikes_for strikes p ≡ sum (strike_of p) ws
-  count_done l p k = omega (arith, c.total p k, ap (sum (strike_of p)) (drop_of_length-le ws l))
+-- the strikes among the words before an index, and that of the word there
+pub among_next :
+    (ws : List ℕ) (i : ℕ) → i < length ws
+    → together (strikes_among (take i ws)) (strike_among (get_or ws i 0)) ≡ strikes_among (take (i + 1) ws)
+among_next ws i l = rw (next 1, next 2, next 3)
+  where
+    next : (p : ℕ) → sum (strike_of p) (take (i + 1) ws) ≡ sum (strike_of p) (take i ws) + strike_of p (get_or ws i 0)
+    next p =
+        let last : sum (strike_of p) (get_or ws i 0 ∷ []) ≡ strike_of p (get_or ws i 0) = omega arith in
+        ap (sum (strike_of p)) (ap (λ (n : ℕ). take n ws) (add-one i) ∙ take-suc ws i 0 l)
+        ∙ (sum_append (strike_of p) (take i ws) (get_or ws i 0 ∷ []) ∙ ap (λ (n : ℕ). sum (strike_of p) (take i ws) + n) last)

@@ -1,8 +1,11 @@
--- A law about programs is a row for each of their numbers: by induction over the numbers. Assumes nothing.
-use Rattle.std.proofs.Common.{ℕ, zero, suc, ◌+◌, ◌<◌, ◌≤◌, T, List, [], ◌∷◌, subst, ⊎_elim, arith, leb→le}
+-- A law about programs is a row for each of their numbers: by induction over the numbers; and a program that code
+-- names has one of them, by cases. Assumes nothing.
+use Rattle.std.proofs.Common.{◌≡◌, true, refl, ℕ, zero, suc, ◌+◌, ◌<◌, ◌≤◌, T, List, [], ◌∷◌, subst, ⊎_elim, arith, leb→le}
 use Rattle.logic.specs.Lists.{up_from}
 use Rattle.logic.proofs.Tests.{ands, eq_or_not}
-use Rattle.word.specs.Programs.{program_count, is_program}
+use Rattle.word.specs.declared.programs.Program.{Program}
+use Rattle.word.specs.declared.programs.Program.TheVariants.{Dollar, Half, TwoFifty}
+use Rattle.word.specs.Programs.{program_count, is_program, number_of}
 
 -- a row for each of the numbers
 abbrev pub Rows : (ℕ → Type 0) → List ℕ → Type 0
@@ -21,3 +24,8 @@ each_program P rows p k =
         (λ e. subst P e rows.0)
         (λ e. go n (suc from) rows.1 (omega arith) (omega arith))
         (eq_or_not from p)
+
+pub named : (p : Program) → is_program (number_of p) ≡ true
+named Dollar = refl
+named Half = refl
+named TwoFifty = refl

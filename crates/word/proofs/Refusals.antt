@@ -1,10 +1,10 @@
 -- No refusal is numbered 0, so that a call is accepted exactly when its number is 0: by cases. Assumes nothing.
-use Rattle.std.proofs.Common.{◌≡◌, false, eqb, sym, refl}
+use Rattle.std.proofs.Common.{◌≡◌, false, eqb, sym, refl, Ok, Err}
 use Rattle.word.specs.Answers.{refusal_number, answer_number, is_accepted}
 use Rattle.word.specs.declared.answer.Refusal.{Refusal}
 use Rattle.word.specs.declared.answer.Refusal.TheVariants.{NotABook, BeyondLimits, AlreadyOpen, NotOpen, MonthOutside, AlreadyStanding, NotStanding, NoClose, NotQualified, CapReached, OffGrid, OutOfRange, TooClose, OpenInterest, OutOfWords, CloseOutside}
-use Rattle.word.specs.declared.answer.Answer.{Answer}
-use Rattle.word.specs.declared.answer.Answer.TheVariants.{Done, Ground, Removed, Listed, Refused}
+use Rattle.word.specs.Answers.{Answer}
+use Rattle.word.specs.declared.answer.Accepted.TheVariants.{Done, Ground, Removed, Listed}
 
 pub refusal_not_zero : (why : Refusal) → eqb (refusal_number why) 0 ≡ false
 refusal_not_zero NotABook = refl
@@ -26,8 +26,8 @@ refusal_not_zero CloseOutside = refl
 
 -- "An accepted call answers 0"
 pub accepted_zero : (a : Answer) → is_accepted a ≡ eqb (answer_number a) 0
-accepted_zero Done = refl
-accepted_zero (Ground g) = refl
-accepted_zero (Removed count) = refl
-accepted_zero (Listed count) = refl
-accepted_zero (Refused why) = sym (refusal_not_zero why)
+accepted_zero (Ok Done) = refl
+accepted_zero (Ok (Ground g)) = refl
+accepted_zero (Ok (Removed count)) = refl
+accepted_zero (Ok (Listed count)) = refl
+accepted_zero (Err why) = sym (refusal_not_zero why)

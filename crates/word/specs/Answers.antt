@@ -1,10 +1,10 @@
 -- Document 01, "Who draws which number": the fifteen numbers, and request #103, 16; "The lowest number that applies is
 -- given.", "An accepted call answers 0 and a value": the number and the value of each answer. Assumes nothing.
-use Rattle.std.specs.Prelude.{ℕ, Bool, true, false}
+use Rattle.std.specs.Prelude.{ℕ, Bool, true, false, Result, Ok, Err}
 use Rattle.word.specs.declared.answer.Refusal.{Refusal}
 use Rattle.word.specs.declared.answer.Refusal.TheVariants.{NotABook, BeyondLimits, AlreadyOpen, NotOpen, MonthOutside, AlreadyStanding, NotStanding, NoClose, NotQualified, CapReached, OffGrid, OutOfRange, TooClose, OpenInterest, OutOfWords, CloseOutside}
-use Rattle.word.specs.declared.answer.Answer.{Answer}
-use Rattle.word.specs.declared.answer.Answer.TheVariants.{Done, Ground, Removed, Listed, Refused}
+use Rattle.word.specs.declared.answer.Accepted.{Accepted}
+use Rattle.word.specs.declared.answer.Accepted.TheVariants.{Done, Ground, Removed, Listed}
 
 abbrev pub refusal_number : Refusal → ℕ
 refusal_number NotABook = 1
@@ -63,34 +63,34 @@ refusal_value OpenInterest = 0
 refusal_value (OutOfWords count) = count
 refusal_value CloseOutside = 0
 
--- "An accepted call answers 0 and a value"
+-- "An accepted call answers 0 and a value"; a refused one its refusal
+abbrev pub Answer : Type 0
+Answer = Result Accepted Refusal
+
 abbrev pub answer_number : Answer → ℕ
-answer_number Done = 0
-answer_number (Ground g) = 0
-answer_number (Removed count) = 0
-answer_number (Listed count) = 0
-answer_number (Refused why) = refusal_number why
+answer_number (Ok a) = 0
+answer_number (Err why) = refusal_number why
 
 -- "the ground for `L` and `J`, strikes removed for `R`, the count for `A`. Other calls carry 0"
+abbrev pub accepted_value : Accepted → ℕ
+accepted_value Done = 0
+accepted_value (Ground g) = g
+accepted_value (Removed count) = count
+accepted_value (Listed count) = count
+
 abbrev pub answer_value : Answer → ℕ
-answer_value Done = 0
-answer_value (Ground g) = g
-answer_value (Removed count) = count
-answer_value (Listed count) = count
-answer_value (Refused why) = refusal_value why
+answer_value (Ok a) = accepted_value a
+answer_value (Err why) = refusal_value why
 
 -- whether the call is accepted
 abbrev pub is_accepted : Answer → Bool
-is_accepted Done = true
-is_accepted (Ground g) = true
-is_accepted (Removed count) = true
-is_accepted (Listed count) = true
-is_accepted (Refused why) = false
+is_accepted (Ok a) = true
+is_accepted (Err why) = false
 
 -- "the count for `A`": how many words a call has written to the front of the second run
 abbrev pub strikes_listed : Answer → ℕ
-strikes_listed Done = 0
-strikes_listed (Ground g) = 0
-strikes_listed (Removed count) = 0
-strikes_listed (Listed count) = count
-strikes_listed (Refused why) = 0
+strikes_listed (Ok Done) = 0
+strikes_listed (Ok (Ground g)) = 0
+strikes_listed (Ok (Removed count)) = 0
+strikes_listed (Ok (Listed count)) = count
+strikes_listed (Err why) = 0

@@ -1,11 +1,12 @@
 -- Inner: what words add to the counters of a run, and what is asked where counters are written. Assumes nothing.
-use Rattle.std.specs.Prelude.{ℕ, ◌+◌, ◌-◌, ◌^◌, ◌<◌, ◌≤◌, Bool, cond, T, List, [], ◌∷◌, map, length, nat_eq, slice_index}
+use Rattle.std.specs.Prelude.{ℕ, ◌+◌, ◌-◌, ◌^◌, ◌<◌, ◌≤◌, Bool, cond, T, Result, List, [], ◌∷◌, map, length, nat_eq, slice_index}
 use Rattle.logic.specs.Lists.{some, sum}
+use Rattle.word.specs.declared.answer.Refusal.{Refusal}
 use Rattle.word.specs.declared.counter.Counts.{Counts}
 use Rattle.word.specs.Field.{field}
 use Rattle.word.specs.Limits.{longest_run}
 use Rattle.word.specs.Kinds.{kind_field, kind_of, strike_kind, ground_field, is_of_kind}
-use Rattle.word.specs.Programs.{Program, programs, program, is_program, IsProgram, is_of}
+use Rattle.word.specs.Programs.{Program, programs, program, is_program, is_of}
 use Rattle.word.specs.Codec.{Counter, Fits, shifted, kind_placed}
 use Rattle.word.specs.Head.{first_place, own_in, strikes_in, with_counter}
 
@@ -13,16 +14,18 @@ use Rattle.word.specs.Head.{first_place, own_in, strikes_in, with_counter}
 abbrev pub counts_in : ℕ → List ℕ → Counts
 counts_in p ws = record { own = own_in p ws; strikes = strikes_in p ws }
 
--- the counter of the program p can be written
-pub record Writable (ws : List ℕ) (p : ℕ) (counts : Counts) : Type 0 where
+-- what a reader of a counter is answered
+abbrev pub CounterAnswer : Type 0
+CounterAnswer = Result Counts Refusal
+
+-- a counter can be written
+pub record Writable (ws : List ℕ) (counts : Counts) : Type 0 where
   pub room : first_place ≤ length ws
-  pub numbered : IsProgram p
   pub fits : Fits (Counter counts.own counts.strikes)
 
--- so many strikes, or own classes, can be set in the counter of the program p
-pub record Settable (ws : List ℕ) (p count width : ℕ) : Type 0 where
+-- so many strikes, or own classes, can be set in a counter
+pub record Settable (ws : List ℕ) (count width : ℕ) : Type 0 where
   pub room : first_place ≤ length ws
-  pub numbered : IsProgram p
   pub small : count < 2 ^ width
 
 -- ---- strikes of each program, in their order

@@ -2,10 +2,14 @@
 -- "A new d of 1 needs a close below 5,000 for $1, or .."; requests #101, "a designation in bits 18–19 of the class
 -- word, `D` program 3, and its own counter", and #104, "that program's grounds": one row for each program. Assumes
 -- nothing.
-use Rattle.std.specs.Prelude.{◌≡◌, ℕ, ◌-◌, ◌<◌, ◌≤◌, Bool, true, false, ◌&&◌, List, [], ◌∷◌, map, length, nat_eq, nat_le, nat_lt, slice_index_or}
+use Rattle.std.specs.Prelude.{◌≡◌, ℕ, ◌-◌, ◌<◌, ◌≤◌, Bool, true, false, ◌&&◌, Result, MatchResult, List, [], ◌∷◌, map, length, nat_eq, nat_le, nat_lt, slice_index_or}
 use Rattle.logic.specs.Lists.{some}
+use Rattle.word.specs.declared.answer.Refusal.{Refusal}
+use Rattle.word.specs.declared.answer.Refusal.TheVariants.{BeyondLimits}
 use Rattle.word.specs.declared.class.ClassRecord.{ClassRecord}
 use Rattle.word.specs.declared.field.Field.{Field}
+use Rattle.word.specs.declared.programs.Program.{Program as Named}
+use Rattle.word.specs.declared.programs.Program.TheVariants.{Dollar, Half, TwoFifty}
 use Rattle.word.specs.Field.{field, end}
 use Rattle.word.specs.Grounds.{dollar_ground, half_ground, wing_ground, two_fifty_ground}
 use Rattle.word.specs.Limits.{between, is_designation}
@@ -92,6 +96,16 @@ IsProgram p = (1 ≤ p) × (p ≤ program_count)
 -- the program of the number p; of no program's number, one that no call looks at
 abbrev pub program : ℕ → Program
 program p = slice_index_or programs (p - 1) dollar_program
+
+-- the number of a program that code names
+abbrev pub number_of : Named → ℕ
+number_of Dollar = dollar_program.number
+number_of Half = half_program.number
+number_of TwoFifty = two_fifty_program.number
+
+-- the program of the number p; "2 a number beyond its limits" where no program has it
+abbrev pub Numbered : ℕ → Result Named Refusal → Type 0
+Numbered p r = MatchResult r (λ g. number_of g ≡ p) (λ why. (why ≡ BeyondLimits) × (is_program p ≡ false))
 
 -- #104: whether a strike on the ground is one of the program's
 abbrev pub is_of : ℕ → Program → Bool

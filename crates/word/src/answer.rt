@@ -1,6 +1,6 @@
 // What a call answers.
 ghost use Rattle.std.specs.Prelude.{◌≡◌};
-ghost use Rattle.word.specs.Answers.{refusal_number, refusal_value, answer_number, answer_value, is_accepted};
+ghost use Rattle.word.specs.Answers.{refusal_number, refusal_value, accepted_value, answer_number, answer_value};
 
 // Why a call is refused, by number from 1 to 16.
 #[derive(Clone, Copy)]
@@ -24,16 +24,19 @@ pub enum Refusal {
     CloseOutside,
 }
 
+// What an accepted call answers beside its number 0.
 #[derive(Clone, Copy)]
-pub enum Answer {
+pub enum Accepted {
     Done,
     Ground(u32),
     Removed(u32),
     Listed(u32),
-    Refused(Refusal),
 }
 
+pub type Answer = Result<Accepted, Refusal>;
+
 impl Refusal {
+    // `as` would give the numbers of variants only if none held a value.
     pub fn number(self) -> u32
         ensures { result ≡ refusal_number self }
     {
@@ -61,60 +64,38 @@ impl Refusal {
         ensures { result ≡ refusal_value self }
     {
         match self {
-            Refusal::NotABook => 0,
-            Refusal::BeyondLimits => 0,
-            Refusal::AlreadyOpen => 0,
-            Refusal::NotOpen => 0,
-            Refusal::MonthOutside => 0,
-            Refusal::AlreadyStanding => 0,
-            Refusal::NotStanding => 0,
-            Refusal::NoClose => 0,
-            Refusal::NotQualified => 0,
-            Refusal::CapReached => 0,
-            Refusal::OffGrid => 0,
-            Refusal::OutOfRange => 0,
-            Refusal::TooClose => 0,
-            Refusal::OpenInterest => 0,
             Refusal::OutOfWords(count) => count,
-            Refusal::CloseOutside => 0,
+            _ => 0,
         }
     }
 }
 
-impl Answer {
-    pub fn number(self) -> u32
-        ensures { result ≡ answer_number self }
-    {
-        match self {
-            Answer::Done => 0,
-            Answer::Ground(_) => 0,
-            Answer::Removed(_) => 0,
-            Answer::Listed(_) => 0,
-            Answer::Refused(why) => why.number(),
-        }
-    }
-
+impl Accepted {
     pub fn value(self) -> u32
-        ensures { result ≡ answer_value self }
+        ensures { result ≡ accepted_value self }
     {
         match self {
-            Answer::Done => 0,
-            Answer::Ground(g) => g,
-            Answer::Removed(count) => count,
-            Answer::Listed(count) => count,
-            Answer::Refused(why) => why.value(),
+            Accepted::Done => 0,
+            Accepted::Ground(value) | Accepted::Removed(value) | Accepted::Listed(value) => value,
         }
     }
+}
 
-    pub fn is_accepted(self) -> bool
-        ensures { result ≡ is_accepted self }
-    {
-        match self {
-            Answer::Done => true,
-            Answer::Ground(_) => true,
-            Answer::Removed(_) => true,
-            Answer::Listed(_) => true,
-            Answer::Refused(_) => false,
-        }
+// The number of an answer: 0 where the call is accepted, else that of the refusal.
+pub fn number_of(answer: Answer) -> u32
+    ensures { result ≡ answer_number answer }
+{
+    match answer {
+        Ok(_) => 0,
+        Err(refusal) => refusal.number(),
+    }
+}
+
+pub fn value_of(answer: Answer) -> u32
+    ensures { result ≡ answer_value answer }
+{
+    match answer {
+        Ok(accepted) => accepted.value(),
+        Err(refusal) => refusal.value(),
     }
 }

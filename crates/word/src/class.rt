@@ -1,9 +1,9 @@
 // The class record: what the book holds of a class beside its series.
 ghost use Rattle.std.specs.Prelude.{◌≡◌};
 ghost use Rattle.word.specs.Class.{opened, with_close, with_low_high, with_volume, designation, with_designation};
-ghost use Rattle.word.specs.Programs.{IsProgram};
+ghost use Rattle.word.specs.Programs.{number_of};
 
-use crate::programs::{COUNT, DOLLAR, HALF};
+use crate::programs::{COUNT, Program};
 
 #[derive(Clone, Copy)]
 pub struct ClassRecord {
@@ -16,7 +16,7 @@ pub struct ClassRecord {
     pub low: u32,
     pub high: u32,
     // The designation in each program, the $1 program's first: 0 none, 1 ours, 2 another exchange's.
-    pub designations: [u32; COUNT as usize],
+    pub designations: [u32; COUNT],
 }
 
 impl ClassRecord {
@@ -29,86 +29,51 @@ impl ClassRecord {
             volume: 0,
             low: 0,
             high: 0,
-            designations: [0; COUNT as usize],
+            designations: [0; COUNT],
         }
     }
 
     pub fn with_close(self, price: u32) -> ClassRecord
         ensures { result ≡ with_close price self }
     {
-        let designations = self.designations;
         ClassRecord {
-            number: self.number,
             close: price,
-            volume: self.volume,
             low: price,
             high: price,
-            designations,
+            ..self
         }
     }
 
     pub fn with_low_high(self, low: u32, high: u32) -> ClassRecord
         ensures { result ≡ with_low_high low high self }
     {
-        let designations = self.designations;
-        ClassRecord {
-            number: self.number,
-            close: self.close,
-            volume: self.volume,
-            low,
-            high,
-            designations,
-        }
+        ClassRecord { low, high, ..self }
     }
 
     pub fn with_volume(self, contracts: u32) -> ClassRecord
         ensures { result ≡ with_volume contracts self }
     {
-        let designations = self.designations;
         ClassRecord {
-            number: self.number,
-            close: self.close,
             volume: contracts,
-            low: self.low,
-            high: self.high,
-            designations,
+            ..self
         }
     }
 
-    // The designation in the program p.
-    pub fn designation(self, p: u32) -> u32
-        requires { IsProgram p }
-        ensures { result ≡ designation p self }
+    // The designation in a program.
+    pub fn designation(self, program: Program) -> u32
+        ensures { result ≡ designation (number_of program) self }
     {
-        let designations = self.designations;
-        if p == DOLLAR {
-            return designations[0];
-        }
-        if p == HALF {
-            return designations[1];
-        }
-        designations[2]
+        self.designations[program.index()]
     }
 
-    pub fn with_designation(self, p: u32, d: u32) -> ClassRecord
-        requires { IsProgram p }
-        ensures { result ≡ with_designation p d self }
+    pub fn with_designation(self, program: Program, d: u32) -> ClassRecord
+        ensures { result ≡ with_designation (number_of program) d self }
     {
         let mut designations = self.designations;
-        if p == DOLLAR {
-            designations[0] = d;
-        } else if p == HALF {
-            designations[1] = d;
-        } else {
-            designations[2] = d;
-        }
+        designations[program.index()] = d;
         ClassRecord {
-            number: self.number,
-            close: self.close,
-            volume: self.volume,
-            low: self.low,
-            high: self.high,
             designations,
+            ..self
         }
     }
 }

@@ -3,7 +3,7 @@
 ghost use Rattle.std.specs.Prelude.{◌≡◌, ◌≤◌, length};
 ghost use Rattle.word.specs.Limits.{longest_run};
 ghost use Rattle.word.specs.Kinds.{counter_kind, strikes_field};
-ghost use Rattle.word.specs.Programs.{IsProgram, program, programs};
+ghost use Rattle.word.specs.Programs.{number_of, program, programs};
 ghost use Rattle.word.specs.Head.{are_counters, first_place, is_counter, with_counter};
 ghost use Rattle.word.specs.Counters.{Addable, AreAmong, AreFew, Settable, Writable, counts_in, ground_key, is_key_of, own_set, strike_among, strike_of, strikes_added, strikes_among, strikes_said, strikes_set, strikes_taken, together, with_strikes, without};
 
@@ -12,14 +12,14 @@ use crate::codec::counter_word;
 use crate::field::{Field, field_of};
 use crate::grounds::{DOLLAR_GROUND, HALF_GROUND, TWO_FIFTY_GROUND, WING_GROUND};
 use crate::kind::{COUNTER, KINDRED, STRIKE, is_bare, key_of, kind_of};
-use crate::programs::{COUNT, DOLLAR, HALF, TWO_FIFTY};
+use crate::programs::{COUNT, Program};
 use crate::strike::GROUND;
 
 // Where a counter holds its strikes.
 pub const STRIKES: Field = Field { low: 8, width: 16 };
 
 // No strikes of any program.
-pub const NO_STRIKES: [u32; COUNT as usize] = [0; COUNT as usize];
+pub const NO_STRIKES: [u32; COUNT] = [0; COUNT];
 
 // What the counter of a program says.
 #[derive(Clone, Copy)]
@@ -29,11 +29,7 @@ pub struct Counts {
 }
 
 // What a reader of a counter is answered.
-#[derive(Clone, Copy)]
-pub enum CounterAnswer {
-    Counted(Counts),
-    Refused(Refusal),
-}
+pub type CounterAnswer = Result<Counts, Refusal>;
 
 impl Counts {
     pub const NONE: Counts = Counts { own: 0, strikes: 0 };
@@ -51,27 +47,27 @@ pub fn are_counters(run: &[u32]) -> bool
     requires { first_place ≤ length run.now }
     ensures { result ≡ are_counters run.now }
 {
-    is_counter(run[DOLLAR as usize])
-        & (is_counter(run[HALF as usize]) & is_counter(run[TWO_FIFTY as usize]))
+    is_counter(run[Program::Dollar as usize])
+        & (is_counter(run[Program::Half as usize]) & is_counter(run[Program::TwoFifty as usize]))
 }
 
-// What the counter of the program p says.
-pub fn read(run: &[u32], p: u32) -> Counts
-    requires { (first_place ≤ length run.now) × IsProgram p }
-    ensures { result ≡ counts_in p run.now }
+// What the counter of a program says.
+pub fn read(run: &[u32], program: Program) -> Counts
+    requires { first_place ≤ length run.now }
+    ensures { result ≡ counts_in (number_of program) run.now }
 {
-    let w = run[p as usize];
+    let w = run[program as usize];
     Counts {
         own: key_of(w, COUNTER),
         strikes: field_of(w, STRIKES),
     }
 }
 
-pub fn write(run: &mut [u32], p: u32, counts: Counts)
-    requires { Writable run.old p counts }
-    ensures { run.new ≡ with_counter p counts.own counts.strikes run.old }
+pub fn write(run: &mut [u32], program: Program, counts: Counts)
+    requires { Writable run.old counts }
+    ensures { run.new ≡ with_counter (number_of program) counts.own counts.strikes run.old }
 {
-    run[p as usize] = counter_word(counts.own, counts.strikes);
+    run[program as usize] = counter_word(counts.own, counts.strikes);
 }
 
 // The kind and the ground of a word, without its other fields.
@@ -91,61 +87,37 @@ const WING_KEY: u32 = STRIKE.number * KINDRED + (WING_GROUND << GROUND.low);
 const TWO_FIFTY_KEY: u32 = STRIKE.number * KINDRED + (TWO_FIFTY_GROUND << GROUND.low);
 
 // Whether they are those of strike words on a ground of the program's.
-fn is_key_of(key: u32, p: u32) -> bool
-    requires { IsProgram p }
-    ensures { result ≡ is_key_of key (program p) }
+fn is_key_of(key: u32, p: Program) -> bool
+    ensures { result ≡ is_key_of key (program (number_of p)) }
 {
-    if p == DOLLAR {
-        return (key == DOLLAR_KEY) | (key == WING_KEY);
+    match p {
+        Program::Dollar => (key == DOLLAR_KEY) | (key == WING_KEY),
+        Program::Half => key == HALF_KEY,
+        Program::TwoFifty => key == TWO_FIFTY_KEY,
     }
-    if p == HALF {
-        return key == HALF_KEY;
-    }
-    key == TWO_FIFTY_KEY
 }
 
 // 1 for a strike word on a ground of the program's, else 0. Kind and ground are compared as one number, so that a word
 // takes one mask, and one comparison for each program.
-fn strike_of(w: u32, p: u32) -> u32
-    requires { IsProgram p }
-    ensures { result ≡ strike_of p w }
+fn strike_of(w: u32, p: Program) -> u32
+    ensures { result ≡ strike_of (number_of p) w }
 {
     if is_key_of(ground_key(w), p) { 1 } else { 0 }
 }
 
-// Strikes of each program, in their order, are an array. Here, those among words. Every word is looked at by itself,
-// without a branch, so that it runs many words at a time.
-pub fn strikes_among(words: &[u32]) -> [u32; COUNT as usize]
-    requires { length words.now ≤ longest_run }
-    ensures { result ≡ strikes_among words.now }
-{
-    let mut dollars = 0;
-    let mut halves = 0;
-    let mut two_fifties = 0;
-    let mut i = 0;
-    while i < words.len() {
-        let w = words[i];
-        dollars += strike_of(w, DOLLAR);
-        halves += strike_of(w, HALF);
-        two_fifties += strike_of(w, TWO_FIFTY);
-        i += 1;
-    }
-    [dollars, halves, two_fifties]
-}
-
-// That of one word.
-pub fn strike_among(w: u32) -> [u32; COUNT as usize]
+// Strikes of each program, in their order, are an array. Here, that of one word.
+pub fn strike_among(w: u32) -> [u32; COUNT]
     ensures { result ≡ strike_among w }
 {
     [
-        strike_of(w, DOLLAR),
-        strike_of(w, HALF),
-        strike_of(w, TWO_FIFTY),
+        strike_of(w, Program::Dollar),
+        strike_of(w, Program::Half),
+        strike_of(w, Program::TwoFifty),
     ]
 }
 
 // These strikes and those.
-pub fn together(these: [u32; COUNT as usize], those: [u32; COUNT as usize]) -> [u32; COUNT as usize]
+pub fn together(these: [u32; COUNT], those: [u32; COUNT]) -> [u32; COUNT]
     requires { AreFew these × AreFew those }
     ensures { result ≡ together these those }
 {
@@ -156,8 +128,21 @@ pub fn together(these: [u32; COUNT as usize], those: [u32; COUNT as usize]) -> [
     ]
 }
 
+// The strikes among words. Every word is looked at by itself, without a branch, so that it runs many words at a time.
+pub fn strikes_among(words: &[u32]) -> [u32; COUNT]
+    requires { length words.now ≤ longest_run }
+    ensures { result ≡ strikes_among words.now }
+{
+    let mut strikes = NO_STRIKES;
+    for w in words {
+        let more = together(strikes, strike_among(*w));
+        strikes = more;
+    }
+    strikes
+}
+
 // All strikes less some of them.
-fn without(all: [u32; COUNT as usize], some: [u32; COUNT as usize]) -> [u32; COUNT as usize]
+fn without(all: [u32; COUNT], some: [u32; COUNT]) -> [u32; COUNT]
     requires { AreAmong all some }
     ensures { result ≡ without all some }
 {
@@ -165,47 +150,47 @@ fn without(all: [u32; COUNT as usize], some: [u32; COUNT as usize]) -> [u32; COU
 }
 
 // The strikes that the counters of a run say.
-pub fn strikes_said(run: &[u32]) -> [u32; COUNT as usize]
+pub fn strikes_said(run: &[u32]) -> [u32; COUNT]
     requires { first_place ≤ length run.now }
     ensures { result ≡ strikes_said run.now }
 {
     [
-        read(run, DOLLAR).strikes,
-        read(run, HALF).strikes,
-        read(run, TWO_FIFTY).strikes,
+        read(run, Program::Dollar).strikes,
+        read(run, Program::Half).strikes,
+        read(run, Program::TwoFifty).strikes,
     ]
 }
 
-// Sets the strikes of the program p; its own classes stay.
-fn set_strikes(run: &mut [u32], p: u32, strikes: u32)
-    requires { Settable run.old p strikes strikes_field.width }
-    ensures { run.new ≡ strikes_set p strikes run.old }
+// Sets the strikes of a program; its own classes stay.
+fn set_strikes(run: &mut [u32], program: Program, strikes: u32)
+    requires { Settable run.old strikes strikes_field.width }
+    ensures { run.new ≡ strikes_set (number_of program) strikes run.old }
 {
-    let own = read(run, p).own;
-    write(run, p, Counts { own, strikes });
+    let counts = read(run, program);
+    write(run, program, Counts { strikes, ..counts });
 }
 
-// Sets the own classes of the program p; its strikes stay.
-pub fn set_own(run: &mut [u32], p: u32, own: u32)
-    requires { Settable run.old p own counter_kind.width }
-    ensures { run.new ≡ own_set p own run.old }
+// Sets the own classes of a program; its strikes stay.
+pub fn set_own(run: &mut [u32], program: Program, own: u32)
+    requires { Settable run.old own counter_kind.width }
+    ensures { run.new ≡ own_set (number_of program) own run.old }
 {
-    let strikes = read(run, p).strikes;
-    write(run, p, Counts { own, strikes });
+    let counts = read(run, program);
+    write(run, program, Counts { own, ..counts });
 }
 
 // Writes these strikes to the counters of a run, whose own classes stay.
-fn write_strikes(run: &mut [u32], strikes: [u32; COUNT as usize])
+fn write_strikes(run: &mut [u32], strikes: [u32; COUNT])
     requires { (first_place ≤ length run.old) × AreFew strikes }
     ensures { run.new ≡ with_strikes programs strikes run.old }
 {
-    set_strikes(run, DOLLAR, strikes[0]);
-    set_strikes(run, HALF, strikes[1]);
-    set_strikes(run, TWO_FIFTY, strikes[2]);
+    set_strikes(run, Program::Dollar, strikes[0]);
+    set_strikes(run, Program::Half, strikes[1]);
+    set_strikes(run, Program::TwoFifty, strikes[2]);
 }
 
 // Counts these strikes too.
-pub fn add_strikes(run: &mut [u32], more: [u32; COUNT as usize])
+pub fn add_strikes(run: &mut [u32], more: [u32; COUNT])
     requires { Addable run.old more }
     ensures { run.new ≡ strikes_added more run.old }
 {
@@ -214,7 +199,7 @@ pub fn add_strikes(run: &mut [u32], more: [u32; COUNT as usize])
 }
 
 // Counts some strikes no longer.
-pub fn take_strikes(run: &mut [u32], some: [u32; COUNT as usize])
+pub fn take_strikes(run: &mut [u32], some: [u32; COUNT])
     requires { (first_place ≤ length run.old) × AreAmong (strikes_said run.old) some }
     ensures { run.new ≡ strikes_taken some run.old }
 {

@@ -37,15 +37,25 @@ pub fn read(run: &[u32], at: usize) -> ClassRecord
     }
 }
 
+// The words of these figures.
+pub fn words(figures: ClassRecord) -> [u32; LENGTH]
+    requires { T (are_figures figures) }
+    ensures { result ≡ map packed (figures_words figures []) }
+{
+    [
+        class_word(figures),
+        close_word(figures.close),
+        volume_word(figures.volume),
+        day_price_word(figures.low),
+        day_price_word(figures.high),
+    ]
+}
+
 pub fn write(run: &mut [u32], at: usize, figures: ClassRecord)
     requires { (at + figures_length ≤ length run.old) × T (are_figures figures) }
     ensures { run.new ≡ sets run.old at (map packed (figures_words figures [])) }
 {
-    run[at] = class_word(figures);
-    run[at + 1] = close_word(figures.close);
-    run[at + 2] = volume_word(figures.volume);
-    run[at + 3] = day_price_word(figures.low);
-    run[at + 4] = day_price_word(figures.high);
+    run[at..at + LENGTH].copy_from_slice(&words(figures));
 }
 
 // A class word whose number is above the one before it.

@@ -1,4 +1,4 @@
-// The numbers of the grounds.
+// The numbers of the grounds. No enum: the rules count through them, and a word of any run may hold other numbers.
 pub const STANDARD_GROUND: u32 = 0;
 
 pub const DOLLAR_GROUND: u32 = 1;

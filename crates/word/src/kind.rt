@@ -4,6 +4,7 @@ ghost use Rattle.word.specs.Kinds.{kind_field, kind_of, key_of, is_of_kind, belo
 
 use crate::field::{Field, field_of, put_at};
 
+// A struct and no enum: the row of a kind is its two numbers, which an enum would give by two matches over all kinds.
 #[derive(Clone, Copy)]
 pub struct Kind {
     pub number: u32,

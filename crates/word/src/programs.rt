@@ -1,20 +1,23 @@
 // The programs, $1 first: their numbers, where their designations stand in a class word, and what qualifies for them.
-ghost use Rattle.std.specs.Prelude.{◌≡◌};
+ghost use Rattle.std.specs.Prelude.{◌≡◌, ◌-◌};
 ghost use Rattle.word.specs.Field.{field};
 ghost use Rattle.word.specs.Limits.{is_designation};
-ghost use Rattle.word.specs.Programs.{is_program, program, IsProgram, HoldsDesignation};
+ghost use Rattle.word.specs.Programs.{program, number_of, Numbered, HoldsDesignation};
 
+use crate::answer::Refusal;
 use crate::class::ClassRecord;
 use crate::field::{Field, field_of};
 
-// Their numbers, and how many there are.
-pub const DOLLAR: u32 = 1;
+// The programs by their numbers.
+#[derive(Clone, Copy)]
+pub enum Program {
+    Dollar = 1,
+    Half = 2,
+    TwoFifty = 3,
+}
 
-pub const HALF: u32 = 2;
-
-pub const TWO_FIFTY: u32 = 3;
-
-pub const COUNT: u32 = 3;
+// How many there are.
+pub const COUNT: usize = 3;
 
 // Where a class word holds their designations.
 pub const DOLLAR_BITS: Field = Field {
@@ -58,30 +61,48 @@ pub fn is_designation_in(w: u32, bits: Field) -> bool
     field_of(w & (w >> 1), lowest) == 0
 }
 
-pub fn is_program(p: u32) -> bool
-    ensures { result ≡ is_program p }
-{
-    (1 <= p) & (p <= COUNT)
+// The program of a number, or the refusal of a number that is none's.
+impl TryFrom<u32> for Program {
+    type Error = Refusal;
+
+    ghost try_from_gives = { Numbered };
+
+    fn try_from(p: u32) -> Result<Program, Refusal> {
+        match p {
+            1 => Ok(Program::Dollar),
+            2 => Ok(Program::Half),
+            3 => Ok(Program::TwoFifty),
+            _ => Err(Refusal::BeyondLimits),
+        }
+    }
 }
 
-// Whether the close and the volume qualify for the program.
-pub fn is_qualified(figures: ClassRecord, p: u32) -> bool
-    requires { IsProgram p }
-    ensures { result ≡ (program p).qualifies figures }
-{
-    if p == DOLLAR {
-        return figures.close < DOLLAR_PRICE;
+impl Program {
+    // Its place among the programs.
+    pub fn index(self) -> usize
+        ensures { result ≡ number_of self - 1 }
+    {
+        self as usize - 1
     }
-    if p == HALF {
-        return (figures.close <= HALF_PRICE) & (HALF_VOLUME <= figures.volume);
-    }
-    true
-}
 
-// Whether a new designation 1 needs a close.
-pub fn needs_close(p: u32) -> bool
-    requires { IsProgram p }
-    ensures { result ≡ (program p).needs_close }
-{
-    p != TWO_FIFTY
+    // Whether the close and the volume qualify for the program.
+    pub fn is_qualified(self, figures: ClassRecord) -> bool
+        ensures { result ≡ (program (number_of self)).qualifies figures }
+    {
+        match self {
+            Program::Dollar => figures.close < DOLLAR_PRICE,
+            Program::Half => (figures.close <= HALF_PRICE) & (HALF_VOLUME <= figures.volume),
+            Program::TwoFifty => true,
+        }
+    }
+
+    // Whether a new designation 1 needs a close.
+    pub fn needs_close(self) -> bool
+        ensures { result ≡ (program (number_of self)).needs_close }
+    {
+        match self {
+            Program::Dollar | Program::Half => true,
+            Program::TwoFifty => false,
+        }
+    }
 }

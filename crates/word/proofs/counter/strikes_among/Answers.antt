@@ -1,22 +1,31 @@
--- `strikes_among` counts the strikes of each program, word by word: a word adds one to a count at most, and adds what
--- `strike_of` tells.
-use Rattle.std.proofs.Common.{ℕ, ◌+◌, get_or, ap, arith}
-use Rattle.word.proofs.EachProgram.{each_program}
-use Rattle.word.proofs.Counters.{strike_at_most, count_more}
+-- `strikes_among` counts the strikes of each program, word by word: they are few, and a word adds its own.
+use Rattle.std.proofs.Common.{◌≡◌, ◌∙◌, List, ℕ, ap, arith, length, take, get_or}
+use Rattle.std.proofs.Math.Seq.{take-length}
+use Rattle.std.proofs.lemmas.List.{length-take-le}
+use Rattle.word.specs.Counters.{strikes_among, together}
+use Rattle.word.proofs.Counters.{among_few, among_next, one_few}
 use Rattle.word.proofs.counter.strikes_among.Goals as goal
 
-pub overflow_add-two_fifties : goal.overflow_add-two_fifties
-overflow_add-two_fifties c =
-    omega (arith, c.loop-i.invariant.few 3 tt, strike_at_most 3 (get_or c.args.words.now c.loop-i.i 0))
+pub together-more-requires : goal.together-more-requires
+together-more-requires c =
+    let ws = c.args.words.now in
+    let i = c.loop-w.w-index in
+    let few = length-take-le i ws (omega arith) in (
+      among_few (take i ws) c.loop-w.strikes c.loop-w.invariant (omega arith),
+      rw c.strike_among.ensures (one_few (get_or ws i 0)),
+    )
 
-pub loop-i-preserved : goal.loop-i-preserved
-loop-i-preserved c =
-    let at = c.loop-i in
-    count_more at.invariant _ (omega arith)
-    (each_program _ (
-      ap (λ (n : ℕ). at.dollars + n) c.strike_of-dollars.ensures,
-      (
-        ap (λ (n : ℕ). at.halves + n) c.strike_of-halves.ensures,
-        (ap (λ (n : ℕ). at.two_fifties + n) c.strike_of-two_fifties.ensures, tt),
-      ),
-    ))
+pub loop-w-preserved : goal.loop-w-preserved
+loop-w-preserved c =
+    let ws = c.args.words.now in
+    let i = c.loop-w.w-index in
+    c.together-more.ensures
+    ∙ (ap (λ (s : List ℕ). together s c.strike_among.result) c.loop-w.invariant
+    ∙ (ap (λ (s : List ℕ). together (strikes_among (take i ws)) s) c.strike_among.ensures
+    ∙ among_next ws i c.loop-w-test.true))
+
+pub returns : goal.returns
+returns c =
+    let ws = c.args.words.now in
+    let all : c.loop-w.w-index ≡ length ws = omega arith in
+    c.loop-w.invariant ∙ ap strikes_among (ap (λ (n : ℕ). take n ws) all ∙ take-length ws)

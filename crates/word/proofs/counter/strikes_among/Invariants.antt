@@ -1,10 +1,7 @@
--- `strikes_among` counts the strikes of each program, word by word: the counts are those of the words before the index.
-use Rattle.std.proofs.Common.{◌-◌, [], ◌∷◌, length}
-use Rattle.word.proofs.Counters.{Counting}
+-- `strikes_among` counts the strikes of each program, word by word: those of the words before the index.
+use Rattle.std.proofs.Common.{◌≡◌, take}
+use Rattle.word.specs.Counters.{strikes_among}
 use Rattle.word.proofs.counter.strikes_among.Given as goal
 
-abbrev pub invariant-loop-i : goal.invariant-loop-i
-invariant-loop-i l = Counting l.words l.i (l.dollars ∷ l.halves ∷ l.two_fifties ∷ [])
-
-abbrev pub decreases-loop-i : goal.decreases-loop-i
-decreases-loop-i l = length l.words - l.i
+abbrev pub invariant-loop-w : goal.invariant-loop-w
+invariant-loop-w l = l.strikes ≡ strikes_among (take l.w-index l.words)
