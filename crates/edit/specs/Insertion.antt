@@ -4,10 +4,6 @@ use Rattle.word.specs.Codec.{Head, packed}
 use Rattle.book.specs.Books.{is_book}
 use Rattle.book.specs.Layout.{used, facts_of}
 
--- `new` before the words ws, of which those that no longer fit are lost
-abbrev pub pushed : List ℕ → List ℕ → List ℕ
-pushed new ws = take (length ws) (new ++ ws)
-
 -- the book ws has room for k more words, and `at` is not past the words that it uses
 pub record HasRoom (k at : ℕ) (ws : List ℕ) : Type 0 where
   pub book : T (is_book ws)

@@ -1,3 +1,2 @@
--- The laws that the functions' proofs cite.
-pub mod Shifts
+-- The laws that the proofs of other crates cite.
 pub mod GapsInside

@@ -6,10 +6,10 @@ use mathlib.Core.Bool.{Bool, true, false, cond, not}
 use mathlib.Core.List.{List, [], ◌∷◌, ◌++◌, map, append_assoc}
 use native.Mathlib.Omega.{arith}
 use lib.Dec.{T}
-use lib.ListN.{length, get_or, set, replicate, length-append, length-map}
+use lib.ListN.{length, get_or, set, take, drop, replicate, length-append, length-map}
 use lib.Seq.{get_or-append-add}
-use borrow.Rule.Slice.PartMut.{mid_of, put_mid}
-use Rattle.word.specs.Limits.{last_month, longest_run}
+use borrow.Rule.Slice.PartMut.{mid_of, put_mid, Post-is}
+use Rattle.word.specs.Limits.{longest_run}
 use Rattle.word.specs.Head.{first_place}
 use Rattle.word.specs.Codec.{Word, Head, packed}
 use Rattle.word.specs.Programs.{is_program}
@@ -20,7 +20,7 @@ use Rattle.book.specs.Facts.{Facts, strikes_on}
 use Rattle.book.specs.Layout.{strike_word, expiration_unless, used, counter_words, layout, facts_of}
 use Rattle.book.specs.Uncounted.{uncounted}
 use Rattle.book.specs.Places.{strike_place}
-use Rattle.book.specs.Books.{is_book, is_well_formed}
+use Rattle.book.specs.Books.{is_book}
 use Rattle.book.specs.Views.{class}
 use Rattle.book.specs.Changes.{update, strike_removed}
 use Rattle.book.proofs.LegalWords.{strike_legal}
@@ -29,13 +29,26 @@ use Rattle.book.proofs.Recounted.{own_spliced, strikes_spliced, strikes_less, st
 use Rattle.book.proofs.Splices.{Spliced, used_spliced, place_inside, Delisting, delisting}
 use Rattle.book.proofs.SplicedRuns.{front, back, zeros, place_is, run_was, run_is}
 use Rattle.book.proofs.Runs.{standing_within}
-use Rattle.place.proofs.Heads.{book_good, book_room, book_long, book_month}
+use Rattle.place.proofs.Heads.{book_good, book_room, book_long}
 use Rattle.gap.specs.Gaps.{closed}
 use Rattle.removal.specs.RemovalsAsked.{Delistable}
+use Rattle.removal.specs.Removal.{remove_words}
 use Rattle.gap.proofs.GapsInside.{closed_inside}
 use Rattle.logic.proofs.Slices.{zeros_joined}
 
 -- ---- k words less from `at` on
+
+-- the words used from `at` on with their gap closed, back in their place, and the head that counts what is left
+pub closed_between :
+    (ws part : List ℕ) (at end k month : ℕ) → end ≡ used (facts_of ws) → month ≡ (facts_of ws).now → at ≤ end
+    → part ≡ closed k (mid_of at (end - at) ws)
+    → set (put_mid at (end - at) ws part) 0 (packed (Head month (end - k))) ≡ remove_words k at ws
+unfolding remove_words
+closed_between ws part at end k month all now inside moved =
+    (λ i. set (take at ws ++ (moved i ++ Post-is at end ws inside i)) 0 (packed (Head (now i) (end - k))))
+    ∙ (λ i.
+    set (take at ws ++ (closed k (take (all i - at) (drop at ws)) ++ drop (all i) ws)) 0
+    (packed (Head (facts_of ws).now (all i - k))))
 
 module _
     (ws : List ℕ) (t : T (is_book ws)) {at : ℕ} {old : List Word} {g : Facts} (s : Spliced at old [] (facts_of ws) g)
@@ -82,59 +95,47 @@ module _
   past : freed ++ d ≡ replicate (length ws - (used f - k)) 0
   past = zeros_joined k (length ws - used f) (length ws - (used f - k)) (omega (arith, book_room ws t, place_inside s))
 
-  taken_out :
-      set (put_mid at (used f - at) ws (closed k (mid_of at (used f - at) ws))) 0 head ≡ uncounted (length ws) f g
+  taken_out : remove_words k at ws ≡ uncounted (length ws) f g
   taken_out =
-      (λ i. set (put_mid at (used f - at) (was i) (closed k (mid_of at (used f - at) (was i)))) 0 head)
+      sym (closed_between ws _ at (used f) k f.now refl refl (omega (arith, place_inside s)) refl)
+      ∙ (λ i. set (put_mid at (used f - at) (was i) (closed k (mid_of at (used f - at) (was i)))) 0 head)
       ∙ ap (λ (l : List ℕ). set l 0 head)
       (closed_inside a b c d at (used f - at) k place long (length-map old packed ∙ e))
       ∙ ap
       (λ (l : List ℕ). head ∷ (map packed (counter_words f.classes) ++ (map packed s.front ++ (c ++ l)))) past
       ∙ run_is ws t s (used f - k) (omega (arith, used_spliced s))
 
--- the numbers that delisting reckons with: `end` of a run's `long` words are used, and the strike's is one of them
-pub record Reckoned (at end month long : ℕ) : Type 0 where
+-- where the word of a strike stands: among those used, behind the head and the counters
+pub record Standing (at : ℕ) (ws : List ℕ) : Type 0 where
   pub after : first_place < at
-  pub inside : at < end
-  pub room : end ≤ long
-  pub short : long ≤ longest_run
-  pub current : month ≤ last_month
+  pub inside : at < used (facts_of ws)
+  pub room : used (facts_of ws) ≤ length ws
+  pub short : length ws ≤ longest_run
 
-module _
-    (ws : List ℕ) (at : ℕ) (alone : Bool) (x : Delistable ws at alone) (end month : ℕ)
-    (all : end ≡ used (facts_of ws)) (now : month ≡ (facts_of ws).now) where
-  abbrev good : T (is_well_formed (length ws) (facts_of ws))
-  good = book_good ws x.book
-
-  pub reckoned : Reckoned at end month (length ws)
-  reckoned =
+module _ (ws : List ℕ) (at : ℕ) (alone : Bool) (x : Delistable ws at alone) where
+  pub standing : Standing at ws
+  standing =
       let within =
-      standing_within (length ws) (facts_of ws) x.class x.month x.strike good x.is_open x.standing in
+      standing_within (length ws) (facts_of ws) x.class x.month x.strike (book_good ws x.book) x.is_open x.standing in
       record {
         after = omega (arith, x.place);
         inside = omega (arith, x.place, within);
-        room = omega (arith, book_room ws x.book);
+        room = book_room ws x.book;
         short = (book_long ws x.book).1;
-        current = omega (arith, book_month ws x.book);
       }
 
   -- the strike's word taken out, and its expiration's where it is alone behind that
   pub delisted :
-      (b : Bool) → alone ≡ b → (from : ℕ) (part : List ℕ) → from ≡ at - cond {A = ℕ} b 1 0
-      → part ≡ closed (cond {A = ℕ} b 2 1) (mid_of from (end - from) ws)
-      → set (put_mid from (end - from) ws part) 0 (packed (Head month (end - cond {A = ℕ} b 2 1)))
+      (b : Bool) → alone ≡ b → (from : ℕ) → from ≡ at - cond {A = ℕ} b 1 0
+      → remove_words (cond {A = ℕ} b 2 1) from ws
       ≡ uncounted (length ws) (facts_of ws)
       (update (strike_removed x.month x.strike (class (facts_of ws) x.class)) (facts_of ws))
-  delisted b is from part place moved =
+  delisted b is from place =
       let d =
-      delisting (length ws) (facts_of ws) x.class good x.is_open x.month x.strike b x.standing
+      delisting (length ws) (facts_of ws) x.class (book_good ws x.book) x.is_open x.month x.strike b x.standing
       (sym is ∙ x.last) in
       let k = cond {A = ℕ} b 2 1 in
-      let e = place ∙ ap (λ (i : ℕ). i - cond {A = ℕ} b 1 0) x.place in
-      (λ i. set (put_mid from (end - from) ws (moved i)) 0 (packed (Head month (end - k))))
-      ∙ (λ i.
-      set (put_mid (e i) (all i - e i) ws (closed k (mid_of (e i) (all i - e i) ws))) 0
-      (packed (Head (now i) (all i - k))))
+      ap (λ (i : ℕ). remove_words k i ws) (place ∙ ap (λ (i : ℕ). i - cond {A = ℕ} b 1 0) x.place)
       ∙ taken_out ws x.book d.spliced k (gone b (strike_word d.it))
     where
       gone : (b : Bool) (w : Word) → length (expiration_unless (not b) x.month (w ∷ [])) ≡ cond {A = ℕ} b 2 1

@@ -7,8 +7,6 @@ ghost use Rattle.book.specs.Books.{is_book};
 ghost use Rattle.book.specs.Changes.{month_set};
 ghost use Rattle.removal.specs.Expiry.{Movable, MovedTo};
 
-use gap::move_down_by;
-use gap::zeros::zero_all;
 use place::head;
 use place::search::first;
 use word::counter::{NO_STRIKES, strikes_among, take_strikes, together};
@@ -16,17 +14,16 @@ use word::figures;
 use word::head::FIRST;
 use word::kind::{CLASS, EXPIRATION};
 
-// Moves the words from `from` to `end` down to `to`, and returns the index after them.
+// Moves the words from `from` to `end` down to `to`, and returns the index after them. Words that stand there stay
+// untouched: in a book of which nothing goes, no word moves.
 fn move_to(run: &mut [u32], to: usize, from: usize, end: usize) -> usize
     requires { Movable to from end run.old }
     ensures { (result ≡ to + (end - from)) × MovedTo to from end run.old run.new }
 {
-    let gap = from - to;
-    if gap == 0 {
-        return end;
+    if to < from {
+        run.copy_within(from..end, to);
     }
-    move_down_by(&mut run[to..end], gap);
-    end - gap
+    to + (end - from)
 }
 
 // `M`: the months before m go, and m is the month.
@@ -39,10 +36,12 @@ pub fn expire(run: &mut [u32], m: u32)
     let mut kept = FIRST;
     let mut at = FIRST;
     let mut gone = NO_STRIKES;
+    // A `while`: the next class is found by search, so that no range and no iterator tells its index.
     while at < end {
         let start = at + figures::LENGTH;
         let stays = start + first(&run[start..end], EXPIRATION, m);
         if start < stays {
+            // Named before it is kept: tried without, an array that a call returns into a kept variable gets no proof.
             let more = together(gone, strikes_among(&run[start..stays]));
             gone = more;
             written = move_to(run, written, kept, start);
@@ -51,7 +50,7 @@ pub fn expire(run: &mut [u32], m: u32)
         at = stays + first(&run[stays..end], CLASS, 0);
     }
     written = move_to(run, written, kept, end);
-    zero_all(&mut run[written..end]);
+    run[written..end].fill(0);
     word::head::write(run, m, written);
     take_strikes(run, gone);
 }

@@ -7,12 +7,24 @@ ghost use Rattle.book.specs.Uncounted.{uncounted};
 ghost use Rattle.book.specs.Views.{class};
 ghost use Rattle.book.specs.Changes.{strike_removed, update};
 ghost use Rattle.removal.specs.RemovalsAsked.{Delistable};
+ghost use Rattle.removal.specs.Removal.{Removable, remove_words};
 
-use gap::close_gap;
+use gap::close_fixed_gap;
 use place::head;
 use word::counter;
 
 pub mod expiry;
+
+// COUNT words from `at` on are taken out, and the head counts them no longer.
+fn remove<const COUNT: usize>(run: &mut [u32], at: usize)
+    requires { Removable COUNT at run.old }
+    ensures { run.new ≡ remove_words COUNT at run.old }
+{
+    let month = head::current(run);
+    let end = head::used(run);
+    close_fixed_gap::<COUNT>(&mut run[at..end]);
+    word::head::write(run, month, end - COUNT);
+}
 
 // The word of a strike at `at` is taken out, which the counters still count; with it its expiration word, where it is
 // `alone` behind that.
@@ -24,14 +36,10 @@ fn take_out(run: &mut [u32], at: usize, alone: bool)
         ≡ uncounted (length run.old) f
         (update (strike_removed x.month x.strike (class f x.class)) f) }
 {
-    let end = head::used(run);
-    let month = head::current(run);
     if alone {
-        close_gap(&mut run[at - 1..end], 2);
-        word::head::write(run, month, end - 2);
+        remove::<2>(run, at - 1);
     } else {
-        close_gap(&mut run[at..end], 1);
-        word::head::write(run, month, end - 1);
+        remove::<1>(run, at);
     }
 }
 

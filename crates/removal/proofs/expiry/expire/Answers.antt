@@ -90,7 +90,7 @@ pub write-requires : goal.write-requires
 write-requires c =
     omega (
       arith,
-      same_len_mid _ _ c.move_to-written-2.new.run c.zero_all.new.words c.zero_all.auto.words,
+      same_len_mid _ _ c.move_to-written-2.new.run c.fill.new.self c.fill.auto.self,
       c.move_to-written-2.auto.run,
       book_long _ c.requires.0,
     )
@@ -102,7 +102,7 @@ take_strikes-requires c =
     let expired =
     c.write.ensures
     ∙ expire_done _ _ at c.requires.0 c.used-end.result c.used-end.ensures c.loop-at-test.false _ _ last.auto.run
-    last.ensures.1 last.ensures.0 _ c.zero_all.ensures in (
+    last.ensures.1 last.ensures.0 _ (c.fill.ensures.after (λ y e. e)) in (
       omega (arith, book_long _ c.requires.0, ap length expired),
       gone_among _ _ at c.requires.0 (omega arith) _ expired,
     )
@@ -114,7 +114,7 @@ returns c =
     let expired =
     c.write.ensures
     ∙ expire_done _ _ at c.requires.0 c.used-end.result c.used-end.ensures c.loop-at-test.false _ _ last.auto.run
-    last.ensures.1 last.ensures.0 _ c.zero_all.ensures in
+    last.ensures.1 last.ensures.0 _ (c.fill.ensures.after (λ y e. e)) in
     c.take_strikes.ensures
     ∙ ap (strikes_taken c.loop-at.gone) expired
     ∙ gone_counted _ _ at c.requires.0 (omega arith)

@@ -1,10 +1,16 @@
--- `move_to`: over some distance the words are moved down in the part that is lent.
-use Rattle.std.proofs.Common.{arith}
-use Rattle.removal.proofs.MovedStretches.{moved_down_lem}
+-- `move_to`: the words are copied within the run, or stand there already.
+use Rattle.std.proofs.Common.{refl}
+use Rattle.removal.proofs.MovedStretches.{moved_within, moved_nowhere}
 use Rattle.removal.proofs.expiry.move_to.Goals as goal
+use Rattle.removal.proofs.expiry.move_to.Goals.{then-to-from, else-to-from}
 
 pub returns : goal.returns
-returns c = (
-  omega arith,
-  moved_down_lem _ _ _ _ c.requires.down c.requires.part c.requires.inside _ c.move_down_by.ensures,
-)
+returns c =
+    let asked = c.requires in (
+      refl,
+      elim c.if-to-from.branch [
+        | then-to-from w ↦
+            rw (w.run-is, w.copy_within.ensures.after) (moved_within _ _ _ _ asked.down asked.part asked.inside)
+        | else-to-from w ↦ rw w.run-is (moved_nowhere _ _ _ _ asked.down asked.part w.if-to-from.false)
+      ],
+    )

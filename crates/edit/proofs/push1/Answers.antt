@@ -1,7 +1,0 @@
--- `push1`: one turn moves a word by one place.
-use Rattle.std.proofs.Common.{refl}
-use Rattle.edit.proofs.Moves.{push_more}
-use Rattle.edit.proofs.push1.Goals as goal
-
-pub loop-j-preserved : goal.loop-j-preserved
-loop-j-preserved c = push_more 1 c.loop-j.invariant refl c.loop-j-test.true
