@@ -1,4 +1,5 @@
 pub mod StandingStrikes
+pub mod Listed
 pub mod Trying
 pub mod RungByRung
-pub mod Filled
+pub mod BothRanges

@@ -3,76 +3,40 @@
 use mathlib.Core.Path.{◌≡◌, refl, sym, ap, ◌∙◌}
 use mathlib.Core.Bool.{Bool, true, false, cond}
 use mathlib.Core.List.{List, ◌∷◌, map}
-use Prim.Native.Nat.{ℕ, suc, ◌+◌, ◌-◌, ◌*◌, ◌/◌, ◌%◌, ◌≤◌, ◌<◌, min}
-use native.Mathlib.Nat.{add-mod_right, mul-mod_left, div-add-mod', mod-lt, mod-eq_of_lt}
+use Prim.Native.Nat.{ℕ, suc, ◌+◌, ◌-◌, ◌%◌, ◌≤◌, ◌<◌, min}
+use native.Mathlib.Nat.{add-mod_right, mod-eq_of_lt}
 use native.Mathlib.Omega.{arith}
-use lib.Dec.{T, leb, ltb}
-use lib.ListN.{length, get_or, set}
-use borrow.Author.Tests.{ltb-true, ltb-false, leb-false}
-use Rattle.logic.proofs.Tests.{T_true, refuted}
-use Rattle.logic.proofs.Walks.{First}
+use denote.Ref.{MutBor}
+use lib.Dec.{ltb}
+use borrow.Author.Tests.{ltb-true, ltb-false}
+use Rattle.logic.proofs.Tests.{T_true}
 use Rattle.logic.proofs.Multiples.{between_multiples}
-use Rattle.logic.proofs.Numbers.{left, left_here, left_none, left_skip}
-use Rattle.logic.proofs.Stores.{Filling, filling_start, filling_as, filling_one, filling_done}
+use Rattle.logic.proofs.Numbers.{left, left_here, left_skip}
+use Rattle.logic.proofs.Stores.{Filling, filling_start, filling_as, filling_one}
 use Rattle.rule.specs.declared.terms.Setting.{Setting}
 use Rattle.rule.specs.declared.bounds.Rung.{Rung}
 use Rattle.rule.specs.Ends.{reach_of, is_open_strike}
 use Rattle.rule.specs.Spacing.{standing_of}
 use Rattle.rule.specs.Judgement.{is_permitted_beside}
-use Rattle.rule.proofs.Open.{permitted_open}
-use Rattle.permitted.specs.declared.Progress.{Progress}
 use Rattle.permitted.specs.declared.Range.{Range}
-use Rattle.permitted.specs.Listing.{strike_in, strike_from, permitted_between, above, Behind, Triable, Continuable, Continued}
-use Rattle.permitted.proofs.StandingStrikes.{strike_found}
+use Rattle.permitted.specs.declared.Listing.{Listing}
+use Rattle.permitted.specs.Listing.{next_strike, strikes_from, permitted_in, above, Triable, Written, Continuable}
+use Rattle.permitted.proofs.StandingStrikes.{alike_start, alike_more, alike_again, alike_above, open_permitted, standing_refused}
+use Rattle.permitted.proofs.Listed.{closed_refused, Listed}
 
-pub closed_refused : (s : Setting) (ws : List ℕ) (h : ℕ) → (T (is_open_strike s h) → ⊥) →
-    is_permitted_beside s (map standing_of ws) h ≡ false
-closed_refused s ws h closed =
-    sym
-    (refuted (is_permitted_beside s (map standing_of ws) h) (λ t. closed (permitted_open s h (map standing_of ws) t)))
-
-pub behind_more : {s : Setting} {ws : List ℕ} {from h h' : ℕ} → h ≤ h' → Behind s ws from h → Behind s ws from h'
-behind_more l t = record { within = t.within; below = λ i k. omega (arith, t.below i k) }
-
--- the search leaves no strike behind that is within reach
-behind_found : {s : Setting} {ws : List ℕ} {from h : ℕ} → Behind s ws from h → (from' reach : ℕ) →
-    reach ≡ reach_of s → from' ≡ strike_from ws from (h - reach) → Behind s ws from' h
-behind_found {s} {ws} {from} {h} t from' reach r e =
-    record { within = omega (arith, t.within, found.most); below = λ i l. below i l (ltb i from) refl }
-  where
-    found : First (λ i. leb (h - reach) (strike_in (get_or ws i 0))) (length ws - from) from from'
-    found = rw e (strike_found ws from (h - reach))
-
-    below : (i : ℕ) → i < from' → (u : Bool) → ltb i from ≡ u → strike_in (get_or ws i 0) + reach_of s < h
-    below i l true q = t.below i (ltb-true i from q)
-    below i l false q =
-        omega (arith, leb-false (h - reach) (strike_in (get_or ws i 0)) (found.before i (ltb-false i from q) l))
-
--- the strikes below h are done, where the list began at the place `at`
-pub record Trying (s : Setting) (ws o : List ℕ) (r : Rung) (range : Range) (at reach : ℕ) (b : List ℕ) (from n h : ℕ) :
-    Type 0 where
-  pub reaches : reach ≡ reach_of s
-  pub least : range.low ≤ h
+-- the multiple h is to be tried, where `next` is the next standing strike
+pub record Trying (l : Listing) (r : Rung) (range : Range) (reach : ℕ) (l' : Listing) (next h : ℕ) : Type 0 where
+  pub reaches : reach ≡ reach_of l.setting
   pub multiple : h % r.step ≡ 0
-  pub behind : Behind s ws from (min h (above range))
-  pub fewer : n < min h (above range)
-  pub filling :
-      Filling (permitted_between s ws range.low range.high) o at b n
-      (left (is_permitted_beside s (map standing_of ws)) (range.high + 1) h)
+  pub nearest : next ≡ next_strike l'.standing.now
+  pub listed : Listed l range l' h
 
--- what was behind is so still, whether a search passes more strikes or not
-module _ {s : Setting} {ws o b : List ℕ} {r : Rung} {range : Range} {at reach from n h : ℕ}
-    (t : Trying s ws o r range at reach b from n h) where
-  pub trying_kept : Behind s ws from h
-  trying_kept = behind_more (omega arith) t.behind
+module _ {l : Listing} {r : Rung} {range : Range} (p : Continuable l r range) where
+  abbrev s : Setting
+  s = l.setting
 
-  pub trying_passed : (from' : ℕ) → from' ≡ strike_from ws from (h - reach) → Behind s ws from' h
-  trying_passed from' = behind_found trying_kept from' reach t.reaches
-
-module _ {s : Setting} {ws : List ℕ} {r : Rung} {range : Range} {done : Progress}
-    (p : Continuable s ws r range done) where
-  abbrev low : ℕ
-  low = range.low
+  abbrev ws : List ℕ
+  ws = l.standing.now
 
   abbrev high : ℕ
   high = range.high
@@ -83,99 +47,136 @@ module _ {s : Setting} {ws : List ℕ} {r : Rung} {range : Range} {done : Progre
   abbrev test : ℕ → Bool
   test h = is_permitted_beside s (map standing_of ws) h
 
-  untried : (h : ℕ) → low ≤ h → h < high + 1 → (h % step ≡ 0 → ⊥) → test h ≡ false
-  untried h l m other =
-      closed_refused s ws h (λ t. other (p.multiples.among h l (omega arith) (T_true (is_open_strike s h) t)))
+  untried : (h : ℕ) → range.low ≤ h → h < high + 1 → (h % step ≡ 0 → ⊥) → test h ≡ false
+  untried h a b other =
+      closed_refused s ws h (λ t. other (p.multiples.among h a (omega arith) (T_true (is_open_strike s h) t)))
 
-  pub trying_start : (o : List ℕ) (reach h : ℕ) → reach ≡ reach_of s → h ≡ (low + (step - 1)) / step * step →
-      Trying s ws o r range done.count reach o done.from done.count h
-  trying_start o reach h is e =
-      let parts = div-add-mod' (low + (step - 1)) step in
-      let rest = mod-lt (low + (step - 1)) {m = step} (omega (arith, p.fit.least)) in
-      let least : low ≤ h = omega (arith, p.fit.least) in
-      let next : h < low + step = omega (arith, p.fit.least) in
-      let multiple : h % step ≡ 0 = rw e (mul-mod_left ((low + (step - 1)) / step) step) in
-      let sum : low + (h - low) ≡ h = omega arith in
+  pub trying_start : (reach h : ℕ) → reach ≡ reach_of s → range.low ≤ h → h < range.low + step → h % step ≡ 0 →
+      Trying l r range reach l (next_strike ws) h
+  trying_start reach h is least first multiple =
+      let sum : range.low + (h - range.low) ≡ h = omega arith in
       record {
         reaches = is;
-        least = least;
         multiple = multiple;
-        behind = behind_more (omega arith) p.behind;
-        fewer = omega (arith, p.fewer);
-        filling =
-            filling_start
-            (left_skip test (high + 1) (h - low) low
-            (λ i l m k. untried i l k (λ q. between_multiples step i h q multiple (omega arith) (omega arith)))
-            ∙ ap (left test (high + 1)) sum);
+        nearest = refl;
+        listed =
+            record {
+              least = least;
+              setting = refl;
+              place = refl;
+              alike = alike_start s ws (min h (above range)) p.listable.rising;
+              fewer = omega (arith, p.fewer);
+              filling =
+                  filling_start
+                  (left_skip test (high + 1) (h - range.low) range.low
+                  (λ i a m k. untried i a k (λ q. between_multiples step i h q multiple (omega arith) (omega arith)))
+                  ∙ ap (left test (high + 1)) sum);
+            };
       }
 
-  pub trying_here : {from h : ℕ} → h ≤ high → Behind s ws from h → Triable s ws from h
-  trying_here l behind =
-      record {
-        judged =
-            let m = p.listable.measurable in
-            record { low = m.low; high = m.high; current = m.current; strike = omega (arith, p.last) };
-        rising = p.listable.rising;
-        behind = behind;
-      }
-
-  module _ {o b : List ℕ} {at reach from n h : ℕ} (t : Trying s ws o r range at reach b from n h) where
-    pub trying_reach : h ≤ high → reach ≤ h
-    trying_reach l = go (ltb h step) refl
+  module _ {reach : ℕ} {l' : Listing} {next h : ℕ} (t : Trying l r range reach l' next h) (within : h ≤ high) where
+    pub trying_reach : reach ≤ h
+    trying_reach = go (ltb h step) refl
       where
         go : (u : Bool) → ltb h step ≡ u → reach ≤ h
         go true q =
             let none : h % step ≡ h = mod-eq_of_lt (ltb-true h step q) in
-            absurd (omega (arith, p.least, t.least, t.multiple))
+            absurd (omega (arith, p.least, t.listed.least, t.multiple))
         go false q = omega (arith, t.reaches, ltb-false h step q, p.fit.reach)
 
-    pub trying_open : h ≤ high → r.all ≡ true → is_open_strike s h ≡ true
-    trying_open l e = p.multiples.each e h t.least l t.multiple
+    -- what stands too far below is passed
+    pub trying_passed : (l'' : Listing) → l''.setting ≡ l'.setting → l''.out ≡ l'.out → l''.count ≡ l'.count →
+        l''.standing.now ≡ strikes_from l'.standing.now (h - reach) →
+        Trying l r range reach l'' (next_strike l''.standing.now) h
+    trying_passed l'' setting out count standing =
+        record {
+          reaches = t.reaches;
+          multiple = t.multiple;
+          nearest = refl;
+          listed =
+              record {
+                least = t.listed.least;
+                setting = setting ∙ t.listed.setting;
+                place = ap (λ (r : MutBor (List ℕ)). r.ghost_name) out ∙ t.listed.place;
+                alike =
+                    rw standing
+                    (alike_again t.listed.alike
+                    (alike_above s l'.standing.now (h - reach) (min h (above range)) t.listed.alike.rising
+                    (omega (arith, t.reaches, trying_reach))));
+                fewer = omega (arith, count, t.listed.fewer);
+                filling = rw (out, count) t.listed.filling;
+              };
+        }
+
+    pub trying_here : Triable l'.setting l'.standing.now h
+    trying_here =
+        let m = p.listable.measurable in
+        rw t.listed.setting
+        (record {
+          judged = record { low = m.low; high = m.high; current = m.current; strike = omega (arith, p.last) };
+          rising = t.listed.alike.rising;
+        })
+
+    -- ---- whether it is permitted
+
+    pub trying_judged : {b : Bool} → b ≡ is_permitted_beside l'.setting (map standing_of l'.standing.now) h → b ≡ test h
+    trying_judged e =
+        e
+        ∙ ap (λ (s : Setting). is_permitted_beside s (map standing_of l'.standing.now) h) t.listed.setting
+        ∙ sym (t.listed.alike.same h (omega arith))
+
+    pub trying_open : r.all ≡ true → h + reach < next → true ≡ test h
+    trying_open all beyond =
+        trying_judged
+        (sym
+        (open_permitted l'.standing.now trying_here
+        (rw t.listed.setting (p.multiples.each all h t.listed.least within t.multiple))
+        (rw t.listed.setting (omega (arith, t.reaches, t.nearest)))))
+
+    pub trying_standing : next ≡ h → false ≡ test h
+    trying_standing e = trying_judged (sym (standing_refused l'.standing.now trying_here (sym t.nearest ∙ e)))
+
+    -- ---- the next one
 
     -- the strikes up to the next that is tried are none that is permitted
-    left_turn : h ≤ high →
+    left_turn :
         left test (high + 1) h
         ≡ cond (test h) (h ∷ left test (high + 1) (h + step)) (left test (high + 1) (h + step))
-    left_turn l =
+    left_turn =
         let e : suc h + (step - 1) ≡ h + step = omega (arith, p.fit.least) in
         left_here test (high + 1) h (omega arith)
         ∙ ap (λ (rest : List ℕ). cond (test h) (h ∷ rest) rest)
         (left_skip test (high + 1) (step - 1) (suc h)
         (λ i k m u.
-        untried i (omega (arith, t.least)) u
+        untried i (omega (arith, t.listed.least)) u
         (λ q. between_multiples step h i t.multiple q (omega arith) (omega arith)))
         ∙ ap (left test (high + 1)) e)
 
-    trying_next : h ≤ high → {from' n' : ℕ} {b' : List ℕ} → Behind s ws from' h → n' ≤ n + 1 →
-        Filling (permitted_between s ws low high) o at b' n' (left test (high + 1) (h + step)) →
-        Trying s ws o r range at reach b' from' n' (h + step)
-    trying_next l behind k filling =
+    trying_next : (l'' : Listing) → l''.setting ≡ l'.setting → l''.out.ghost_name ≡ l'.out.ghost_name →
+        l''.standing.now ≡ l'.standing.now → l''.count ≤ l'.count + 1 →
+        Filling (permitted_in l range) l.out.now l.count l''.out.now l''.count (left test (high + 1) (h + step)) →
+        Trying l r range reach l'' next (h + step)
+    trying_next l'' setting place standing count filling =
         record {
           reaches = t.reaches;
-          least = omega (arith, t.least);
           multiple = add-mod_right h step ∙ t.multiple;
-          behind = behind_more (omega (arith, p.fit.least)) behind;
-          fewer = omega (arith, t.fewer, p.fit.least);
-          filling = filling;
+          nearest = rw standing t.nearest;
+          listed =
+              record {
+                least = omega (arith, t.listed.least);
+                setting = setting ∙ t.listed.setting;
+                place = place ∙ t.listed.place;
+                alike = rw standing (alike_more t.listed.alike (min (h + step) (above range)) (omega arith));
+                fewer = omega (arith, t.listed.fewer, p.fit.least, count);
+                filling = filling;
+              };
         }
 
-    pub trying_taken : h ≤ high → test h ≡ true → {from' : ℕ} → Behind s ws from' h →
-        Trying s ws o r range at reach (set b n h) from' (n + 1) (h + step)
-    trying_taken l e behind =
-        trying_next l behind (omega arith) (filling_one (filling_as (left_turn l ∙ rw e) t.filling))
+    pub trying_taken : true ≡ test h → {l'' : Listing} → Written l' h l'' → Trying l r range reach l'' next (h + step)
+    trying_taken e {l''} written =
+        trying_next l'' written.setting written.place written.standing (omega (arith, written.count))
+        (rw (written.out, written.count) (filling_one (filling_as (left_turn ∙ rw (← e)) t.listed.filling)))
 
-    pub trying_skipped : h ≤ high → test h ≡ false → {from' : ℕ} → Behind s ws from' h →
-        Trying s ws o r range at reach b from' n (h + step)
-    trying_skipped l e behind = trying_next l behind (omega arith) (filling_as (left_turn l ∙ rw e) t.filling)
-
-  pub trying_done : {o b : List ℕ} {reach from n h : ℕ} →
-      Trying s ws o r range done.count reach b from n h → high < h →
-      Continued s ws range done o (record { from = from; count = n }) b
-  trying_done {h = h} t l =
-      let written = filling_done (filling_as (left_none test (high + 1) h (omega arith)) t.filling) in
-      record {
-        count = written.0;
-        written = written.1;
-        behind = behind_more (omega (arith, t.least)) t.behind;
-        fewer = omega (arith, t.fewer, t.least);
-      }
+    pub trying_skipped : false ≡ test h → Trying l r range reach l' next (h + step)
+    trying_skipped e =
+        trying_next l' refl refl refl (omega arith) (filling_as (left_turn ∙ rw (← e)) t.listed.filling)

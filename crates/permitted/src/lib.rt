@@ -2,264 +2,216 @@
 // standing strikes near them.
 #![tactic(auto)]
 
-ghost use Rattle.std.specs.Prelude.{◌≡◌, not, map, ◌≤◌, eqb, length, set};
+ghost use Rattle.std.specs.Prelude.{◌≡◌, ◌==◌, ◌<◌, ◌≤◌, not, map, length};
+ghost use Rattle.std.specs.List.{list_all};
 ghost use Rattle.std.proofs.lemmas.List.Edits.{sets};
-ghost use Rattle.logic.specs.Lists.{some};
-ghost use Rattle.word.specs.Limits.{last_month, highest_price};
+ghost use Rattle.word.specs.Limits.{highest_price, highest_strike};
+ghost use Rattle.rule.specs.Ends.{reach_of};
 ghost use Rattle.rule.specs.Spacing.{standing_of};
 ghost use Rattle.rule.specs.Judgement.{is_permitted_beside};
-ghost use Rattle.permitted.specs.Listing.{Measurable, Listable, Triable, OpenTriable, Continuable, Climbable, Continued};
-ghost use Rattle.permitted.specs.Listing.{standing_strike, strike_from, permitted_beside, range_at, ranges_of, Filled};
+ghost use Rattle.permitted.specs.Listing.{Measurable, Listable, Triable, Continuable, Climbable, Continued, Written};
+ghost use Rattle.permitted.specs.Listing.{strike_in, next_strike, strikes_below, strikes_from, permitted_beside, range_at, ranges_of, Filled};
 
 use rule::amounts::ONE_DOLLAR;
-use rule::bounds::{Rung, Rungs, high_end, higher_of, low_end, lower_of, most_open, rungs_of};
+use rule::bounds::{Rung, Rungs, low_end, most_open};
 use rule::judgement::is_accepted;
-use rule::terms::{Setting, is_long};
-use word::answer::{Answer, Refusal};
+use rule::terms::Setting;
+use word::answer::{Accepted, Answer, Refusal};
 use word::kind::{STRIKE, key_of};
 use word::strike::{HALF_DOLLAR, Strike};
 
-// A number above all strikes.
+// A number above all strikes. Tried: with an Option in the place of the next strike `A` takes a fifth longer.
 const NO_STRIKE: u32 = 65535;
 
-// How many half dollars away a standing strike can bear on a new one, in a long expiration and in a near one; and so
-// many away none does.
+// The reach of a standing strike in a long expiration, and in a near one.
 const LONG_REACH: u32 = ONE_DOLLAR / HALF_DOLLAR;
 
 const NEAR_REACH: u32 = 1;
 
-const BEYOND_REACH: u32 = LONG_REACH + 1;
-
-// How far a list is: the standing strikes before `from` are far below the strikes to come, and `count` strikes are
-// listed.
-#[derive(Clone, Copy)]
-struct Progress {
-    from: usize,
-    count: u32,
-}
-
-// The strikes from `low` to `high`.
+// The strikes from `low` to `high`. std's RangeInclusive is no plainer: it is not Copy, and calls read its ends.
 #[derive(Clone, Copy)]
 struct Range {
     low: u32,
     high: u32,
 }
 
-// The strikes in range at the day's low, and those above them that are in range at its high.
-#[derive(Clone, Copy)]
-struct Ranges {
-    first: Range,
-    second: Range,
+// How many words stand before the first whose strike is at least `low`.
+fn strikes_below(standing: &[u32], low: u32) -> usize
+    ensures within { result ≤ length standing.now }
+    ensures value { result ≡ strikes_below standing.now low }
+{
+    standing
+        .iter()
+        .take_while(|w| key_of(**w, STRIKE) < low)
+        .count()
 }
 
-// The first index from `at` on whose strike is at least `low`, or the length.
-fn strike_from(standing: &[u32], at: usize, low: u32) -> usize
-    requires { at ≤ length standing.now }
-    ensures { result ≡ strike_from standing.now at low }
+// The words from there on.
+fn strikes_from(standing: &[u32], low: u32) -> &[u32]
+    ensures { result.now ≡ strikes_from standing.now low }
 {
-    let mut i = at;
-    while i < standing.len() {
-        if low <= key_of(standing[i], STRIKE) {
-            return i;
-        }
-        i += 1;
-    }
-    i
+    &standing[strikes_below(standing, low)..]
 }
 
-// The strike at an index, or one above all strikes where the words end.
-fn strike_at(standing: &[u32], at: usize) -> u32
-    ensures { result ≡ standing_strike standing.now at }
+// The first strike, or one above all strikes where there is none.
+fn next_strike(standing: &[u32]) -> u32
+    ensures { result ≡ next_strike standing.now }
 {
-    if at < standing.len() {
-        return key_of(standing[at], STRIKE);
-    }
-    NO_STRIKE
+    standing.first().map_or(NO_STRIKE, |w| key_of(*w, STRIKE))
 }
 
 // Whether the strike h is none of those of the words.
 fn is_absent(near: &[u32], h: u32) -> bool
-    ensures { result ≡ not (some (λ t. eqb t.strike h) (map standing_of near.now)) }
+    ensures { result ≡ list_all (λ w. not (strike_in w == h)) near.now }
 {
-    let mut i: usize = 0;
-    while i < near.len() {
-        if key_of(near[i], STRIKE) == h {
-            return false;
-        }
-        i += 1;
-    }
-    true
+    near.iter().all(|w| key_of(*w, STRIKE) != h)
 }
 
-// Whether `J` would accept the strike h, where the standing strikes before `from` are far below it.
-fn is_permitted_at(s: Setting, standing: &[u32], from: usize, h: u32) -> bool
-    requires { Triable s standing.now from h }
-    ensures { result ≡ is_permitted_beside s (map standing_of standing.now) h }
-{
-    let to = strike_from(standing, from, h + BEYOND_REACH);
-    let near = &standing[from..to];
-    is_absent(near, h) && is_accepted(s, Strike(h), near)
+// A list in the making: the strikes that are permitted in a setting, rising.
+// Tried: with `Listable` as a ghost field the proof does not close, as nothing is then known of what `out` ends as.
+#[derive(Drop)]
+struct Listing<'a> {
+    setting: Setting,
+    // The words of the standing strikes, but for those too far below the strikes to come to bear on these.
+    standing: &'a [u32],
+    // Where the strikes are written, as far as it has places.
+    out: &'a mut [u32],
+    // How many are listed.
+    count: u32,
 }
 
-// The same of a strike that the rules accept beside none, by the standing strike at `from`, where that decides.
-fn is_open_strike_at(
-    s: Setting,
-    standing: &[u32],
-    from: usize,
-    next: u32,
-    h: u32,
-    reach: u32,
-) -> bool
-    requires { OpenTriable s standing.now from next h reach }
-    ensures { result ≡ is_permitted_beside s (map standing_of standing.now) h }
-{
-    if h + reach < next {
-        return true;
-    }
-    if next == h {
-        return false;
-    }
-    is_permitted_at(s, standing, from, h)
-}
-
-// Writes a strike where the run has a place for it.
-fn write_strike(out: &mut [u32], at: usize, h: u32)
-    ensures { out.new ≡ set out.old at h }
-{
-    if at < out.len() {
-        out[at] = h;
-    }
-}
-
-// Goes on with the permitted strikes of the range, which are multiples of the rung's step.
-fn write_multiples(
-    s: Setting,
-    standing: &[u32],
-    rung: Rung,
-    range: Range,
-    done: Progress,
-    out: &mut [u32],
-) -> Progress
-    requires { Continuable s standing.now rung range done }
-    ensures { Continued s standing.now range done out.old result out.new }
-{
-    let step = rung.step;
-    let reach = if is_long(s) { LONG_REACH } else { NEAR_REACH };
-    let mut from = done.from;
-    let mut count = done.count;
-    let mut h = (range.low + (step - 1)) / step * step;
-    let mut next = strike_at(standing, from);
-    while h <= range.high {
-        if next <= h + reach {
-            from = strike_from(standing, from, h - reach);
-            next = strike_at(standing, from);
-        }
-        let permitted = if rung.all {
-            is_open_strike_at(s, standing, from, next, h, reach)
+impl Listing<'_> {
+    // How many half dollars away a standing strike can bear on a new one.
+    fn reach(&self) -> u32
+        ensures { result ≡ reach_of self.now.setting }
+    {
+        if self.setting.is_long() {
+            LONG_REACH
         } else {
-            is_permitted_at(s, standing, from, h)
-        };
-        if permitted {
-            write_strike(out, count as usize, h);
-            count += 1;
+            NEAR_REACH
         }
-        h += step;
     }
-    Progress { from, count }
-}
 
-// Goes on with the permitted strikes of the range, rung by rung, as far as it reaches.
-fn write_range(
-    s: Setting,
-    standing: &[u32],
-    rungs: Rungs,
-    range: Range,
-    done: Progress,
-    out: &mut [u32],
-) -> Progress
-    requires { Climbable s standing.now rungs range done }
-    ensures { Continued s standing.now range done out.old result out.new }
-{
-    let mut reached = done;
-    let mut low = range.low;
-    let mut i: usize = 0;
-    while low <= range.high {
-        let rung = rungs[i];
-        let high = lower_of(rung.to, range.high);
-        if low <= high {
-            reached = write_multiples(s, standing, rung, Range { low, high }, reached, out);
-            low = high + 1;
-        }
-        i += 1;
+    // Whether `J` would accept the strike h, on which only the standing strikes within reach bear.
+    fn is_permitted(&self, h: u32) -> bool
+        requires { Triable self.now.setting self.now.standing.now h }
+        ensures { result ≡ is_permitted_beside self.now.setting (map standing_of self.now.standing.now) h }
+    {
+        let end = strikes_below(self.standing, h + self.reach() + 1);
+        let near = &self.standing[..end];
+        is_absent(near, h) && is_accepted(self.setting, Strike(h), near)
     }
-    reached
+
+    // Adds a strike, and writes it where there is a place for it.
+    // Tried: with `get_mut` the proof does not close, as std does not say what the slice ends as.
+    fn write(&mut self, h: u32)
+        requires { self.old.count < highest_strike }
+        ensures { Written self.old h self.new }
+    {
+        let at = self.count as usize;
+        if at < self.out.len() {
+            self.out[at] = h;
+        }
+        self.count += 1;
+    }
+
+    // Goes on with the permitted strikes of the range, which are multiples of the rung's step. One that the rules
+    // accept where no strike stands is permitted where none is within reach, and only else it is judged.
+    // Tried: by `(first..=range.high).step_by(..)` `A` takes a sixth longer.
+    fn write_multiples(&mut self, rung: Rung, range: Range)
+        requires { Continuable self.old rung range }
+        ensures { Continued self.old range self.new }
+    {
+        let reach = self.reach();
+        let mut next = next_strike(self.standing);
+        let mut h = range.low.next_multiple_of(rung.step);
+        while h <= range.high {
+            if next <= h + reach {
+                self.standing = strikes_from(self.standing, h - reach);
+                next = next_strike(self.standing);
+            }
+            let permitted = (rung.all && h + reach < next) || (next != h && self.is_permitted(h));
+            if permitted {
+                self.write(h);
+            }
+            h += rung.step;
+        }
+    }
+
+    // Goes on with the permitted strikes of the range, rung by rung, as far as it reaches.
+    fn write_range(&mut self, rungs: &Rungs, range: Range)
+        requires { Climbable self.old rungs.now range }
+        ensures { Continued self.old range self.new }
+    {
+        let mut low = range.low;
+        for rung in rungs {
+            if range.high < low {
+                break;
+            }
+            let high = rung.to.min(range.high);
+            if low <= high {
+                self.write_multiples(*rung, Range { low, high });
+                low = high + 1;
+            }
+        }
+    }
 }
 
 // The strikes in range at the price p, from `least` on.
 fn range_at(s: Setting, p: u32, least: u32) -> Range
-    requires { (p ≤ highest_price) × (s.current ≤ last_month) }
+    requires { p ≤ highest_price }
     ensures { result ≡ range_at s p least }
 {
     Range {
-        low: higher_of(low_end(p), least),
-        high: high_end(s, p),
+        low: low_end(p).max(least),
+        high: s.high_end(p),
     }
 }
 
 // The two ranges; where the day's low is its high the second has no strike.
-fn ranges_of(s: Setting) -> Ranges
+fn ranges_of(s: Setting) -> [Range; 2]
     requires { Measurable s }
     ensures { result ≡ ranges_of s }
 {
     let first = range_at(s, s.class.low, 1);
-    let above = higher_of(first.low, first.high + 1);
+    let above = first.low.max(first.high + 1);
     let second = range_at(s, s.class.high, above);
-    Ranges { first, second }
+    [first, second]
 }
 
-// Writes the permitted strikes of the range at the day's low and then of that at its high, where this is another price,
-// rising, as far as `out` has places, and answers how many there are.
-fn write_permitted(s: Setting, standing: &[u32], ranges: Ranges, out: &mut [u32]) -> u32
+// Writes the permitted strikes of the range at the day's low and then those above it of that at its high, rising, as
+// far as `out` has places, and answers how many there are.
+fn write_permitted(s: Setting, standing: &[u32], ranges: [Range; 2], out: &mut [u32]) -> u32
     requires { Listable s standing.now × (ranges ≡ ranges_of s) }
     ensures value { result ≡ length (permitted_beside s standing.now) }
     ensures out_after { out.new ≡ sets out.old 0 (permitted_beside s standing.now) }
 {
-    let rungs = rungs_of(s);
-    let high = s.class.high;
-    let mut p = s.class.low;
-    let mut range = ranges.first;
-    let mut done = Progress { from: 0, count: 0 };
-    loop {
-        done = write_range(s, standing, rungs, range, done, out);
-        if p == high {
-            return done.count;
-        }
-        range = ranges.second;
-        p = high;
+    let rungs = s.rungs();
+    let mut listing = Listing {
+        setting: s,
+        standing,
+        out,
+        count: 0,
+    };
+    for range in ranges {
+        listing.write_range(&rungs, range);
     }
+    listing.count
 }
 
 // Writes the permitted strikes to the second run where it has places for all of them, and nothing else: unless it has a
-// place for each that there can be, they are counted before, by a first turn that has no place.
+// place for each that there can be, they are counted before.
 pub fn list_permitted(s: Setting, standing: &[u32], second: &mut [u32]) -> Answer
     requires { Listable s standing.now }
     ensures { Filled (permitted_beside s standing.now) second.old result second.new }
 {
     let ranges = ranges_of(s);
-    let high = higher_of(ranges.first.high, ranges.second.high);
-    let mut room = if second.len() < most_open(high) as usize {
-        0
-    } else {
-        second.len()
-    };
-    loop {
-        let count = write_permitted(s, standing, ranges, &mut second[0..room]);
+    let [first, above] = ranges;
+    if second.len() < most_open(first.high.max(above.high)) as usize {
+        let count = write_permitted(s, standing, ranges, &mut []);
         if second.len() < count as usize {
-            return Answer::Refused(Refusal::OutOfWords(count));
+            return Err(Refusal::OutOfWords(count));
         }
-        if room == second.len() {
-            return Answer::Listed(count);
-        }
-        room = second.len();
     }
+    Ok(Accepted::Listed(write_permitted(s, standing, ranges, second)))
 }

@@ -1,15 +1,15 @@
 // The review of the words of a class's series in steps of one strike: the highest month first, and in it the highest
 // strike.
-ghost use Rattle.std.specs.Prelude.{◌≡◌, cond, ℕ, suc, ◌+◌, ◌<◌, ◌≤◌, length};
+ghost use Rattle.std.specs.Prelude.{◌≡◌, suc, ◌<◌, ◌≤◌, length};
 ghost use Rattle.word.specs.Field.{field};
 ghost use Rattle.word.specs.Kinds.{key_of, strike_kind, ground_field, put_field, call_field};
-ghost use Rattle.word.specs.Limits.{highest_price, longest_run};
+ghost use Rattle.word.specs.Limits.{highest_price};
 ghost use Rattle.review.specs.Marks.{near_strikes, stays};
 ghost use Rattle.review.specs.StepStates.{Reached, lifted, lifted_to};
 ghost use Rattle.review.specs.ReviewsAsked.{Steppable, Stepping};
 
-use crate::marks::{Bounds, LastStrikes, is_beyond, last_strikes};
-use rule::bounds::higher_of;
+use crate::marks::{Bounds, LastStrikes, last_strikes};
+use std::mem;
 use word::field::field_of;
 use word::grounds::{DOLLAR_GROUND, WING_GROUND};
 use word::kind::{STRIKE, key_of};
@@ -23,9 +23,8 @@ fn near_strikes(close: u32) -> Bounds
     requires { close ≤ highest_price }
     ensures { result ≡ near_strikes close }
 {
-    let least = higher_of(close, REVIEW_DISTANCE) - REVIEW_DISTANCE;
     Bounds {
-        lowest: (least + (HALF_DOLLAR - 1)) / HALF_DOLLAR,
+        lowest: close.saturating_sub(REVIEW_DISTANCE).div_ceil(HALF_DOLLAR),
         above: (close + REVIEW_DISTANCE) / HALF_DOLLAR + 1,
     }
 }
@@ -50,23 +49,12 @@ fn does_stay(near: Bounds, marked: Bounds, w: u32) -> bool
     ensures { result
         ≡ stays near marked (key_of strike_kind w) (field w ground_field) (field w put_field) (field w call_field) }
 {
-    let ground = field_of(w, GROUND);
-    if !(((ground == DOLLAR_GROUND) | (ground == WING_GROUND)) & !is_marked(w)) {
+    let reviewed = matches!(field_of(w, GROUND), DOLLAR_GROUND | WING_GROUND);
+    if !reviewed | is_marked(w) {
         return true;
     }
     let h = key_of(w, STRIKE);
-    !(is_beyond(near, h) & is_beyond(marked, h))
-}
-
-// One more, unless the expiration stays.
-fn counted(emptied: usize, stays: bool) -> usize
-    requires { emptied < longest_run }
-    ensures { result ≡ emptied + cond {A = ℕ} stays 0 1 }
-{
-    if stays {
-        return emptied;
-    }
-    emptied + 1
+    !(near.is_beyond(h) & marked.is_beyond(h))
 }
 
 // Takes the word at `at` out and, where it stays, puts it before `written`. Returns where what stays then begins.
@@ -75,14 +63,14 @@ fn lift(words: &mut [u32], at: usize, written: usize, stays: bool) -> usize
     ensures { (result ≡ lifted_to written stays)
         × (words.new ≡ lifted at written stays words.old) }
 {
-    let w = words[at];
-    words[at] = 0;
+    let w = mem::take(&mut words[at]);
     if stays {
         let to = written - 1;
         words[to] = w;
-        return to;
+        to
+    } else {
+        written
     }
-    written
 }
 
 // One step: the highest strike that is not reviewed yet. With the lowest of an expiration its word goes too, or goes up
@@ -93,29 +81,24 @@ fn review_step(words: &mut [u32], near: Bounds, k: ReviewState) -> ReviewState
         → Reached (suc x.steps) x.class words.new result }
 {
     let at = k.read - 1;
-    let last = k.last;
-    let marked = last.bounds;
-    let stays = does_stay(near, marked, words[at]);
+    let stays = does_stay(near, k.last.bounds, words[at]);
     let written = lift(words, at, k.written, stays);
-    if at == last.first {
+    if at == k.last.first {
         let start = at - 1;
         let kept = written < k.top;
         let all = lift(words, start, written, kept);
-        let next = last_strikes(&words[..start]);
         return ReviewState {
             read: start,
             written: all,
-            last: next,
+            last: last_strikes(&words[..start]),
             top: all,
-            emptied: counted(k.emptied, kept),
+            emptied: k.emptied + usize::from(!kept),
         };
     }
     ReviewState {
         read: at,
-        written: written,
-        last: last,
-        top: k.top,
-        emptied: k.emptied,
+        written,
+        ..k
     }
 }
 
@@ -130,14 +113,15 @@ pub fn review_steps(words: &mut [u32], close: u32, n: usize) -> ReviewState
     let mut k = ReviewState {
         read: end,
         written: end,
-        last: last,
+        last,
         top: end,
         emptied: 0,
     };
-    let mut i = 0;
-    while (i < n) & (0 < k.read) {
+    for _ in 0..n {
+        if k.read == 0 {
+            break;
+        }
         k = review_step(words, near, k);
-        i += 1;
     }
     k
 }

@@ -4,10 +4,11 @@ use mathlib.Core.Path.{◌≡◌, refl, ◌∙◌}
 use mathlib.Core.Bool.{Bool, true, false}
 use mathlib.Core.List.{List, [], ◌∷◌, ◌++◌, map}
 use Prim.Native.Nat.{ℕ, ◌*◌}
+use Rattle.std.specs.Prelude.{Ok, Err}
 use Rattle.word.specs.declared.class.ClassRecord.{ClassRecord}
 use Rattle.word.specs.declared.answer.Refusal.TheVariants.{OffGrid, OutOfRange, TooClose}
-use Rattle.word.specs.declared.answer.Answer.{Answer}
-use Rattle.word.specs.declared.answer.Answer.TheVariants.{Ground, Refused}
+use Rattle.word.specs.Answers.{Answer}
+use Rattle.word.specs.declared.answer.Accepted.TheVariants.{Ground}
 use Rattle.rule.specs.declared.terms.Setting.{Setting}
 use Rattle.logic.specs.Lists.{only, up_from}
 use Rattle.rule.specs.Terms.{is_long, is_near, is_outside}
@@ -145,18 +146,18 @@ cases =
     permits (dollar_near 4999) [] (dollars (up_from 26 25 ++ 55 ∷ 60 ∷ 65 ∷ 70 ∷ [])) ∷
     -- T5 "$1, near, 5000: $25 to $75 by $5; $26 draws 11"
     permits (dollar_near 5000) [] (dollars (25 ∷ 30 ∷ 35 ∷ 40 ∷ 45 ∷ 50 ∷ 55 ∷ 60 ∷ 65 ∷ 70 ∷ 75 ∷ [])) ∷
-    answers (dollar_near 5000) [] (2 * 26) (Refused OffGrid) ∷
+    answers (dollar_near 5000) [] (2 * 26) (Err OffGrid) ∷
     -- T6 "$1, long, 2450: $15, 18, 20, 22, 25, 27, 30, 32, 35"
     permits (dollar_long 2450) [] (dollars (15 ∷ 18 ∷ 20 ∷ 22 ∷ 25 ∷ 27 ∷ 30 ∷ 32 ∷ 35 ∷ [])) ∷
     -- T7 "$1, long, 2500: T6's and $23; with $22 standing, $23 draws 13"
     permits (dollar_long 2500) [] (dollars (15 ∷ 18 ∷ 20 ∷ 22 ∷ 23 ∷ 25 ∷ 27 ∷ 30 ∷ 32 ∷ 35 ∷ [])) ∷
-    answers (dollar_long 2500) (one_standing (2 * 22) 3) (2 * 23) (Refused TooClose) ∷
+    answers (dollar_long 2500) (one_standing (2 * 22) 3) (2 * 23) (Err TooClose) ∷
     -- T8 "half class only, volume 1,000, 200: h 1 to 9, 10, 15, 20, 25"
     permits (half_near 200) [] (up_from 9 1 ++ 10 ∷ 15 ∷ 20 ∷ 25 ∷ []) ∷
     -- T9 "$1, near, 1300, a Standard $12.50 standing: $12 and $13 draw 13, $14 is Dollar"
-    answers (dollar_near 1300) (one_standing 25 0) (2 * 12) (Refused TooClose) ∷
-    answers (dollar_near 1300) (one_standing 25 0) (2 * 13) (Refused TooClose) ∷
-    answers (dollar_near 1300) (one_standing 25 0) (2 * 14) (Ground 1) ∷
+    answers (dollar_near 1300) (one_standing 25 0) (2 * 12) (Err TooClose) ∷
+    answers (dollar_near 1300) (one_standing 25 0) (2 * 13) (Err TooClose) ∷
+    answers (dollar_near 1300) (one_standing 25 0) (2 * 14) (Ok (Ground 1)) ∷
     -- T10 "`now` 4: m 4 and 44 draw 5, 12 is near, 13 and 43 are long"
     refused 4 4 ∷
     refused 4 44 ∷
@@ -164,48 +165,48 @@ cases =
     long 4 13 ∷
     long 4 43 ∷
     -- "At a close of 4850 the user expects $52.50 and $57.50"; $42.50 and $47.50 too, and $62.50 is $14 away
-    answers (two_fifty_near 4850) [] 105 (Ground 4) ∷
-    answers (two_fifty_near 4850) [] 115 (Ground 4) ∷
-    answers (two_fifty_near 4850) [] 125 (Refused OffGrid) ∷
+    answers (two_fifty_near 4850) [] 105 (Ok (Ground 4)) ∷
+    answers (two_fifty_near 4850) [] 115 (Ok (Ground 4)) ∷
+    answers (two_fifty_near 4850) [] 125 (Err OffGrid) ∷
     permits (two_fifty_near 4850) []
     (50 ∷ 55 ∷ 60 ∷ 65 ∷ 70 ∷ 75 ∷ 80 ∷ 85 ∷ 90 ∷ 95 ∷ 100 ∷ 105 ∷ 110 ∷ 115 ∷ 120 ∷ 130 ∷ 140 ∷ []) ∷
     -- "In a $1 class ground 4 grants no strike below $50 that isn't a multiple of $5."
-    answers (both_near 4850) [] 95 (Refused OffGrid) ∷
-    answers (both_near 4850) [] 105 (Ground 4) ∷
+    answers (both_near 4850) [] 95 (Err OffGrid) ∷
+    answers (both_near 4850) [] 105 (Ok (Ground 4)) ∷
     -- a close of $54: $52.50 and $62.50 are ground 4's, and $67.50 is $13.50 away
-    answers (two_fifty_near 5400) [] 105 (Ground 4) ∷
-    answers (two_fifty_near 5400) [] 125 (Ground 4) ∷
-    answers (two_fifty_near 5400) [] 135 (Refused OffGrid) ∷
+    answers (two_fifty_near 5400) [] 105 (Ok (Ground 4)) ∷
+    answers (two_fifty_near 5400) [] 125 (Ok (Ground 4)) ∷
+    answers (two_fifty_near 5400) [] 135 (Err OffGrid) ∷
     -- just $10 away
-    answers (two_fifty_near 6250) [] 105 (Ground 4) ∷
-    answers (two_fifty_near 6251) [] 105 (Refused OffGrid) ∷
+    answers (two_fifty_near 6250) [] 105 (Ok (Ground 4)) ∷
+    answers (two_fifty_near 6251) [] 105 (Err OffGrid) ∷
     -- "The range rule holds as for Standard": at $20 no more than $40
-    answers (two_fifty_near 2000) [] 75 (Ground 4) ∷
-    answers (two_fifty_near 2000) [] 85 (Refused OutOfRange) ∷
+    answers (two_fifty_near 2000) [] 75 (Ok (Ground 4)) ∷
+    answers (two_fifty_near 2000) [] 85 (Err OutOfRange) ∷
     -- "Near expirations"
-    answers (two_fifty_long 4850) [] 105 (Refused OffGrid) ∷
+    answers (two_fifty_long 4850) [] 105 (Err OffGrid) ∷
     -- "For spacing it counts as Standard", whichever came first
-    answers (both_near 2700) (one_standing 55 4) (2 * 27) (Refused TooClose) ∷
-    answers (two_fifty_near 2700) (one_standing (2 * 27) 1) 55 (Refused TooClose) ∷
+    answers (both_near 2700) (one_standing 55 4) (2 * 27) (Err TooClose) ∷
+    answers (two_fifty_near 2700) (one_standing (2 * 27) 1) 55 (Err TooClose) ∷
     -- #103, low 1900: to $38, or the five above $19; high 2100: $10.50 to $31.50
     permits (no_program_day 1900 1950 2100) []
     (5 ∷ 10 ∷ 15 ∷ 20 ∷ 25 ∷ 30 ∷ 35 ∷ 40 ∷ 45 ∷ 50 ∷ 60 ∷ 70 ∷ []) ∷
     -- T6's positions at the low and T7's at the high; $22 and $23 by the spacing
     permits (dollar_long_day 2450 2475 2500) [] (dollars (15 ∷ 18 ∷ 20 ∷ 22 ∷ 23 ∷ 25 ∷ 27 ∷ 30 ∷ 32 ∷ 35 ∷ [])) ∷
-    answers (dollar_long_day 2450 2475 2500) (one_standing (2 * 22) 3) (2 * 23) (Refused TooClose) ∷
-    answers (dollar_long_day 2450 2475 2500) (one_standing (2 * 23) 3) (2 * 22) (Refused TooClose) ∷
+    answers (dollar_long_day 2450 2475 2500) (one_standing (2 * 22) 3) (2 * 23) (Err TooClose) ∷
+    answers (dollar_long_day 2450 2475 2500) (one_standing (2 * 23) 3) (2 * 22) (Err TooClose) ∷
     -- not at the close, nor at prices between: $25 is out of range at $2 and at $100
-    answers (no_program_day 200 2400 10000) [] 50 (Refused OutOfRange) ∷
+    answers (no_program_day 200 2400 10000) [] 50 (Err OutOfRange) ∷
     -- Half to $3.50 at the low of $1, and none at the high of $25; the other strikes from $2.50 to $35
     permits (half_near_day 100 300 2500) []
     (up_from 7 1 ++ 10 ∷ 15 ∷ 20 ∷ 25 ∷ 30 ∷ 35 ∷ 40 ∷ 45 ∷ 50 ∷ 60 ∷ 70 ∷ []) ∷
     -- $37 is a wing at the low of $10, where $40 is out of range, and none at the high of $41, where it is in range
-    answers (dollar_long_day 1000 2000 4100) [] (2 * 37) (Refused OutOfRange) ∷
-    answers (dollar_long_day 1000 2000 4100) [] (2 * 38) (Ground 3) ∷
+    answers (dollar_long_day 1000 2000 4100) [] (2 * 37) (Err OutOfRange) ∷
+    answers (dollar_long_day 1000 2000 4100) [] (2 * 38) (Ok (Ground 3)) ∷
     -- "The program's price conditions .. keep the close": below $50, and no more than $10 from it
-    answers (dollar_near_day 4900 4999 6000) [] (2 * 26) (Ground 1) ∷
-    answers (dollar_near_day 4900 5000 6000) [] (2 * 26) (Refused OffGrid) ∷
-    answers (two_fifty_near_day 4000 4850 6250) [] 145 (Refused OffGrid) ∷ []
+    answers (dollar_near_day 4900 4999 6000) [] (2 * 26) (Ok (Ground 1)) ∷
+    answers (dollar_near_day 4900 5000 6000) [] (2 * 26) (Err OffGrid) ∷
+    answers (two_fifty_near_day 4000 4850 6250) [] 145 (Err OffGrid) ∷ []
 
 pub closes : All cases
 unfolding lowest among_five

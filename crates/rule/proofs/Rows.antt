@@ -1,66 +1,69 @@
--- The decision over the rows of the grounds, one row at a time: what is decided is said of the rows that are left. Of
--- the spacing it needs only which ground is the first that passes. Assumes nothing.
+-- The decision over the rows of the grounds is that of the place of the first row that passes. Of the spacing it needs
+-- only which ground is the first that passes. Assumes nothing.
 use mathlib.Core.Path.{◌≡◌, refl, sym, ap, ◌∙◌}
-use mathlib.Core.Bool.{Bool, true, false, cond, ◌&&◌, ◌||◌, or-false, or_self, and-false}
+use mathlib.Core.Bool.{Bool, true, false, cond, not, ◌&&◌, ◌||◌, or_self, and-false}
 use mathlib.Core.List.{List, [], ◌∷◌, map}
 use Prim.Native.Nat.{ℕ, zero, suc, ◌+◌, ◌≤◌, ◌<◌}
-use native.Mathlib.Numerals.{add-one}
+use native.Mathlib.Numerals.{add-one, one-add}
 use native.Mathlib.Omega.{arith}
-use lib.ListN.{length, get_or, drop, drop_of_length-le}
-use lib.Seq.{drop-cons}
-use borrow.Author.Tests.{eq-eqb, ne_eqb}
-use Rattle.word.specs.Limits.{highest_price}
+use lib.ListN.{length, get_or, set}
+use lib.Dec.{ltb, leb-suc-suc}
+use borrow.Author.Tests.{eq-eqb, ne_eqb, lt-ltb}
+use Rattle.std.specs.Prelude.{Option, Some, None, MatchOption, position, Ok, Err}
+use Rattle.std.specs.List.{list_any, position_or_len}
 use Rattle.word.specs.declared.answer.Refusal.TheVariants.{OffGrid, OutOfRange, TooClose}
-use Rattle.word.specs.declared.answer.Answer.{Answer}
-use Rattle.word.specs.declared.answer.Answer.TheVariants.{Ground, Refused}
+use Rattle.word.specs.Answers.{Answer}
+use Rattle.word.specs.declared.answer.Accepted.TheVariants.{Ground}
 use Rattle.rule.specs.declared.terms.Setting.{Setting}
 use Rattle.logic.specs.Lists.{some, up_from, first_from}
 use Rattle.logic.proofs.Tests.{parts}
-use Rattle.logic.proofs.Walks.{some_step, first_found}
+use Rattle.logic.proofs.Walks.{first_found}
 use Rattle.rule.specs.Grids.{grounds}
 use Rattle.rule.specs.Ranges.{on_grid, in_range}
 use Rattle.word.specs.Answers.{is_accepted}
 use Rattle.rule.specs.Spacing.{Standing}
 use Rattle.rule.specs.Judgement.{row_of, rows_of, passes, passes_grid, passes_range, refusal_of, ground_from, decided}
-use Rattle.rule.specs.Judgement.{found_row, found_rows, rows_at, none_passes, either_rows, first_ground, judgement, Judged}
+use Rattle.rule.specs.Judgement.{found_row, found_rows, rows_at, first_ground, judgement}
 
-first_step : (rows : List (List Bool)) (g : ℕ) → g < length rows → (v : Answer) →
-    ground_from v g (drop g rows)
-    ≡ cond (passes (get_or rows g [])) (Ground g) (ground_from v (g + 1) (drop (g + 1) rows))
-first_step rows g l v = rw (ap (λ (n : ℕ). drop n rows) (add-one g), drop-cons rows g [])
+-- the library's search of a list and ours
+pub some_any : {A : Type 0} (test : A → Bool) (xs : List A) → some test xs ≡ list_any test xs
+some_any test [] = refl
+some_any test (x ∷ xs) = ap (λ (t : Bool). test x || t) (some_any test xs)
 
--- what is known before row g: no row below g passes, and whether one of them passes its grid, and its range too
-pub record Seen (rows : List (List Bool)) (on_grid in_range : Bool) (g : ℕ) : Type 0 where
-  pub bound : g ≤ length rows
-  pub first : (v : Answer) → ground_from v 0 rows ≡ ground_from v g (drop g rows)
-  pub grids : some passes_grid rows ≡ (on_grid || some passes_grid (drop g rows))
-  pub ranges : some passes_range rows ≡ (in_range || some passes_range (drop g rows))
+-- the first ground that passes, by the place of its row
+ground_at : (v : Answer) (rows : List (List Bool)) (g k : ℕ) → k ≡ g + position_or_len passes rows →
+    ground_from v g rows ≡ cond (ltb (position_or_len passes rows) (length rows)) (Ok (Ground k)) v
+ground_at v [] g k e = refl
+ground_at v (row ∷ rows) g k e = go (passes row) (ground_at v rows (g + 1) k) e
+  where
+    n : ℕ
+    n = position_or_len passes rows
 
-pub seen_none : {rows : List (List Bool)} → Seen rows false false 0
-seen_none = record { bound = omega arith; first = λ v. refl; grids = refl; ranges = refl }
+    go : (t : Bool) → (k ≡ g + 1 + n → ground_from v (g + 1) rows ≡ cond (ltb n (length rows)) (Ok (Ground k)) v) →
+        k ≡ g + cond (not t) (1 + n) 0 →
+        cond t (Ok (Ground g)) (ground_from v (g + 1) rows)
+        ≡ cond (ltb (cond (not t) (1 + n) 0) (suc (length rows))) (Ok (Ground k)) v
+    go true later e = rw (lt-ltb 0 (suc (length rows)) (omega arith)) (ap (λ (n : ℕ). Ok (Ground n)) (omega arith))
+    go false later e = rw (one-add n, leb-suc-suc (suc n) (length rows)) (later (omega arith))
 
-module _ {rows : List (List Bool)} {on_grid in_range : Bool} {g : ℕ} (seen : Seen rows on_grid in_range g) where
-  pub seen_here : g < length rows → passes (get_or rows g []) ≡ true → Ground g ≡ decided rows
-  seen_here l p =
-      sym (seen.first (Refused (refusal_of rows)) ∙ first_step rows g l (Refused (refusal_of rows)) ∙ rw p)
+-- what the place of the first row that passes decides
+pub place_decides : (rows : List (List Bool)) (r : Option ℕ) → r ≡ position passes rows →
+    MatchOption r (Err (refusal_of rows) ≡ decided rows) (λ g. Ok (Ground g) ≡ decided rows)
+place_decides rows r e =
+    rw e
+    (go (ltb (position_or_len passes rows) (length rows))
+    (ground_at (Err (refusal_of rows)) rows 0 (position_or_len passes rows) (omega arith)))
+  where
+    go : (t : Bool) → decided rows ≡ cond t (Ok (Ground (position_or_len passes rows))) (Err (refusal_of rows)) →
+        MatchOption (cond t (Some (position_or_len passes rows)) None) (Err (refusal_of rows) ≡ decided rows)
+        (λ g. Ok (Ground g) ≡ decided rows)
+    go true e = sym e
+    go false e = sym e
 
-  pub seen_step : g < length rows → passes (get_or rows g []) ≡ false → {on_grid' in_range' : Bool} →
-      on_grid' ≡ (on_grid || passes_grid (get_or rows g [])) →
-      in_range' ≡ (in_range || passes_range (get_or rows g [])) → Seen rows on_grid' in_range' (g + 1)
-  seen_step l p {on_grid'} {in_range'} e₁ e₂ =
-      record {
-        bound = omega arith;
-        first = λ v. seen.first v ∙ first_step rows g l v ∙ rw p;
-        grids = some_step passes_grid [] rows g on_grid on_grid' l seen.grids e₁;
-        ranges = some_step passes_range [] rows g in_range in_range' l seen.ranges e₂;
-      }
-
-  pub seen_all : length rows ≤ g → Refused (cond in_range TooClose (cond on_grid OutOfRange OffGrid)) ≡ decided rows
-  seen_all l =
-      let e : drop g rows ≡ [] = drop_of_length-le rows {i = g} l in
-      let a : some passes_grid rows ≡ on_grid = seen.grids ∙ rw (e, or-false) in
-      let b : some passes_range rows ≡ in_range = seen.ranges ∙ rw (e, or-false) in
-      sym (seen.first (Refused (refusal_of rows)) ∙ rw (e, a, b))
+-- the refusal, by what the library's search says of the rows
+pub refusal_told : (rows : List (List Bool)) (in_range on_grid : Bool) → in_range ≡ list_any passes_range rows →
+    on_grid ≡ list_any passes_grid rows → cond in_range TooClose (cond on_grid OutOfRange OffGrid) ≡ refusal_of rows
+refusal_told rows in_range on_grid e f = rw (some_any passes_range rows, some_any passes_grid rows, e, f)
 
 accepted_from : (v : Answer) → is_accepted v ≡ false → (g : ℕ) (rows : List (List Bool)) →
     is_accepted (ground_from v g rows) ≡ some passes rows
@@ -68,16 +71,16 @@ accepted_from v e g [] = e
 accepted_from v e g (row ∷ rows) = go (passes row) (accepted_from v e (g + 1) rows)
   where
     go : (t : Bool) → is_accepted (ground_from v (g + 1) rows) ≡ some passes rows →
-        is_accepted (cond t (Ground g) (ground_from v (g + 1) rows)) ≡ (t || some passes rows)
+        is_accepted (cond t (Ok (Ground g)) (ground_from v (g + 1) rows)) ≡ (t || some passes rows)
     go true r = refl
     go false r = r
 
 -- a strike is accepted exactly when some ground passes
 pub accepted_passes : (rows : List (List Bool)) → is_accepted (decided rows) ≡ some passes rows
 accepted_passes rows =
-    accepted_from (Refused (refusal_of rows)) (go (some passes_range rows) (some passes_grid rows)) 0 rows
+    accepted_from (Err (refusal_of rows)) (go (some passes_range rows) (some passes_grid rows)) 0 rows
   where
-    go : (t u : Bool) → is_accepted (Refused (cond t TooClose (cond u OutOfRange OffGrid))) ≡ false
+    go : (t u : Bool) → is_accepted (Err (cond t TooClose (cond u OutOfRange OffGrid))) ≡ false
     go true u = refl
     go false true = refl
     go false false = refl
@@ -85,34 +88,9 @@ accepted_passes rows =
 -- ---- the rows as the search leaves them
 
 module _ (s : Setting) (h : ℕ) where
-  -- those of one price, where the low is the high, and those of two
-  one_price : s.class.low ≡ s.class.high → rows_at s s.class.low h ≡ found_rows s h (length grounds)
+  -- those of one price, where the low is the high
+  pub one_price : s.class.low ≡ s.class.high → rows_at s s.class.low h ≡ found_rows s h (length grounds)
   one_price e = rw (← e) (simp or_self)
-
-  two_prices :
-      either_rows (rows_at s s.class.low h) (rows_at s s.class.high h) ≡ found_rows s h (length grounds)
-  two_prices = refl
-
-  -- what is joined when the price p is to be read: nothing before the low, the rows at the low before the high
-  pub data Joined : ℕ → List (List Bool) → Type 0 where
-    none : Joined s.class.low none_passes
-    low : Joined s.class.high (rows_at s s.class.low h)
-
-  pub joined_price : {p : ℕ} {rows : List (List Bool)} → Joined p rows → Judged s h → p ≤ highest_price
-  joined_price none j = j.low
-  joined_price low j = j.high
-
-  pub joined_next :
-      {p : ℕ} {rows : List (List Bool)} → Joined p rows → (p ≡ s.class.high → ⊥)
-      → Joined s.class.high (either_rows rows (rows_at s p h))
-  joined_next none other = low
-  joined_next low other = absurd (other refl)
-
-  pub joined_all :
-      {p : ℕ} {rows : List (List Bool)} → Joined p rows → p ≡ s.class.high
-      → either_rows rows (rows_at s p h) ≡ found_rows s h (length grounds)
-  joined_all none e = one_price e
-  joined_all low e = two_prices
 
   pub found_range : (g : ℕ) → g < length grounds →
       passes_range (get_or (found_rows s h (length grounds)) g []) ≡ (on_grid s g h && in_range s g h)
@@ -143,7 +121,7 @@ module _ (s : Setting) (h : ℕ) where
             ground_from v (g + 1) (map (found_row s h (first_from passes_at n (g + 1))) (up_from n (suc g)))
             ≡ ground_from v (g + 1) (map (row_of s standing h) (up_from n (suc g))) →
             ground_from v g (map (found_row s h (cond t g (first_from passes_at n (g + 1)))) (up_from (suc n) g))
-            ≡ cond t (Ground g) (ground_from v (g + 1) (map (row_of s standing h) (up_from n (suc g))))
+            ≡ cond t (Ok (Ground g)) (ground_from v (g + 1) (map (row_of s standing h) (up_from n (suc g))))
         go true e r =
             let both : (on_grid s g h && in_range s g h) ≡ true = search parts in
             rw (both, eq-eqb g g refl)
@@ -151,6 +129,23 @@ module _ (s : Setting) (h : ℕ) where
             let later : g + 1 ≤ first_from passes_at n (g + 1) = (first_found passes_at n (g + 1)).least in
             rw (ne_eqb (first_from passes_at n (g + 1)) g (λ q. omega arith), and-false) r
 
+    -- the rows in which that of the ground that was found passes
+    pub found_noted :
+        (g : ℕ) → g < length grounds → g ≡ first_ground s standing h →
+        set (found_rows s h (length grounds)) g (true ∷ true ∷ true ∷ []) ≡ found_rows s h g
+    found_noted g l e =
+        let here : passes_at g ≡ true = rw e ((first_found passes_at (length grounds) 0).passes_here (omega arith)) in
+        go g l (search parts) (search parts)
+      where
+        go : (g : ℕ) → g < length grounds → on_grid s g h ≡ true → in_range s g h ≡ true →
+            set (found_rows s h (length grounds)) g (true ∷ true ∷ true ∷ []) ≡ found_rows s h g
+        go zero l on within = rw (on, within)
+        go (suc zero) l on within = rw (on, within)
+        go (suc (suc zero)) l on within = rw (on, within)
+        go (suc (suc (suc zero))) l on within = rw (on, within)
+        go (suc (suc (suc (suc zero)))) l on within = rw (on, within)
+        go (suc (suc (suc (suc (suc g))))) l on within = absurd (omega arith)
+
     -- the rows as the search leaves them decide the judgement
     pub found_judgement : decided (found_rows s h (first_ground s standing h)) ≡ judgement s standing h
-    found_judgement = found_from (Refused (refusal_of (rows_of s standing h))) (length grounds) 0
+    found_judgement = found_from (Err (refusal_of (rows_of s standing h))) (length grounds) 0

@@ -1,12 +1,12 @@
 -- Document 01, end of "Spacing": the ground of a strike, or 11, 12 or 13, and the list of permitted strikes. Assumes
 -- nothing.
-use Rattle.std.specs.Prelude.{ℕ, ◌+◌, ◌≤◌, Bool, false, cond, not, ◌&&◌, ◌||◌, List, [], ◌∷◌, map, eqb, get_or, length}
+use Rattle.std.specs.Prelude.{ℕ, ◌+◌, ◌≤◌, Bool, false, cond, not, ◌&&◌, ◌||◌, List, [], ◌∷◌, map, eqb, get_or, length, Ok, Err}
 use Rattle.word.specs.Limits.{highest_strike, last_month, highest_price}
 use Rattle.word.specs.Answers.{is_accepted}
 use Rattle.word.specs.declared.answer.Refusal.{Refusal}
 use Rattle.word.specs.declared.answer.Refusal.TheVariants.{OffGrid, OutOfRange, TooClose}
-use Rattle.word.specs.declared.answer.Answer.{Answer}
-use Rattle.word.specs.declared.answer.Answer.TheVariants.{Ground, Refused}
+use Rattle.word.specs.Answers.{Answer}
+use Rattle.word.specs.declared.answer.Accepted.TheVariants.{Ground}
 use Rattle.rule.specs.declared.terms.Setting.{Setting}
 use Rattle.logic.specs.Lists.{some, only, up_from, first_from}
 use Rattle.rule.specs.Grids.{grounds, grid_of}
@@ -36,12 +36,12 @@ refusal_of rows = cond (some passes_range rows) TooClose (cond (some passes_grid
 -- the first ground whose row passes, where the rows are those of the grounds from g up; else the answer v
 abbrev pub ground_from : Answer → ℕ → List (List Bool) → Answer
 ground_from v g [] = v
-ground_from v g (row ∷ rows) = cond (passes row) (Ground g) (ground_from v (g + 1) rows)
+ground_from v g (row ∷ rows) = cond (passes row) (Ok (Ground g)) (ground_from v (g + 1) rows)
 
 -- "The ground is the first of the four, from 0 up, that passes grid, range and spacing. With none: .."; with #101 of
 -- the five
 abbrev pub decided : List (List Bool) → Answer
-decided rows = ground_from (Refused (refusal_of rows)) 0 rows
+decided rows = ground_from (Err (refusal_of rows)) 0 rows
 
 -- the row of one ground as the search leaves it: grid, range, and whether it is the ground that was found
 abbrev pub found_row : Setting → ℕ → ℕ → ℕ → List Bool
@@ -55,21 +55,12 @@ found_rows s h found = map (found_row s h found) grounds
 abbrev pub rows_at : Setting → ℕ → ℕ → List (List Bool)
 rows_at s p h = map (λ g. grid_of s p g h ∷ in_range_at s p g h ∷ false ∷ []) grounds
 
--- rows in which nothing passes
-abbrev pub none_passes : List (List Bool)
-none_passes = map (λ g. false ∷ false ∷ false ∷ []) grounds
-
 -- grid and range at one price or at the other
 abbrev pub either_row : List Bool → List Bool → List Bool
 either_row a b = (get_or a 0 false || get_or b 0 false) ∷ (get_or a 1 false || get_or b 1 false) ∷ false ∷ []
 
 abbrev pub either_rows : List (List Bool) → List (List Bool) → List (List Bool)
 either_rows a b = map (λ g. either_row (get_or a g []) (get_or b g [])) grounds
-
--- the rows with the ground that was found noted, as the third result of its row
-abbrev pub noted : List (List Bool) → ℕ → List (List Bool)
-noted rows found =
-    map (λ g. get_or (get_or rows g []) 0 false ∷ get_or (get_or rows g []) 1 false ∷ eqb found g ∷ []) grounds
 
 -- the first ground that passes grid, range and spacing; their number where none does
 abbrev pub first_ground : Setting → List Standing → ℕ → ℕ

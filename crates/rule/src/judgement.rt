@@ -1,59 +1,61 @@
 // The judgement of a strike beside the standing strikes of its expiration.
-ghost use Rattle.std.specs.Prelude.{◌≡◌, map, ◌≤◌, length};
+ghost use Rattle.std.specs.Prelude.{◌≡◌, map, ◌<◌, ◌≤◌, length, MatchOption};
 ghost use Rattle.word.specs.Limits.{highest_price};
 ghost use Rattle.rule.specs.Grids.{grounds};
 ghost use Rattle.rule.specs.Spacing.{standing_of};
 ghost use Rattle.word.specs.Answers.{is_accepted};
-ghost use Rattle.rule.specs.Judgement.{Judged, decided, judgement, first_ground, found_rows, rows_at, either_row, either_rows, noted};
+ghost use Rattle.rule.specs.Judgement.{Judged, refusal_of, decided, judgement, first_ground, found_rows, rows_at, either_row, either_rows};
 
 use crate::amounts::FIVE_DOLLARS;
-use crate::bounds::{BY_FIVE_DOLLARS, half_end, high_end, low_end};
+use crate::bounds::{BY_FIVE_DOLLARS, low_end};
 use crate::grids::{on_dollar, on_half, on_standard, on_two_fifty, on_wing};
 use crate::spacing::is_clear;
-use crate::terms::{Setting, is_long};
-use word::answer::{Answer, Refusal};
+use crate::terms::Setting;
+use word::answer::{Accepted, Answer, Refusal};
 use word::strike::Strike;
 
 // How many grounds there are.
-const GROUNDS: u32 = 5;
+const GROUNDS: usize = 5;
 
-// The grid, the range and the spacing of each ground.
-pub type Rows = [[bool; 3]; GROUNDS as usize];
+// Whether a strike passes the grid, the range and the spacing of a ground. No struct with these names: what `decide`
+// promises is said of lists of three (`decided` of rule Judgement).
+pub type Row = [bool; 3];
+
+// The rows of the grounds, from 0 up.
+pub type Rows = [Row; GROUNDS];
 
 // Nothing passes.
-const NONE_PASSES: Rows = [[false; 3]; GROUNDS as usize];
+const FAILS: Row = [false; 3];
+
+// The refusal where no row passes.
+fn refusal_of(rows: Rows) -> Refusal
+    ensures { result ≡ refusal_of rows }
+{
+    if rows.iter().any(|&[grid, range, _]| grid & range) {
+        Refusal::TooClose
+    } else if rows.iter().any(|&[grid, ..]| grid) {
+        Refusal::OutOfRange
+    } else {
+        Refusal::OffGrid
+    }
+}
 
 // The ground or the refusal, from the rows of the grounds.
 pub fn decide(rows: Rows) -> Answer
     ensures { result ≡ decided rows }
 {
-    let mut some_grid = false;
-    let mut some_range = false;
-    let mut g: u32 = 0;
-    while g < GROUNDS {
-        let row = rows[g as usize];
-        if row[0] {
-            some_grid = true;
-            if row[1] {
-                some_range = true;
-                if row[2] {
-                    return Answer::Ground(g);
-                }
-            }
-        }
-        g += 1;
+    let found = rows
+        .iter()
+        .position(|&[grid, range, spacing]| grid & range & spacing);
+    match found {
+        Some(g) => Ok(Accepted::Ground(g as u32)),
+        None => Err(refusal_of(rows)),
     }
-    if some_range {
-        return Answer::Refused(Refusal::TooClose);
-    }
-    if some_grid {
-        return Answer::Refused(Refusal::OutOfRange);
-    }
-    Answer::Refused(Refusal::OffGrid)
 }
 
 // Grid and range of each ground at the price p. The range counts only on the grid, where it is told by its ends. The
-// spacing is still to be found.
+// spacing is still to be found. Compiled into both its calls: what a call hands back would go through memory.
+#[inline(always)]
 fn rows_at(s: Setting, p: u32, strike: Strike) -> Rows
     requires { Judged s strike.0 × (p ≤ highest_price) }
     ensures { result ≡ rows_at s p strike.0 }
@@ -61,22 +63,22 @@ fn rows_at(s: Setting, p: u32, strike: Strike) -> Rows
     let h = strike.0;
     let k = strike.cents();
     let low = low_end(p);
-    let high = high_end(s, p);
+    let high = s.high_end(p);
     let ranged = (low <= h) & (h <= high);
     let standard = on_standard(s.class, k);
-    if is_long(s) {
+    if s.is_long() {
         let wing = on_wing(s, p, k);
         let base = k / FIVE_DOLLARS * BY_FIVE_DOLLARS;
         return [
             [standard, standard & ranged, false],
-            [false, false, false],
-            [false, false, false],
+            FAILS,
+            FAILS,
             [
                 wing,
                 wing & (low <= base) & (base + BY_FIVE_DOLLARS <= high),
                 false,
             ],
-            [false, false, false],
+            FAILS,
         ];
     }
     let dollar = on_dollar(s, k);
@@ -85,30 +87,28 @@ fn rows_at(s: Setting, p: u32, strike: Strike) -> Rows
     [
         [standard, standard & ranged, false],
         [dollar, dollar & ranged, false],
-        [half, half & (low <= h) & (h <= half_end(s, p)), false],
-        [false, false, false],
+        [half, half & (low <= h) & (h <= s.half_end(p)), false],
+        FAILS,
         [two_fifty, two_fifty & ranged, false],
     ]
 }
 
 // Grid and range of a ground at one price or at the other.
-fn either(a: [bool; 3], b: [bool; 3]) -> [bool; 3]
+fn either(a: Row, b: Row) -> Row
     ensures { result ≡ either_row a b }
 {
     [a[0] | b[0], a[1] | b[1], false]
 }
 
-// The same of all grounds.
+// The same of all grounds. By index: tried `array::from_fn`, but the proof isn't told what arrays a closure gives.
 fn either_rows(a: Rows, b: Rows) -> Rows
     ensures { result ≡ either_rows a b }
 {
-    [
-        either(a[0], b[0]),
-        either(a[1], b[1]),
-        either(a[2], b[2]),
-        either(a[3], b[3]),
-        either(a[4], b[4]),
-    ]
+    let mut rows = [FAILS; GROUNDS];
+    for g in 0..GROUNDS {
+        rows[g] = either(a[g], b[g]);
+    }
+    rows
 }
 
 // Grid and range of each ground, at the day's low or at its high; where these are one price the rules are read once.
@@ -116,70 +116,47 @@ fn rows_of(s: Setting, strike: Strike) -> Rows
     requires { Judged s strike.0 }
     ensures { result ≡ found_rows s strike.0 (length grounds) }
 {
-    let high = s.class.high;
-    let mut p = s.class.low;
-    let mut rows = NONE_PASSES;
-    loop {
-        let joined = either_rows(rows, rows_at(s, p, strike));
-        if p == high {
-            return joined;
-        }
-        rows = joined;
-        p = high;
+    let low = rows_at(s, s.class.low, strike);
+    if s.class.low == s.class.high {
+        return low;
     }
+    either_rows(low, rows_at(s, s.class.high, strike))
 }
 
 // The first ground that passes the grid and the range of its row, and the spacing beside the words of the standing
-// strikes; their number where none does.
-fn first_ground(s: Setting, strike: Strike, rows: Rows, standing: &[u32]) -> u32
+// strikes. Nested, with labels, as the rules' paper names this form: tried, `find` with `all` inside, which is shorter.
+fn first_ground(s: Setting, strike: Strike, rows: Rows, standing: &[u32]) -> Option<usize>
     requires { Judged s strike.0 × (rows ≡ found_rows s strike.0 (length grounds)) }
-    ensures { result ≡ first_ground s (map standing_of standing.now) strike.0 }
+    ensures { let first = first_ground s (map standing_of standing.now) strike.0 in
+        MatchOption result (first ≡ length grounds) (λ g. (g < length grounds) × (g ≡ first)) }
 {
-    let mut g: u32 = 0;
-    let found: u32 = 'grounds: loop {
-        if g == GROUNDS {
-            break 'grounds GROUNDS;
-        }
-        let row = rows[g as usize];
-        if row[0] & row[1] {
-            let mut i: usize = 0;
-            'standing: loop {
-                if i == standing.len() {
-                    break 'grounds g;
+    'found: {
+        'grounds: for g in 0..GROUNDS {
+            let [grid, range, _] = rows[g];
+            if grid & range {
+                for w in standing {
+                    if !is_clear(s, g as u32, strike, *w) {
+                        continue 'grounds;
+                    }
                 }
-                if !is_clear(s, g, strike, standing[i]) {
-                    break 'standing;
-                }
-                i += 1;
+                break 'found Some(g);
             }
         }
-        g += 1;
-    };
-    found
+        None
+    }
 }
 
-// The rows with the ground that was found noted, as the third result of its row.
-fn note(rows: Rows, found: u32) -> Rows
-    ensures { result ≡ noted rows found }
-{
-    [
-        [rows[0][0], rows[0][1], found == 0],
-        [rows[1][0], rows[1][1], found == 1],
-        [rows[2][0], rows[2][1], found == 2],
-        [rows[3][0], rows[3][1], found == 3],
-        [rows[4][0], rows[4][1], found == 4],
-    ]
-}
-
-// The judgement of the strike beside the words of the standing strikes of its expiration: the rows decide, once the
-// ground that the search finds is noted.
+// The judgement of the strike beside the words of the standing strikes of its expiration: the rows decide, once that of
+// the ground which the search finds passes.
 pub fn judge(s: Setting, strike: Strike, standing: &[u32]) -> Answer
     requires { Judged s strike.0 }
     ensures { result ≡ judgement s (map standing_of standing.now) strike.0 }
 {
-    let rows = rows_of(s, strike);
-    let found = first_ground(s, strike, rows, standing);
-    decide(note(rows, found))
+    let mut rows = rows_of(s, strike);
+    if let Some(g) = first_ground(s, strike, rows, standing) {
+        rows[g] = [true; 3];
+    }
+    decide(rows)
 }
 
 // Whether the rules accept the strike beside the words of the standing strikes of its expiration.
@@ -187,5 +164,5 @@ pub fn is_accepted(s: Setting, strike: Strike, standing: &[u32]) -> bool
     requires { Judged s strike.0 }
     ensures { result ≡ is_accepted (judgement s (map standing_of standing.now) strike.0) }
 {
-    judge(s, strike, standing).is_accepted()
+    judge(s, strike, standing).is_ok()
 }

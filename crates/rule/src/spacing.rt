@@ -1,25 +1,15 @@
 // The distance that a new strike keeps from those of its expiration.
 ghost use Rattle.std.specs.Prelude.{◌≡◌, ◌^◌, ◌<◌};
 ghost use Rattle.word.specs.Kinds.{strike_kind};
-ghost use Rattle.rule.specs.Terms.{apart};
 ghost use Rattle.rule.specs.Spacing.{crowds, counts_as_standard, clears, standing_of};
 ghost use Rattle.rule.specs.Judgement.{Judged};
 
 use crate::amounts::{FIVE_DOLLARS, ONE_DOLLAR, TWO_FIFTY};
-use crate::terms::{Setting, is_long};
+use crate::terms::Setting;
 use word::field::field_of;
 use word::grounds::{DOLLAR_GROUND, STANDARD_GROUND, TWO_FIFTY_GROUND};
 use word::kind::{STRIKE, key_of};
 use word::strike::{GROUND, HALF_DOLLAR, Strike};
-
-pub fn distance(a: u32, b: u32) -> u32
-    ensures { result ≡ apart a b }
-{
-    if a < b {
-        return b - a;
-    }
-    a - b
-}
 
 // Whether a Dollar strike is too near to a Standard strike at an odd multiple of $2.50.
 fn is_crowded(dollar: Strike, standard: Strike) -> bool
@@ -28,13 +18,13 @@ fn is_crowded(dollar: Strike, standard: Strike) -> bool
 {
     let d = dollar.cents();
     let k = standard.cents();
-    (k % FIVE_DOLLARS == TWO_FIFTY) & (distance(d, k) <= HALF_DOLLAR)
+    (k % FIVE_DOLLARS == TWO_FIFTY) & (d.abs_diff(k) <= HALF_DOLLAR)
 }
 
 fn counts_as_standard(g: u32) -> bool
     ensures { result ≡ counts_as_standard g }
 {
-    (g == STANDARD_GROUND) | (g == TWO_FIFTY_GROUND)
+    matches!(g, STANDARD_GROUND | TWO_FIFTY_GROUND)
 }
 
 // Whether the strike, on the ground g, may stand beside the strike of the word w.
@@ -46,5 +36,5 @@ pub fn is_clear(s: Setting, g: u32, strike: Strike, w: u32) -> bool
     let ground = field_of(w, GROUND);
     !((g == DOLLAR_GROUND) & counts_as_standard(ground) & is_crowded(strike, other))
         & !(counts_as_standard(g) & (ground == DOLLAR_GROUND) & is_crowded(other, strike))
-        & !(is_long(s) & (distance(strike.cents(), other.cents()) <= ONE_DOLLAR))
+        & !(s.is_long() & (strike.cents().abs_diff(other.cents()) <= ONE_DOLLAR))
 }

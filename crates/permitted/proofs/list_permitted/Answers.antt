@@ -1,33 +1,28 @@
--- `list_permitted`: where it is not plain that the strikes have places a first turn counts them.
-use Rattle.std.proofs.Common.{max, refl, ap, ◌∙◌, inl, inr, map, arith}
+-- `list_permitted`: where it is not plain that all strikes have a place they were counted before.
+use Rattle.std.proofs.Common.{◌≤◌, length, ◌∙◌, map, arith, zero-add}
+use lib.Seq.{sets-eq}
+use borrow.Author.Tests.{le-ltb}
 use Rattle.rule.specs.Spacing.{standing_of}
 use Rattle.rule.proofs.Most.{permitted_most}
-use Rattle.permitted.specs.declared.Ranges.{Ranges}
-use Rattle.permitted.proofs.Filled.{filled_not, filled_all}
+use Rattle.permitted.specs.Listing.{permitted_beside}
 use Rattle.permitted.proofs.list_permitted.Goals as goal
-use Rattle.permitted.proofs.list_permitted.Goals.{then-second-most_open, else-second-most_open}
+use Rattle.permitted.proofs.list_permitted.Goals.{then-second-most_open+else-second-count, else-second-most_open}
 
-pub loop-second-init : goal.loop-second-init
-loop-second-init c =
+pub returns : goal.returns
+returns c =
+    let v = c.args.second.now in
+    let strikes = permitted_beside c.args.s c.args.standing.now in
     let few = permitted_most c.args.s (map standing_of c.args.standing.now) in
-    let ends = ap (λ (r : Ranges). max r.first.high r.second.high) c.ranges_of-ranges.ensures in
-    let high = c.higher_of-high.ensures ∙ ends in
+    let most = rw c.ranges_of-ranges.ensures at c.max.ensures in
+    let fits : length strikes ≤ length v =
+    elim c.if-second-most_open.branch [
+      | then-second-most_open+else-second-count w ↦ omega (arith, w.write_permitted-count.ensures.value)
+      | else-second-most_open w ↦ omega (arith, c.most_open.ensures)
+    ] in
+    let e = c.write_permitted.ensures in
     record {
-      same = refl;
-      lent =
-          elim c.if-second-most_open.branch [
-            | then-second-most_open w ↦ inl w.room-is
-            | else-second-most_open w ↦
-                inr (w.room-is, omega (arith, w.if-second-most_open.false, c.most_open.ensures, high))
-          ];
+      answer = rw (le-ltb (length v) (length strikes) fits, e.value);
+      second =
+          rw (le-ltb (length v) (length strikes) fits)
+          (e.out_after ∙ sets-eq strikes v 0 (rw zero-add fits) ∙ rw zero-add);
     }
-
-pub returns-then-second-count : goal.returns-then-second-count
-returns-then-second-count c =
-    let e = c.write_permitted-count.ensures in
-    filled_not c.loop-second.invariant (e.value, e.out_after) c.if-second-count.true
-
-pub returns-then-room-second : goal.returns-then-room-second
-returns-then-room-second c =
-    let e = c.write_permitted-count.ensures in
-    filled_all c.loop-second.invariant (e.value, e.out_after) c.if-second-count.false c.if-room-second.true

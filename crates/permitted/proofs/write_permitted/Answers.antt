@@ -1,23 +1,23 @@
--- `write_permitted`: the permitted strikes of the range at the low, and then at the high, are all.
-use Rattle.permitted.proofs.RungByRung.{unwritten, turned_climbs, turned_next, turned_all}
+-- `write_permitted`: the permitted strikes of the two ranges are all.
+use Rattle.std.proofs.Common.{refl, rules}
+use Rattle.permitted.proofs.BothRanges.{none_listed, turned_climbs, turned_next, turned_place, turned_all}
 use Rattle.permitted.proofs.write_permitted.Goals as goal
 
-pub loop-p-init : goal.loop-p-init
-loop-p-init c = unwritten
+pub loop-range-init : goal.loop-range-init
+loop-range-init c = none_listed
 
-pub write_range-done-requires : goal.write_range-done-requires
-write_range-done-requires c =
-    rw c.rungs_of-rungs.ensures
-    (turned_climbs c.args.s c.args.standing.now c.requires.0 c.requires.1 c.loop-p.invariant)
+pub write_range-requires : goal.write_range-requires
+write_range-requires c =
+    rw (c.rungs-rungs.ensures, c.requires.1)
+    (turned_climbs _ refl c.requires.0 c.loop-range.invariant c.loop-range-test.true)
 
-pub returns-then-p-high : goal.returns-then-p-high
-returns-then-p-high c =
-    let all =
-    turned_all c.args.s c.args.standing.now c.requires.0 c.requires.1 c.loop-p.invariant c.if-p-high.true
-    c.write_range-done.ensures in
-    record { value = all.0; out_after = all.1 }
+pub loop-range-preserved : goal.loop-range-preserved
+loop-range-preserved c =
+    turned_next _ refl c.requires.0 c.loop-range.invariant c.loop-range-test.true
+    (rw c.requires.1 at c.write_range.ensures)
 
-pub loop-p-preserved : goal.loop-p-preserved
-loop-p-preserved c =
-    turned_next c.args.s c.args.standing.now c.requires.0 c.requires.1 c.loop-p.invariant c.if-p-high.false
-    c.write_range-done.ensures
+pub returns : goal.returns
+returns c =
+    let all = turned_all _ refl c.requires.0 c.loop-range.invariant c.loop-range-test.false in
+    let place = turned_place _ refl c.requires.0 c.loop-range.invariant in
+    record { value = all.0; out_after = rw (← all.1) (search rules) }

@@ -1,20 +1,23 @@
 -- `review_steps` takes n steps or all: the loop's law of going, by what `near_strikes`, `last_strikes` and
 -- `review_step` ensure. Assumes nothing.
-use Rattle.std.proofs.Common.{rules}
+use Rattle.std.proofs.Common.{rules, arith}
 use Rattle.review.proofs.StepsCounted.{going_start, going_asks, going_more, going_done}
 use Rattle.review.proofs.steps.review_steps.Goals as goal
 
-pub loop-i-init : goal.loop-i-init
-loop-i-init c = going_start _ _ _ c.last_strikes-last.ensures _
+pub loop-init : goal.loop-init
+loop-init c = going_start _ _ _ c.last_strikes-last.ensures _
 
 pub review_step-k-requires : goal.review_step-k-requires
 review_step-k-requires c =
-    going_asks c.loop-i.invariant c.near_strikes-near.ensures c.requires (search rules)
+    going_asks c.loop.invariant c.near_strikes-near.ensures c.requires (omega arith)
 
-pub loop-i-preserved : goal.loop-i-preserved
-loop-i-preserved c =
-    going_more c.loop-i.invariant c.near_strikes-near.ensures (search rules) (search rules) (search rules)
+pub loop-preserved : goal.loop-preserved
+loop-preserved c =
+    going_more c.loop.invariant c.near_strikes-near.ensures (omega arith) (omega arith) (search rules)
     c.review_step-k.ensures
 
-pub returns : goal.returns
-returns c = going_done c.loop-i.invariant (search rules)
+pub returns-after-loop : goal.returns-after-loop
+returns-after-loop c = going_done c.loop.invariant (λ more left. omega arith)
+
+pub returns-then-k-eq0 : goal.returns-then-k-eq0
+returns-then-k-eq0 c = going_done c.loop.invariant (λ more left. omega arith)

@@ -1,10 +1,6 @@
--- `review_steps`: i steps are made (`Going`). Assumes nothing.
-use Rattle.std.proofs.Common.{◌-◌}
+-- `review_steps`: as many steps are made as turns of the loop (`Going`). Assumes nothing.
 use Rattle.review.proofs.StepsCounted.{Going}
 use Rattle.review.proofs.steps.review_steps.Given as goal
 
-abbrev pub invariant-loop-i : goal.invariant-loop-i
-invariant-loop-i l = Going l.close l.n l.fn.words l.words l.k l.i
-
-abbrev pub decreases-loop-i : goal.decreases-loop-i
-decreases-loop-i l = l.n - l.i
+abbrev pub invariant-loop : goal.invariant-loop
+invariant-loop l = Going l.close l.n l.fn.words l.words l.k l.counter
