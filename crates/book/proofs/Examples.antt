@@ -7,8 +7,9 @@ use mathlib.Core.List.{List, [], ◌∷◌, ◌++◌, map}
 use native.Mathlib.Omega.{arith}
 use lib.ListN.{length}
 use lib.Dec.{ltb}
-use Rattle.word.specs.declared.answer.Answer.{Answer}
-use Rattle.word.specs.declared.answer.Answer.TheVariants.{Listed}
+use Rattle.std.specs.Prelude.{Ok}
+use Rattle.word.specs.Answers.{Answer}
+use Rattle.word.specs.declared.answer.Accepted.TheVariants.{Listed}
 use Rattle.word.specs.declared.answer.Refusal.TheVariants.{BeyondLimits, OutOfWords}
 use Rattle.word.specs.Answers.{answer_number, answer_value, is_accepted}
 use Rattle.rule.specs.Ranges.{lowest, among_five}
@@ -76,7 +77,7 @@ sample_permitted = permitted_short 5 (view_of 7 opened_facts) 100 (omega arith) 
 abbrev listing : List Condition → ℕ → List ℕ → List ℕ
 listing before room strikes =
     let a : Answer =
-    first_or (Listed (length strikes))
+    first_or (Ok (Listed (length strikes)))
     (before ++ draws (OutOfWords (length strikes)) (ltb room (length strikes)) ∷ []) in
     answer_number a ∷ answer_value a ∷ cond (is_accepted a) strikes []
 

@@ -7,7 +7,7 @@ use mathlib.Core.List.{List}
 use native.Mathlib.Omega.{arith}
 use lib.ListN.{length}
 use lib.Dec.{T}
-use Rattle.word.specs.declared.answer.Answer.{Answer}
+use Rattle.word.specs.Answers.{Answer}
 use Rattle.book.specs.Facts.{Facts}
 use Rattle.book.specs.Layout.{layout, facts_of}
 use Rattle.book.specs.Books.{is_well_formed, is_book}

@@ -11,13 +11,14 @@ use lib.ListN.{length, get_or, set, length-map, get_or-replicate}
 use lib.Seq.{get_or-set_same, get_or-set_other}
 use lib.Dec.{T, eqb, leb, ltb, leb→le, nleb→lt, nltb→le}
 use borrow.Author.Tests.{eqb-true, eqb-false, le-ltb}
+use Rattle.std.specs.Prelude.{Ok, Err}
 use Rattle.logic.specs.Lists.{sum, every, some, only}
 use Rattle.word.specs.declared.class.ClassRecord.{ClassRecord}
-use Rattle.word.specs.declared.answer.Answer.{Answer}
+use Rattle.word.specs.Answers.{Answer}
 use Rattle.word.specs.Limits.{is_class_number, is_strike, is_month, is_length, is_designation, is_ground, is_mark, is_price, is_volume, are_day_prices}
 use Rattle.word.specs.Caps.{own}
 use Rattle.word.specs.Class.{with_close, with_low_high, with_volume, designation, with_designation}
-use Rattle.word.specs.declared.answer.Answer.TheVariants.{Ground, Refused}
+use Rattle.word.specs.declared.answer.Accepted.TheVariants.{Ground}
 use Rattle.word.specs.declared.answer.Refusal.TheVariants.{OffGrid, OutOfRange, TooClose}
 use Rattle.word.specs.Answers.{answer_value, refusal_value}
 use Rattle.word.proofs.Counts.{own_at_most_one}
@@ -343,7 +344,7 @@ ground_from_lem v g (row ∷ rows) t each = go (passes row) (ground_from_lem v (
   where
     go :
         (b : Bool) → T (is_ground (answer_value (ground_from v (g + 1) rows)))
-        → T (is_ground (answer_value (cond b (Ground g) (ground_from v (g + 1) rows))))
+        → T (is_ground (answer_value (cond b (Ok (Ground g)) (ground_from v (g + 1) rows))))
     go true r = search ands
     go false r = r
 
@@ -352,7 +353,7 @@ pub ground_limit :
     (s : Setting) (standing : List Standing) (h : ℕ) → T (is_ground (answer_value (judgement s standing h)))
 ground_limit s standing h =
     let rows = rows_of s standing h in
-    ground_from_lem (Refused (refusal_of rows)) 0 rows (refused (some passes_range rows) (some passes_grid rows)) tt
+    ground_from_lem (Err (refusal_of rows)) 0 rows (refused (some passes_range rows) (some passes_grid rows)) tt
   where
     refused : (a b : Bool) → T (is_ground (refusal_value (cond a TooClose (cond b OutOfRange OffGrid))))
     refused true b = tt

@@ -20,7 +20,6 @@ pub mod SeriesParts
 pub mod ClassWords
 pub mod Splices
 pub mod Runs
-pub mod OpenPlaces
 pub mod Recounted
 pub mod SplicedRuns
 pub mod Followed

@@ -9,8 +9,9 @@ use mathlib.Core.List.{List, [], ◌∷◌, ◌++◌}
 use native.Mathlib.Omega.{arith}
 use borrow.Author.Tests.{le-ltb, ltb-false, not-true}
 use lib.Dec.{T, eqb, leb, ltb, eqb→eq, leb→le, le→leb, eqb_refl}
-use Rattle.word.specs.declared.answer.Answer.{Answer}
-use Rattle.word.specs.declared.answer.Answer.TheVariants.{Done, Ground, Removed, Listed, Refused}
+use Rattle.std.specs.Prelude.{Ok, Err}
+use Rattle.word.specs.Answers.{Answer}
+use Rattle.word.specs.declared.answer.Accepted.TheVariants.{Done, Ground, Removed, Listed}
 use Rattle.word.specs.declared.answer.Refusal.{Refusal}
 use Rattle.word.specs.declared.answer.Refusal.TheVariants.{BeyondLimits, OutOfWords}
 use Rattle.word.specs.Answers.{refusal_number, answer_number, rank, is_accepted, strikes_listed}
@@ -45,7 +46,7 @@ rises_from k (draws why b ∷ cs) = leb k (rank why) && rises_from (rank why) cs
 pub data Lowest (cs : List Condition) (a : Answer) : Answer → Type 0 where
   granted : T (none_applies cs) → Lowest cs a a
   refused :
-      {why : Refusal} → T (applies (refusal_number why) cs) → T (none_below (rank why) cs) → Lowest cs a (Refused why)
+      {why : Refusal} → T (applies (refusal_number why) cs) → T (none_below (rank why) cs) → Lowest cs a (Err why)
 
 rising_above : (j k : ℕ) (cs : List Condition) → j ≤ k → T (rises_from k cs) → T (none_below j cs)
 rising_above j k [] l r = tt
@@ -123,7 +124,7 @@ first_append a (draws why false ∷ cs) ds = first_append a cs ds
 -- a refusal that applies after conditions that don't
 pub first_after :
     (a : Answer) (cs : List Condition) (why : Refusal) (ds : List Condition) → T (none_applies cs)
-    → first_or a (cs ++ (draws why true ∷ ds)) ≡ Refused why
+    → first_or a (cs ++ (draws why true ∷ ds)) ≡ Err why
 first_after a cs why ds t = first_append a cs (draws why true ∷ ds) ∙ rw (T_true (none_applies cs) t)
 
 -- ---- of every call
@@ -258,11 +259,11 @@ module _ (n room : ℕ) (x : Call) (f : Facts) where
   written_count = go (is_accepted (answer_to n room x f)) refl
     where
       none : (a : Answer) → is_accepted a ≡ false → strikes_listed a ≡ 0
-      none Done e = refl
-      none (Ground g) e = refl
-      none (Removed count) e = refl
-      none (Listed count) e = absurd (true≢false e)
-      none (Refused why) e = refl
+      none (Ok Done) e = refl
+      none (Ok (Ground g)) e = refl
+      none (Ok (Removed count)) e = refl
+      none (Ok (Listed count)) e = absurd (true≢false e)
+      none (Err why) e = refl
 
       go :
           (b : Bool) → is_accepted (answer_to n room x f) ≡ b

@@ -8,8 +8,9 @@ use mathlib.Core.List.{List, [], ◌∷◌, ◌++◌}
 use native.Mathlib.Omega.{arith}
 use lib.ListN.{length}
 use lib.Dec.{T, leb, ltb, eqb, ltb→lt, leb→le, leb-suc-suc}
-use Rattle.word.specs.declared.answer.Answer.{Answer}
-use Rattle.word.specs.declared.answer.Answer.TheVariants.{Ground, Listed, Refused}
+use Rattle.std.specs.Prelude.{Ok, Err}
+use Rattle.word.specs.Answers.{Answer}
+use Rattle.word.specs.declared.answer.Accepted.TheVariants.{Ground, Listed}
 use Rattle.word.specs.declared.answer.Refusal.TheVariants.{BeyondLimits, NotOpen, MonthOutside, NoClose, OutOfWords}
 use Rattle.word.specs.Answers.{answer_number, answer_value, is_accepted}
 use Rattle.word.specs.Limits.{is_class_number, is_month, highest_strike}
@@ -23,7 +24,7 @@ use Rattle.book.specs.Layout.{facts_of}
 use Rattle.book.specs.Books.{is_book}
 use Rattle.book.specs.Views.{View, view_of, class, is_not_open, has_no_close, setting, ground_of, is_new}
 use Rattle.book.specs.Changes.{class_opened, list_of}
-use Rattle.book.specs.Calls.{Call, on, call_o, call_d, call_l, call_j, call_a, Condition, draws, first_or, none_applies, is_place, judging, permitted_in, effect, is_cap_reached, asked, conditions, answer_to, written, is_granted, effect_on}
+use Rattle.book.specs.Calls.{Call, on, call_o, call_d, call_l, call_j, call_a, Condition, draws, first_or, none_applies, is_place, judging, permitted_in, effect, is_cap_reached, conditions, answer_to, written, is_granted, effect_on}
 use Rattle.book.specs.Permission.{is_permitted, are_words_left, facts_with_strike}
 use Rattle.book.specs.Made.{over, Made}
 use Rattle.book.proofs.Order.{applies, drawn_applies, none_last, first_after, effect_zero, accepted_answer, accepted_exactly}
@@ -102,15 +103,15 @@ module _ {w w' : List ℕ} {r : Answer} (book : T (is_book w)) where
             let place : is_place c m h ≡ true = search parts in
             let judged : none_applies (judging m h (view_of c (facts_of w))) ≡ true = search parts in
             let none : T (none_applies asked) = rw (place, judged) tt in
-            let drew : answer_to (length w) 0 (on c (call_l m h)) (facts_of w) ≡ Refused (OutOfWords 0) =
+            let drew : answer_to (length w) 0 (on c (call_l m h)) (facts_of w) ≡ Err (OutOfWords 0) =
             rw s
-            (first_after (Ground (ground_of (view_of c (facts_of w)) m h)) asked (OutOfWords 0)
+            (first_after (Ok (Ground (ground_of (view_of c (facts_of w)) m h))) asked (OutOfWords 0)
             (draws (OutOfWords 0) false ∷ [])
             none) in
             absurd (left (ap answer_number (answered made ∙ drew)))
 
     -- .. and on the ground that the rules give
-    pub listed_ground : is_accepted r ≡ true → r ≡ Ground (ground_of (view_of c (facts_of w)) m h)
+    pub listed_ground : is_accepted r ≡ true → r ≡ Ok (Ground (ground_of (view_of c (facts_of w)) m h))
     unfolding effect_on
     listed_ground e = granted made e
 
@@ -127,7 +128,7 @@ module _ {w w' : List ℕ} {r : Answer} (book : T (is_book w)) where
     unfolding effect_on
     judged_permitted = exactly refl made ∙ judged_exactly (length w) c m h (facts_of w)
 
-    pub judged_ground : is_accepted r ≡ true → r ≡ Ground (ground_of (view_of c (facts_of w)) m h)
+    pub judged_ground : is_accepted r ≡ true → r ≡ Ok (Ground (ground_of (view_of c (facts_of w)) m h))
     unfolding effect_on
     judged_ground e = granted made e
 
@@ -161,7 +162,7 @@ module _ {w w' : List ℕ} {r : Answer} (book : T (is_book w)) where
     permitted_written e =
         (rw (T_true (is_book w) book) at made.second) ∙ rw (sym (ap is_accepted (answered made)) ∙ e)
 
-    pub permitted_count : is_accepted r ≡ true → r ≡ Listed count
+    pub permitted_count : is_accepted r ≡ true → r ≡ Ok (Listed count)
     unfolding effect_on
     permitted_count e = granted made e
 
@@ -178,7 +179,7 @@ module _ {w w' : List ℕ} {r : Answer} (book : T (is_book w)) where
       where
         answer : Bool → Bool → Bool → Bool → Bool → Answer
         answer beyond not_open outside no_close short =
-            first_or (Listed count)
+            first_or (Ok (Listed count))
             (draws BeyondLimits beyond
             ∷ draws NotOpen not_open
             ∷ draws MonthOutside outside

@@ -6,9 +6,10 @@ use mathlib.Core.List.{List, [], ◌∷◌}
 use Prim.Native.Nat.{ℕ, ◌+◌, ◌-◌, ◌≤◌, ◌<◌}
 use native.Mathlib.Omega.{arith}
 use lib.Dec.{eqb}
+use Rattle.std.specs.Prelude.{Ok, Err}
 use Rattle.word.specs.Limits.{highest_strike}
-use Rattle.word.specs.declared.answer.Answer.{Answer}
-use Rattle.word.specs.declared.answer.Answer.TheVariants.{Ground, Refused}
+use Rattle.word.specs.Answers.{Answer}
+use Rattle.word.specs.declared.answer.Accepted.TheVariants.{Ground}
 use Rattle.word.specs.Answers.{answer_value, is_accepted}
 use Rattle.word.specs.declared.answer.Refusal.TheVariants.{NotOpen, MonthOutside, AlreadyStanding, NoClose, OffGrid, OutOfRange, TooClose}
 use Rattle.logic.specs.Lists.{some, only, up_from}
@@ -38,15 +39,15 @@ ruled rs =
 -- the first ground that passes, or the other answer
 ground_passed :
     (v : Answer) (g : ℕ) (rs : List (List Bool))
-    → ground_from v g rs ≡ cond (some passes rs) (Ground (answer_value (ground_from v g rs))) v
+    → ground_from v g rs ≡ cond (some passes rs) (Ok (Ground (answer_value (ground_from v g rs)))) v
 ground_passed v g [] = refl
 ground_passed v g (r ∷ rs) = go (passes r) (ground_passed v (g + 1) rs)
   where
     later : Answer
     later = ground_from v (g + 1) rs
 
-    go : (b : Bool) → later ≡ cond (some passes rs) (Ground (answer_value later)) v
-        → cond b (Ground g) later ≡ cond (b || some passes rs) (Ground (answer_value (cond b (Ground g) later))) v
+    go : (b : Bool) → later ≡ cond (some passes rs) (Ok (Ground (answer_value later))) v
+        → cond b (Ok (Ground g)) later ≡ cond (b || some passes rs) (Ok (Ground (answer_value (cond b (Ok (Ground g)) later)))) v
     go true e = refl
     go false e = e
 
@@ -70,17 +71,17 @@ range_grid : (r : List Bool) → passes_range r ≡ true → passes_grid r ≡ t
 range_grid r e = search parts
 
 -- the lowest refusal that the rules draw is the judgement's, and so is the ground
-pub ruled_answer : (rs : List (List Bool)) → first_or (Ground (answer_value (decided rs))) (ruled rs) ≡ decided rs
+pub ruled_answer : (rs : List (List Bool)) → first_or (Ok (Ground (answer_value (decided rs)))) (ruled rs) ≡ decided rs
 ruled_answer rs =
     go (some passes_grid rs) refl (some passes_range rs) refl (some passes rs) refl
-    ∙ sym (ground_passed (Refused (refusal_of rs)) 0 rs)
+    ∙ sym (ground_passed (Err (refusal_of rs)) 0 rs)
   where
     on_ground : Answer
-    on_ground = Ground (answer_value (decided rs))
+    on_ground = Ok (Ground (answer_value (decided rs)))
 
     go : (g : Bool) → some passes_grid rs ≡ g → (r : Bool) → some passes_range rs ≡ r → (p : Bool) → some passes rs ≡ p
-        → cond (not g) (Refused OffGrid) (cond (not r) (Refused OutOfRange) (cond (not p) (Refused TooClose) on_ground))
-        ≡ cond p on_ground (Refused (cond r TooClose (cond g OutOfRange OffGrid)))
+        → cond (not g) (Err OffGrid) (cond (not r) (Err OutOfRange) (cond (not p) (Err TooClose) on_ground))
+        ≡ cond p on_ground (Err (cond r TooClose (cond g OutOfRange OffGrid)))
     go true a true b true c = refl
     go true a true b false c = refl
     go true a false b true c = absurd (true≢false (sym (some_less passes passes_range passes_range_lem rs c) ∙ b))
@@ -92,14 +93,14 @@ ruled_answer rs =
 -- what `J` answers: the first of the conditions before the rules, else the judgement
 abbrev pub before_rules : Bool → Bool → Bool → Bool → Answer → Answer
 before_rules not_open outside stands no_close judgement =
-    cond not_open (Refused NotOpen)
-    (cond outside (Refused MonthOutside)
-    (cond stands (Refused AlreadyStanding) (cond no_close (Refused NoClose) judgement)))
+    cond not_open (Err NotOpen)
+    (cond outside (Err MonthOutside)
+    (cond stands (Err AlreadyStanding) (cond no_close (Err NoClose) judgement)))
 
 module _ (m : ℕ) (v : View) where
   pub judged_answer :
       (h : ℕ)
-      → first_or (Ground (ground_of v m h)) (judging m h v)
+      → first_or (Ok (Ground (ground_of v m h))) (judging m h v)
       ≡ before_rules (is_not_open v) (is_outside (setting v m)) (is_standing v m h) (has_no_close v)
       (judgement (setting v m) (standing_in v m) h)
   judged_answer h =
@@ -114,7 +115,7 @@ module _ (m : ℕ) (v : View) where
       (before_rules (is_not_open v) (is_outside (setting v m)) (is_standing v m h) (has_no_close v)
       (judgement (setting v m) (standing_in v m) h))
   judged_none h =
-      sym (first_accepted (Ground (ground_of v m h)) (judging m h v) refl) ∙ ap is_accepted (judged_answer h)
+      sym (first_accepted (Ok (Ground (ground_of v m h))) (judging m h v) refl) ∙ ap is_accepted (judged_answer h)
 
   -- .. and that is the permitted strikes
   pub none_permitted : (h : ℕ) → none_applies (judging m h v) ≡ is_permitted_by m h v

@@ -7,12 +7,12 @@ use mathlib.Core.List.{List, [], ◌∷◌, ◌++◌, map}
 use native.Mathlib.Omega.{arith}
 use lib.Dec.{T, eqb, leb}
 use lib.ListN.{length, replicate}
+use Rattle.std.specs.Prelude.{Ok, Err}
 use Rattle.logic.specs.Lists.{sum}
 use Rattle.logic.proofs.Tests.{ands, T_true, true_T}
 use Rattle.logic.proofs.Lists.{sum_append}
 use Rattle.word.specs.Codec.{Word, Head, Counter, packed, Fits}
 use Rattle.word.specs.declared.answer.Refusal.TheVariants.{BeyondLimits}
-use Rattle.word.specs.declared.counter.CounterAnswer.TheVariants.{Counted, Refused}
 use Rattle.word.specs.Head.{first_place, own_in, strikes_in}
 use Rattle.word.specs.Programs.{programs, is_program}
 use Rattle.word.specs.Counters.{counts_in, strikes_for, strikes_said, together, without, AreAmong, own_set, with_strikes}
@@ -214,7 +214,7 @@ known_read p w book =
   where
     go :
         (b : Bool) → is_program p ≡ b
-        → cond b (Counted (counts_in p w)) (Refused BeyondLimits)
-        ≡ cond b (Counted (counts_of p (facts_of w))) (Refused BeyondLimits)
-    go true e = ap Counted (book_counts w book p (true_T (is_program p) e))
+        → cond b (Ok (counts_in p w)) (Err BeyondLimits)
+        ≡ cond b (Ok (counts_of p (facts_of w))) (Err BeyondLimits)
+    go true e = ap Ok (book_counts w book p (true_T (is_program p) e))
     go false e = refl

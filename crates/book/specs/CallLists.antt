@@ -1,7 +1,7 @@
 -- Document 01, clause a, of every call of a list, "and for `A` the second run's length": the answers that calls get,
 -- and what they write to a second run. Assumes nothing.
 use Rattle.std.specs.Prelude.{ℕ, List, [], ◌∷◌, map}
-use Rattle.word.specs.declared.answer.Answer.{Answer}
+use Rattle.word.specs.Answers.{Answer}
 use Rattle.word.specs.Answers.{answer_number, answer_value}
 use Rattle.book.specs.Facts.{Facts}
 use Rattle.book.specs.Calls.{Call, answer_to, written, step}

@@ -1,9 +1,9 @@
 -- Document 01, the lines of the eleven calls, "`M m`: sets `now`, removes strikes of earlier months." to "`A c m`:
 -- writes all strikes that `J` would accept", and "Who draws which number"; request #103, "A new line `H c low high`":
 -- what each call asks, does and answers over the plain book. Assumes nothing.
-use Rattle.std.specs.Prelude.{ℕ, Bool, true, false, cond, not, ◌&&◌, List, [], ◌∷◌, ◌++◌, length, leb, ltb}
-use Rattle.word.specs.declared.answer.Answer.{Answer}
-use Rattle.word.specs.declared.answer.Answer.TheVariants.{Done, Ground, Removed, Listed, Refused}
+use Rattle.std.specs.Prelude.{ℕ, Bool, true, false, cond, not, ◌&&◌, List, [], ◌∷◌, ◌++◌, length, leb, ltb, Ok, Err}
+use Rattle.word.specs.Answers.{Answer}
+use Rattle.word.specs.declared.answer.Accepted.TheVariants.{Done, Ground, Removed, Listed}
 use Rattle.word.specs.declared.answer.Refusal.{Refusal}
 use Rattle.word.specs.declared.answer.Refusal.TheVariants.{BeyondLimits, AlreadyOpen, NotOpen, MonthOutside, AlreadyStanding, NotStanding, NoClose, NotQualified, CapReached, OffGrid, OutOfRange, TooClose, OpenInterest, OutOfWords, CloseOutside}
 use Rattle.word.specs.declared.class.ClassRecord.{ClassRecord}
@@ -53,7 +53,7 @@ pub data Condition : Type 0 where
 -- the lowest
 abbrev pub first_or : Answer → List Condition → Answer
 first_or a [] = a
-first_or a (draws why applies ∷ cs) = cond applies (Refused why) (first_or a cs)
+first_or a (draws why applies ∷ cs) = cond applies (Err why) (first_or a cs)
 
 abbrev pub none_applies : List Condition → Bool
 none_applies [] = true
@@ -107,7 +107,7 @@ effect_on c call_o v =
       limits = is_class_number c;
       asks = draws AlreadyOpen v.is_there ∷ [];
       does = opens;
-      answer = Done;
+      answer = Ok Done;
     }
 -- `C c P`: "close"
 effect_on c (call_c p) v =
@@ -115,7 +115,7 @@ effect_on c (call_c p) v =
       limits = is_class_number c && is_price p;
       asks = draws NotOpen (is_not_open v) ∷ [];
       does = becomes (close_set p v.class);
-      answer = Done;
+      answer = Ok Done;
     }
 -- `H c low high`, #103: "It refuses with 8 before any close, and with 16, tested straight after 8, a low above the
 -- close or a high below it."
@@ -128,7 +128,7 @@ effect_on c (call_h low high) v =
           ∷ draws CloseOutside (is_close_outside v low high)
           ∷ [];
       does = becomes (low_high_set low high v.class);
-      answer = Done;
+      answer = Ok Done;
     }
 -- `V c n`: "volume"
 effect_on c (call_v n) v =
@@ -136,7 +136,7 @@ effect_on c (call_v n) v =
       limits = is_class_number c && is_volume n;
       asks = draws NotOpen (is_not_open v) ∷ [];
       does = becomes (volume_set n v.class);
-      answer = Done;
+      answer = Ok Done;
     }
 -- `D c p d`: "program p .. gets designation d"
 effect_on c (call_d p d) v =
@@ -144,7 +144,7 @@ effect_on c (call_d p d) v =
       limits = is_class_number c && (is_program p && is_designation d);
       asks = draws NotOpen (is_not_open v) ∷ claiming p d v.class.figures;
       does = designates p d;
-      answer = Done;
+      answer = Ok Done;
     }
 -- `L c m h`: "adds the strike, no open interest"
 effect_on c (call_l m h) v =
@@ -152,7 +152,7 @@ effect_on c (call_l m h) v =
       limits = is_place c m h;
       asks = judging m h v;
       does = grows (strike_added (new_series m h (ground_of v m h)) v.class);
-      answer = Ground (ground_of v m h);
+      answer = Ok (Ground (ground_of v m h));
     }
 -- `J c m h`: "the same judgement without 15, adding nothing"
 effect_on c (call_j m h) v =
@@ -160,7 +160,7 @@ effect_on c (call_j m h) v =
       limits = is_place c m h;
       asks = judging m h v;
       does = nothing;
-      answer = Ground (ground_of v m h);
+      answer = Ok (Ground (ground_of v m h));
     }
 -- `X c m h`: "delists"; "14 `X` on a marked strike"
 effect_on c (call_x m h) v =
@@ -172,7 +172,7 @@ effect_on c (call_x m h) v =
           ∷ draws OpenInterest (has_open_interest v m h)
           ∷ [];
       does = becomes (strike_removed m h v.class);
-      answer = Done;
+      answer = Ok Done;
     }
 -- `I c m h a b`: "put mark a, call mark b, 0 or 1"
 effect_on c (call_i m h a b) v =
@@ -180,7 +180,7 @@ effect_on c (call_i m h a b) v =
       limits = is_place c m h && (is_mark a && is_mark b);
       asks = draws NotOpen (is_not_open v) ∷ draws NotStanding (not (is_standing v m h)) ∷ [];
       does = becomes (marks_set m h a b v.class);
-      answer = Done;
+      answer = Ok Done;
     }
 -- `R c`: "the review"
 effect_on c call_r v =
@@ -188,7 +188,7 @@ effect_on c call_r v =
       limits = is_class_number c;
       asks = draws NotOpen (is_not_open v) ∷ draws NoClose (has_no_close v) ∷ [];
       does = becomes (class_reviewed v.class);
-      answer = Removed (reviewed_count v.class);
+      answer = Ok (Removed (reviewed_count v.class));
     }
 -- `A c m`: "writes all strikes that `J` would accept"
 effect_on c (call_a m) v =
@@ -200,7 +200,7 @@ effect_on c (call_a m) v =
           ∷ draws NoClose (has_no_close v)
           ∷ [];
       does = writes (permitted_in m v);
-      answer = Listed (length (permitted_in m v));
+      answer = Ok (Listed (length (permitted_in m v)));
     }
 
 abbrev pub effect : Call → Facts → Effect
@@ -210,11 +210,11 @@ effect (call_m m) f =
       limits = is_month m;
       asks = draws MonthOutside (ltb m f.now) ∷ [];
       does = month_becomes m;
-      answer = Done;
+      answer = Ok Done;
     }
 effect (on c x) f = effect_on c x (view_of c f)
 -- "a malformed line counts as" a refused call
-effect malformed f = record { limits = false; asks = []; does = nothing; answer = Done }
+effect malformed f = record { limits = false; asks = []; does = nothing; answer = Ok Done }
 
 -- ---- the room in the book, the one thing that a call asks of other classes
 

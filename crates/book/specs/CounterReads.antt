@@ -1,10 +1,9 @@
 -- Request #104, "Margin reads the number of own classes in each program at every quote": what a reader of a counter is
 -- answered. Assumes nothing.
-use Rattle.std.specs.Prelude.{ℕ, cond, List, leb, length}
+use Rattle.std.specs.Prelude.{ℕ, cond, List, leb, length, Ok, Err}
 use Rattle.word.specs.declared.answer.Refusal.TheVariants.{NotABook, BeyondLimits}
 use Rattle.word.specs.declared.counter.Counts.{Counts}
-use Rattle.word.specs.declared.counter.CounterAnswer.{CounterAnswer}
-use Rattle.word.specs.declared.counter.CounterAnswer.TheVariants.{Counted, Refused}
+use Rattle.word.specs.Counters.{CounterAnswer}
 use Rattle.word.specs.Answers.{refusal_number}
 use Rattle.word.specs.Programs.{is_program}
 use Rattle.word.specs.Head.{first_place}
@@ -20,20 +19,20 @@ counts_of p f = record { own = owned p f.classes; strikes = strikes_on p f.class
 -- of the program p over any words w: "1 the run is no book", "2 a number beyond its limits"
 abbrev pub counter_read : ℕ → List ℕ → CounterAnswer
 counter_read p w =
-    cond (is_book w) (cond (is_program p) (Counted (counts_of p (facts_of w))) (Refused BeyondLimits))
-    (Refused NotABook)
+    cond (is_book w) (cond (is_program p) (Ok (counts_of p (facts_of w))) (Err BeyondLimits))
+    (Err NotABook)
 
 -- what stands there, whether it is true or not, where the run is not tested: 1 where it is too short to be a book
 abbrev pub counter_said : ℕ → List ℕ → CounterAnswer
 counter_said p w =
-    cond (leb first_place (length w)) (cond (is_program p) (Counted (counts_in p w)) (Refused BeyondLimits))
-    (Refused NotABook)
+    cond (leb first_place (length w)) (cond (is_program p) (Ok (counts_in p w)) (Err BeyondLimits))
+    (Err NotABook)
 
 -- the number of such an answer, and what it tells: "A refusal .. carries value 0"
 abbrev pub counter_number : CounterAnswer → ℕ
-counter_number (Counted counts) = 0
-counter_number (Refused r) = refusal_number r
+counter_number (Ok counts) = 0
+counter_number (Err r) = refusal_number r
 
 abbrev pub counts_told : CounterAnswer → Counts
-counts_told (Counted counts) = counts
-counts_told (Refused r) = record { own = 0; strikes = 0 }
+counts_told (Ok counts) = counts
+counts_told (Err r) = record { own = 0; strikes = 0 }

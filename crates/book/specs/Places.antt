@@ -11,10 +11,6 @@ use Rattle.book.specs.Views.{class, view_of, is_standing}
 abbrev pub class_place : ℕ → Facts → ℕ
 class_place c f = first_place + length (classes_words (only (λ x. ltb (number x) c) f.classes) [])
 
--- the index of the class word c; 0 where it is not open
-abbrev pub open_place : ℕ → Facts → ℕ
-open_place c f = cond {A = ℕ} (is_class_open c f.classes) (class_place c f) 0
-
 -- whether the expiration m of the class c has strikes
 abbrev pub has_expiration : ℕ → ℕ → Facts → Bool
 has_expiration c m f = some (λ s. eqb s.month m) (class f c).series

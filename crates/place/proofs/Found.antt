@@ -108,45 +108,46 @@ module _ (ws : List ℕ) (b : T (is_book ws)) where
   body end e =
       rest_part first_place end (head_words facts) (classes_words facts.classes []) refl refl e
 
-  pub body_short : (end : ℕ) → end ≡ used facts → length (take (end - first_place) (drop first_place ws)) ≤ longest_run
-  body_short end e =
+  -- the words used from an index on
+  abbrev pub used_part : ℕ → List ℕ
+  used_part from = take (used facts - from) (drop from ws)
+
+  pub body_short : length (used_part first_place) ≤ longest_run
+  body_short =
       omega (
         arith,
-        length-take-le (end - first_place) (drop first_place ws) (simp length-drop (omega (arith, book_room ws b))),
+        length-take-le (used facts - first_place) (drop first_place ws)
+            (simp length-drop (omega (arith, book_room ws b))),
         book_room ws b,
         book_long ws b,
       )
 
-  pub body_kinds :
-      (end : ℕ) → end ≡ used facts → T (every (is_no_lower class_kind) (take (end - first_place) (drop first_place ws)))
-  body_kinds end e =
-      subst (λ (l : List ℕ). T (every (is_no_lower class_kind) l)) (sym (body end e))
+  pub body_kinds : T (every (is_no_lower class_kind) (used_part first_place))
+  body_kinds =
+      subst (λ (l : List ℕ). T (every (is_no_lower class_kind) l)) (sym (body (used facts) refl))
       (kinds_packed (leb class_kind.number) (classes_words facts.classes []) legal (class_kinds facts.classes))
 
   -- the next class word
   pub next_class_word :
-      (from end : ℕ) → first_place ≤ from → from ≤ end → end ≡ used facts
-      → first_at (is_up_to class_kind 0) (take (end - from) (drop from ws))
-      ≡ first_at (is_from class_kind 0) (take (end - from) (drop from ws))
-  next_class_word from end l h e =
-      first_from class_kind 0 (omega arith) (take (end - from) (drop from ws))
-      (every_split (is_no_lower class_kind) (take (from - first_place) (drop first_place ws))
-      (take (end - from) (drop from ws)) (rw later at (body_kinds end e))).1
+      (from : ℕ) → first_place ≤ from → from ≤ used facts
+      → first_at (is_up_to class_kind 0) (used_part from) ≡ first_at (is_from class_kind 0) (used_part from)
+  next_class_word from l h =
+      first_from class_kind 0 (omega arith) (used_part from)
+      (every_split (is_no_lower class_kind) (take (from - first_place) (drop first_place ws)) (used_part from)
+      (rw later at body_kinds)).1
     where
-      later :
-          take (end - first_place) (drop first_place ws) ≡ take (from - first_place) (drop first_place ws)
-          ++ take (end - from) (drop from ws)
+      later : used_part first_place ≡ take (from - first_place) (drop first_place ws) ++ used_part from
       later =
-          let n : end - first_place ≡ (from - first_place) + (end - from) = omega arith in
+          let n : used facts - first_place ≡ (from - first_place) + (used facts - from) = omega arith in
           let k : first_place + (from - first_place) ≡ from = omega arith in
           ap (λ (j : ℕ). take j (drop first_place ws)) n
-          ∙ take-add (from - first_place) (end - from) (drop first_place ws)
-          ∙ ap (λ (l : List ℕ). take (from - first_place) (drop first_place ws) ++ take (end - from) l)
+          ∙ take-add (from - first_place) (used facts - from) (drop first_place ws)
+          ∙ ap (λ (l : List ℕ). take (from - first_place) (drop first_place ws) ++ take (used facts - from) l)
           (drop-drop (from - first_place) first_place ws ∙ ap (λ (j : ℕ). drop j ws) k)
 
-  pub class_rises : (c end : ℕ) → end ≡ used facts → Rises class_kind c (take (end - first_place) (drop first_place ws))
-  class_rises c end d =
-      subst (Rises class_kind c) (sym (body end d))
+  pub class_rises : (c : ℕ) → Rises class_kind c (used_part first_place)
+  class_rises c =
+      subst (Rises class_kind c) (sym (body (used facts) refl))
       (ordered_rises class_kind c (map packed (classes_words facts.classes []))
       (ordered_packed class_kind.number (classes_words facts.classes []) legal
       (classes_ordered facts.classes (numbers_rise (length ws) facts (book_good ws b)))))
@@ -159,13 +160,11 @@ module _ (ws : List ℕ) (b : T (is_book ws)) where
   numbers c = distinct_parts number c facts.classes (numbers_rise (length ws) facts (book_good ws b))
 
   pub class_sought :
-      (c end i : ℕ) → end ≡ used facts
-      → i ≡ first_at (is_from class_kind c) (take (end - first_place) (drop first_place ws))
-      → first_place + i ≡ class_place c facts
-  class_sought c end i d e =
+      (c i : ℕ) → i ≡ first_at (is_from class_kind c) (used_part first_place) → first_place + i ≡ class_place c facts
+  class_sought c i e =
       let q =
       sought number class_kind.number (λ xs. classes_words xs []) classes_laid c facts.classes (numbers c) legal in
-      omega (arith, ap (first_at (is_from class_kind c)) (body end d))
+      omega (arith, ap (first_at (is_from class_kind c)) (body (used facts) refl))
 
   -- the book's words, parted where a class stands or would stand
   class_parted :

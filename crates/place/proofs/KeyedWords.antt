@@ -110,7 +110,6 @@ from_packed kind key x legal =
 abbrev pub is_ending : ℕ → ℕ → Word → Bool
 is_ending kind key x = ltb (kind_in x) kind || is_keyed kind key x
 
--- the lowest field of a word of any kind is below that of the next kind
 -- a grade by the number of the kind
 abbrev grade : ℕ → ℕ → ℕ
 grade n key = grade_at (kind_numbered n) key

@@ -1,6 +1,6 @@
+pub mod OpenClasses
 -- The laws that the functions' proofs and other crates cite.
 pub mod Blocks
-pub mod FoundNear
 pub mod Heads
 pub mod KeyedWords
 pub mod Laid

@@ -1,18 +1,19 @@
--- The answers of the lookups of an expiration and of a strike, told where the class stands: by whether the expiration's
--- word stands where it would. Assumes nothing.
-use Prim.Native.Nat.{ℕ, ◌+◌, ◌-◌, ◌^◌, ◌≤◌, ◌<◌}
+-- The answers of the lookups of an expiration and of a strike in an open class: by whether the expiration's word stands
+-- where it would. Assumes nothing.
+use Prim.Native.Nat.{ℕ, ◌+◌, ◌^◌, ◌≤◌, ◌<◌}
 use mathlib.Core.Path.{◌≡◌, sym, ap, ◌∙◌}
-use mathlib.Core.Bool.{Bool, true, false, cond, not, ◌&&◌}
+use mathlib.Core.Bool.{Bool, true, false, cond, ◌&&◌}
 use mathlib.Core.List.{List, []}
+use Rattle.std.specs.Option.{MatchOption}
+use Rattle.std.specs.Prelude.{Option, Some, None}
 use native.Mathlib.Omega.{arith}
-use lib.ListN.{length, take, drop, get_or}
+use lib.ListN.{length, get_or}
 use lib.Dec.{T, eqb, ltb}
-use borrow.Author.Tests.{not-true, not-false, ltb-true, lt-ltb, le-ltb}
+use borrow.Author.Tests.{lt-ltb, le-ltb}
 use Rattle.word.specs.Figures.{figures_length}
 use Rattle.word.specs.Limits.{last_month}
 use Rattle.word.specs.Kinds.{expiration_kind, strike_kind, kind_field}
 use Rattle.word.specs.Codec.{Expiration as ExpirationWord, packed}
-use Rattle.logic.proofs.Tests.{parts}
 use Rattle.logic.specs.Lists.{some, only, first_at}
 use Rattle.book.specs.Facts.{Series, Facts, is_class_open, in_month}
 use Rattle.book.specs.Layout.{used, facts_of}
@@ -23,56 +24,48 @@ use Rattle.logic.proofs.Parts.{is_under, is_equal, some_both}
 use Rattle.book.proofs.SeriesParts.{month_of, strike_of}
 use Rattle.place.specs.Search.{is_holding, is_up_to}
 use Rattle.place.specs.Lookups.{expiration_of, strike_search_of}
-use Rattle.place.proofs.Found.{none_in, expiration_sought, expiration_found, strikes_ended, strike_sought, strike_found}
+use Rattle.place.proofs.Found.{used_part, none_in, expiration_sought, expiration_found, strikes_ended, strike_sought, strike_found}
 
 -- ---- a test of a word, where it is one of those used
 
-module _ (at end : ℕ) (test : Bool) where
-  pub not_used : end ≤ at → false ≡ (ltb at end && test)
-  not_used l = ap (λ (b : Bool). b && test) (sym (le-ltb at end l))
-
-  pub is_used : at < end → test ≡ (ltb at end && test)
-  is_used l = ap (λ (b : Bool). b && test) (sym (lt-ltb at end l))
-
-  pub used_there : (r : Bool) → r ≡ (ltb at end && test) → not r ≡ false → at < end
-  used_there r e n =
-      let both : (ltb at end && test) ≡ true = sym e ∙ not-false r n in
-      ltb-true at end (search parts)
+pub used_test :
+    {Told : ℕ → Type 0} (ws : List ℕ) (at end : ℕ) (word : Option ℕ) (b : Bool) (test : ℕ → Bool)
+    → MatchOption word (end ≤ at) (λ w. (at < end) × (w ≡ get_or ws at 0)) → MatchOption word (b ≡ false) Told
+    → ((w : ℕ) → Told w → b ≡ test w) → b ≡ (ltb at end && test (get_or ws at 0))
+used_test ws at end None b test past e told =
+    e ∙ ap (λ (x : Bool). x && test (get_or ws at 0)) (sym (le-ltb at end past))
+used_test ws at end (Some w) b test h e told =
+    told w e ∙ ap test h.1 ∙ ap (λ (x : Bool). x && test (get_or ws at 0)) (sym (lt-ltb at end h.0))
 
 -- ---- the answers
 
 module _
-    (ws : List ℕ) (b : T (is_book ws)) (from m : ℕ) (month : m ≤ last_month) (place w : ℕ) (there : Bool)
-    (sought : place
-    ≡ from + figures_length + first_at (is_up_to expiration_kind m)
-    (take (used (facts_of ws) - (from + figures_length)) (drop (from + figures_length) ws)))
-    (word : w ≡ packed (ExpirationWord m))
-    (found : there ≡ (ltb place (used (facts_of ws)) && eqb (get_or ws place 0) w))
-    (c : ℕ) (o : T (is_class_open c (facts_of ws).classes)) (begin : from ≡ class_place c (facts_of ws)) where
+    (ws : List ℕ) (b : T (is_book ws)) (c : ℕ) (o : T (is_class_open c (facts_of ws).classes)) (m : ℕ)
+    (month : m ≤ last_month) where
   abbrev facts : Facts
   facts = facts_of ws
 
   abbrev here : List Series
   here = in_month m (class facts c).series
 
-  place_is : place ≡ expiration_place c m facts
-  place_is = sought ∙ expiration_sought ws b c o m month (from + figures_length) (omega arith)
-
-  there_is : there ≡ has_expiration c m facts
-  there_is =
-      found
+  -- where its search stops, and whether its word stands there
+  pub strikes_begun :
+      (from place w : ℕ) (there : Bool) → from ≡ class_place c facts + figures_length
+      → place ≡ from + first_at (is_up_to expiration_kind m) (used_part ws b from) → w ≡ packed (ExpirationWord m)
+      → there ≡ (ltb place (used facts) && eqb (get_or ws place 0) w)
+      → (there ≡ has_expiration c m facts) × (place + cond {A = ℕ} there 1 0 ≡ strikes_place c m facts)
+  strikes_begun from place w there begin stop word said =
+      let at : place ≡ expiration_place c m facts = stop ∙ expiration_sought ws b c o m month from begin in
+      let is : there ≡ has_expiration c m facts =
+      said
       ∙ ap (λ (v : ℕ). ltb place (used facts) && eqb (get_or ws place 0) v) word
-      ∙ expiration_found ws b c o m month place place_is
+      ∙ expiration_found ws b c o m month place at in
+      (is, omega (arith, at, ap (λ (s : Bool). cond {A = ℕ} s 1 0) is))
 
-  module _ (n : not there ≡ true) where
-    absent : has_expiration c m facts ≡ false
-    absent = sym there_is ∙ not-true there n
-
+  module _
+      (absent : has_expiration c m facts ≡ false) (place : ℕ) (place_absent : place ≡ strikes_place c m facts) where
     none : here ≡ []
     none = none_in ws b c o m month absent
-
-    place_absent : place ≡ strikes_place c m facts
-    place_absent = omega (arith, place_is, ap (λ (s : Bool). cond {A = ℕ} s 1 0) absent)
 
     pub no_expiration : record { from = place; to = place } ≡ expiration_of c m facts
     no_expiration =
@@ -88,46 +81,26 @@ module _
         ∙ some_both (is_equal month_of m) (is_equal strike_of h) (class facts c).series in
         λ i. record { at = at i; expiration = sym absent i; standing = standing i }
 
-  module _ (n : not there ≡ false) (end : ℕ) (d : end ≡ used facts) where
-    stands : has_expiration c m facts ≡ true
-    stands = sym there_is ∙ not-false there n
-
-    after : place + 1 ≡ expiration_place c m facts + 1
-    after = omega (arith, place_is)
-
-    place_stands : place + 1 ≡ strikes_place c m facts
-    place_stands = omega (arith, place_is, ap (λ (s : Bool). cond {A = ℕ} s 1 0) stands)
-
-    -- a search in the words after that of the expiration
-    searched :
-        (test : ℕ → Bool) (k : ℕ) → k ≡ first_at test (take (end - (place + 1)) (drop (place + 1) ws))
-        → k ≡ first_at test (take (used facts - (place + 1)) (drop (place + 1) ws))
-    searched test k q = q ∙ ap (λ (e : ℕ). first_at test (take (e - (place + 1)) (drop (place + 1) ws))) d
+  module _ (stands : has_expiration c m facts ≡ true) (from : ℕ) (begin : from ≡ strikes_place c m facts) where
+    after : from ≡ expiration_place c m facts + 1
+    after = omega (arith, begin, ap (λ (s : Bool). cond {A = ℕ} s 1 0) stands)
 
     pub its_strikes :
-        (k : ℕ) → k ≡ first_at (is_up_to expiration_kind 0) (take (end - (place + 1)) (drop (place + 1) ws))
-        → record { from = place + 1; to = place + 1 + k } ≡ expiration_of c m facts
+        (k : ℕ) → k ≡ first_at (is_up_to expiration_kind 0) (used_part ws b from)
+        → record { from = from; to = from + k } ≡ expiration_of c m facts
     its_strikes k q =
-        let to : place + 1 + k ≡ strikes_end c m facts =
-        omega (
-          arith,
-          place_stands,
-          searched (is_up_to expiration_kind 0) k q ∙ strikes_ended ws b c o m month stands (place + 1) after,
-        ) in
-        λ i. record { from = place_stands i; to = to i }
+        let to : from + k ≡ strikes_end c m facts =
+        omega (arith, begin, q ∙ strikes_ended ws b c o m month stands from after) in
+        λ i. record { from = begin i; to = to i }
 
     pub its_strike :
         (h k : ℕ) (standing : Bool) → h < 2 ^ kind_field.low
-        → k ≡ first_at (is_up_to strike_kind h) (take (end - (place + 1)) (drop (place + 1) ws))
-        → standing ≡ (ltb (place + 1 + k) (used facts) && is_holding strike_kind h (get_or ws (place + 1 + k) 0))
-        → record { at = place + 1 + k; expiration = true; standing = standing } ≡ strike_search_of c m h facts
+        → k ≡ first_at (is_up_to strike_kind h) (used_part ws b from)
+        → standing ≡ (ltb (from + k) (used facts) && is_holding strike_kind h (get_or ws (from + k) 0))
+        → record { at = from + k; expiration = true; standing = standing } ≡ strike_search_of c m h facts
     its_strike h k standing small q s =
-        let at : place + 1 + k ≡ strike_place c m h facts =
-        omega (
-          arith,
-          place_stands,
-          searched (is_up_to strike_kind h) k q ∙ strike_sought ws b c o m month stands h small (place + 1) after,
-        ) in
+        let at : from + k ≡ strike_place c m h facts =
+        omega (arith, begin, q ∙ strike_sought ws b c o m month stands h small from after) in
         let is : standing ≡ is_standing (view_of c facts) m h =
-        s ∙ strike_found ws b c o m month stands h small (place + 1 + k) at in
+        s ∙ strike_found ws b c o m month stands h small (from + k) at in
         λ i. record { at = at i; expiration = sym stands i; standing = is i }

@@ -1,5 +1,6 @@
 -- Inner: the tests by which words are sought. Assumes nothing.
-use Rattle.std.specs.Prelude.{ℕ, ◌+◌, ◌-◌, ◌^◌, ◌<◌, ◌≤◌, ◌≡◌, Bool, true, cond, not, ◌&&◌, List, drop, get_or, length, take, T, eqb, leb, ltb}
+use Rattle.std.specs.Prelude.{ℕ, ◌+◌, ◌-◌, ◌^◌, ◌<◌, ◌≤◌, ◌≡◌, Bool, true, cond, not, ◌&&◌, Option, Some, None, List, drop, get_or, length, take, T, eqb, leb, ltb}
+use Rattle.std.specs.Bool.{then_some}
 use Rattle.word.specs.declared.kind.Kind.{Kind}
 use Rattle.word.specs.Limits.{longest_run}
 use Rattle.word.specs.Kinds.{kind_field, kind_of, key_of, is_of_kind, grade_at, grade_of}
@@ -43,14 +44,13 @@ abbrev pub first_about : ℕ → Kind → ℕ → List ℕ → ℕ
 first_about near kind key ws =
     near - before_count + first_at (is_up_to kind key) (take about_count (drop (near - before_count) ws))
 
--- where a word of the kind holds the key: `near`, or else the first about it; the length where neither does, or where
--- `near` is not amid the words
-abbrev pub found_near : ℕ → Kind → ℕ → List ℕ → ℕ
+-- where a word of the kind holds the key: `near`, or else the first about it; none where neither does, or where `near`
+-- is not amid the words
+abbrev pub found_near : ℕ → Kind → ℕ → List ℕ → Option ℕ
 found_near near kind key ws =
-    cond {A = ℕ} (not (is_amid near ws)) (length ws)
-    (cond {A = ℕ} (is_holding kind key (get_or ws near 0)) near
-    (cond {A = ℕ} (is_holding kind key (get_or ws (first_about near kind key ws) 0))
-    (first_about near kind key ws) (length ws)))
+    cond {A = Option ℕ} (not (is_amid near ws)) None
+    (cond {A = Option ℕ} (is_holding kind key (get_or ws near 0)) (Some near)
+    (then_some (is_holding kind key (get_or ws (first_about near kind key ws) 0)) (first_about near kind key ws)))
 
 -- words of the kind that hold less than the key stand before the first that holds at least the key, and one that holds
 -- the key is that first

@@ -3,21 +3,19 @@
 use Prim.Native.Nat.{ℕ, ◌-◌, ◌≤◌}
 use mathlib.Core.Path.{◌≡◌, refl, sym, ap, ◌∙◌}
 use mathlib.Core.Logic.{◌↔◌}
-use mathlib.Core.Bool.{Bool, true, false, not, ◌&&◌, and-false}
+use mathlib.Core.Bool.{Bool, true, false, ◌&&◌, and-false}
 use mathlib.Core.List.{List, [], ◌∷◌, ◌++◌, map}
 use native.Mathlib.Omega.{arith}
-use native.Mathlib.Nat.{sub-zero}
 use lib.ListN.{length, take, drop, get_or, replicate, length-map, length-drop, length-replicate, take-append-drop}
 use lib.Seq.{drop-cons, take_all, take_at, drop_at, drop-append-le, get_or-take, length-take-le}
 use lib.Dec.{T, leb, ltb, leb→le, le→leb, eqb→eq}
-use borrow.Author.Tests.{not-true, not-false}
 use Rattle.logic.specs.Lists.{every, sum}
 use Rattle.word.specs.Kinds.{head_kind, used_field, counter_kind, strikes_field}
 use Rattle.word.specs.Head.{is_head, is_counter, are_counters, first_place, month_in, used_in, own_in, strikes_in}
 use Rattle.word.specs.Programs.{is_program, program_count}
 use Rattle.word.specs.Counters.{strike_of}
 use Rattle.word.specs.Codec.{Word, Head, Counter, is_legal, packed, Fits}
-use Rattle.word.specs.Limits.{is_length, longest_run, last_month}
+use Rattle.word.specs.Limits.{is_length, last_month}
 use Rattle.word.specs.Field.{field, end}
 use Rattle.book.specs.Facts.{OpenClass, Facts, number, owned, strikes_on}
 use Rattle.book.specs.Layout.{classes_words, counter_of, used, head_words, layout, facts_of}
@@ -35,7 +33,7 @@ use Rattle.scan.proofs.CountedZeros.{counted_further}
 
 -- the words used, and those past them, as parts of the run are lent
 abbrev pub words_used : List ℕ → List ℕ
-words_used ws = take (used_in ws - 0) ws
+words_used ws = take (used_in ws) ws
 
 abbrev pub words_past : List ℕ → List ℕ
 words_past ws = take (length ws - used_in ws) (drop (used_in ws) ws)
@@ -51,7 +49,7 @@ record Parts (ws : List ℕ) : Type 0 where
 used_counter :
     (ws : List ℕ) → first_place ≤ used_in ws → (p : ℕ) → T (is_program p) → get_or (words_used ws) p 0 ≡ get_or ws p 0
 used_counter ws low p k =
-    get_or-take (used_in ws - 0) ws p 0 (omega (arith, leb→le p program_count (search ands)))
+    get_or-take (used_in ws) ws p 0 (omega (arith, leb→le p program_count (search ands)))
 
 -- the counters say the strikes of every program exactly when they pass the test
 strikes_counted :
@@ -179,8 +177,8 @@ module _ (ws : List ℕ) (f : Facts) (good : T (is_well_formed (length ws) f)) (
   used_are : words_used ws ≡ map packed words
   unfolding layout
   used_are =
-      ap (take (used_in ws - 0)) (sym laid)
-      ∙ take_at (map packed words) zeros (used_in ws - 0) (omega (arith, head_says, words_count))
+      ap (take (used_in ws)) (sym laid)
+      ∙ take_at (map packed words) zeros (used_in ws) (omega (arith, head_says, words_count))
 
   past_are : words_past ws ≡ zeros
   unfolding layout
@@ -228,7 +226,7 @@ module _ (ws : List ℕ) (p : Parts ws) where
       (leb→le first_place (used_in ws) (search ands), leb→le (used_in ws) (length ws) (search ands))
 
   used_long : length (words_used ws) ≡ used_in ws
-  used_long = length-take-le (used_in ws - 0) ws (omega (arith, within)) ∙ omega arith
+  used_long = length-take-le (used_in ws) ws within.1
 
   told_used : used told ≡ used_in ws
   unfolding told
@@ -298,11 +296,9 @@ module _ (ws : List ℕ) (p : Parts ws) where
       let all : words_past ws ≡ drop u ws = take_all (n - u) (drop u ws) (omega (arith, length-drop u ws)) in
       let zeros : replicate (n - used told) 0 ≡ drop u ws =
       rw (told_used, ← length-drop u ws) (replicate_zeros (drop u ws) (rw all at p.zeros)) in
-      let whole : u - 0 ≡ u = omega arith in
-      let parts : words_used ws ++ drop u ws ≡ ws = rw whole (take-append-drop u ws) in
       (λ i. p.classes.holds i ++ zeros i)
       ∙ sym (drop-append-le first_place (words_used ws) (drop u ws) (omega (arith, used_long, within)))
-      ∙ ap (drop first_place) parts
+      ∙ ap (drop first_place) (take-append-drop u ws)
 
   told_laid : layout (length ws) told ≡ ws
   unfolding told layout
@@ -318,41 +314,29 @@ book_parts ws = (
 
 -- ---- what each test of the code tells
 
-pub some_words : (n : ℕ) → is_length n ≡ true → (first_place ≤ n) × (n ≤ longest_run)
-some_words n t =
-    let long = true_T (is_length n) t in
-    (leb→le first_place n (search ands), leb→le n longest_run (search ands))
-
 -- two tests are one beside a third, where they are when that passes
 where_passed : (a b c : Bool) → (T c → a ≡ b) → (a && c) ≡ (b && c)
 where_passed a b true e = rw (e tt) refl
 where_passed a b false e = and-false a ∙ sym (and-false b)
 
 module _ (ws : List ℕ) where
-  good_head : not (is_head ws) ≡ false → T (is_head ws)
-  good_head t =
-      let test = is_head ws in
-      true_T test (not-false test t)
-
-  pub head_within : not (is_head ws) ≡ false → (first_place ≤ used_in ws) × (used_in ws ≤ length ws)
+  pub head_within : is_head ws ≡ true → (first_place ≤ used_in ws) × (used_in ws ≤ length ws)
   head_within t =
-      let head = good_head t in
+      let head = true_T (is_head ws) t in
       (leb→le first_place (used_in ws) (search ands), leb→le (used_in ws) (length ws) (search ands))
 
   pub wrong_length : is_length (length ws) ≡ false → false ≡ is_book ws
   wrong_length t = refuted (is_book ws) (λ b. rw t at ((book_parts ws).0 b).long)
 
-  pub wrong_head : not (is_head ws) ≡ true → false ≡ is_book ws
-  wrong_head t =
-      let wrong = not-true (is_head ws) t in
-      refuted (is_book ws) (λ b. rw wrong at ((book_parts ws).0 b).head)
+  pub wrong_head : is_head ws ≡ false → false ≡ is_book ws
+  wrong_head t = refuted (is_book ws) (λ b. rw t at ((book_parts ws).0 b).head)
 
   pub wrong_classes : (AllClasses (month_in ws) (words_used ws) → ⊥) → false ≡ is_book ws
   wrong_classes wrong = refuted (is_book ws) (λ b. wrong ((book_parts ws).0 b).classes)
 
   -- the head and the classes passed
   pub counts_left :
-      is_length (length ws) ≡ true → not (is_head ws) ≡ false → AllClasses (month_in ws) (words_used ws)
+      is_length (length ws) ≡ true → is_head ws ≡ true → AllClasses (month_in ws) (words_used ws)
       → are_counted (words_used ws) && every is_zero (words_past ws) ≡ is_book ws
   counts_left l h classes =
       let strikes = are_counted (words_used ws) in
@@ -361,7 +345,7 @@ module _ (ws : List ℕ) where
       (λ both.
       (book_parts ws).1 (record {
         long = true_T (is_length (length ws)) l;
-        head = good_head h;
+        head = true_T (is_head ws) h;
         classes = classes;
         strikes = and_left strikes zeros both;
         zeros = and_right strikes zeros both;
@@ -372,13 +356,12 @@ module _ (ws : List ℕ) where
   -- is counted does not matter
   pub counts_further :
       (to : ℕ) → used_in ws ≤ to → to ≤ length ws
-      → is_length (length ws) ≡ true → not (is_head ws) ≡ false → AllClasses (month_in ws) (words_used ws)
-      → are_counted (take (to - 0) ws) && every is_zero (words_past ws) ≡ is_book ws
+      → is_length (length ws) ≡ true → is_head ws ≡ true → AllClasses (month_in ws) (words_used ws)
+      → are_counted (take to ws) && every is_zero (words_past ws) ≡ is_book ws
   counts_further to l e long h classes =
-      where_passed (are_counted (take (to - 0) ws)) (are_counted (words_used ws)) (every is_zero (words_past ws))
+      where_passed (are_counted (take to ws)) (are_counted (words_used ws)) (every is_zero (words_past ws))
       (λ z.
-      rw (sub-zero to, sub-zero (used_in ws))
-      (counted_further ws (used_in ws) to (head_within h).0 l e
+      counted_further ws (used_in ws) to (head_within h).0 l e
       (rw (take_all (length ws - used_in ws) (drop (used_in ws) ws)
-      (omega (arith, length-drop (used_in ws) ws))) at z)))
+      (omega (arith, length-drop (used_in ws) ws))) at z))
       ∙ counts_left long h classes

@@ -7,9 +7,9 @@ use mathlib.Core.Logic.{◌↔◌}
 use mathlib.Core.Bool.{Bool, true, false, not, ◌&&◌, ◌||◌}
 use mathlib.Core.List.{List, [], ◌∷◌, map}
 use native.Mathlib.Omega.{arith}
-use lib.ListN.{length, drop, get_or, length-drop, drop_of_length-le}
+use lib.ListN.{length, drop, get_or, drop_of_length-le}
 use lib.Dec.{T, eqb, ltb, eqb→eq}
-use borrow.Author.Tests.{not-true, not-false, le-ltb, ltb-false}
+use borrow.Author.Tests.{le-ltb, ltb-false}
 use Rattle.word.specs.Kinds.{key_of, class_kind}
 use Rattle.word.specs.Head.{first_place, own_in}
 use Rattle.word.specs.Limits.{longest_run}
@@ -25,7 +25,7 @@ use Rattle.logic.proofs.Tests.{and_intro, ands, nors, true_T, equal_test}
 use Rattle.word.proofs.EachProgram.{each_program}
 use Rattle.word.proofs.Counts.{own_at_most_one}
 use Rattle.scan.specs.Stretches.{may_follow, SeriesThen, ClassesWhere, Classes, AllClasses, SeriesEnd}
-use Rattle.scan.proofs.FiguresFirst.{FiguresThen, figures, classes_length}
+use Rattle.scan.proofs.FiguresFirst.{FiguresThen, figures}
 
 -- the counts of own classes, by program number
 abbrev pub count_of : ℕ → ℕ → ℕ → ℕ → ℕ
@@ -136,15 +136,6 @@ module _ {now : ℕ} {ws : List ℕ} {i last : ℕ} {counts : ℕ → ℕ} (v : 
   pub walked_small : length ws ≤ longest_run → (p : ℕ) → T (is_program p) → counts p < longest_run
   walked_small most p k = omega (arith, v.few p k, v.within)
 
-  -- no class stands in fewer words than its figures have
-  pub walked_short : i < length ws → length ws - i < figures_length → AllClasses now ws → ⊥
-  walked_short l short r =
-      omega (
-        arith,
-        length-drop i ws,
-        classes_length now last counts (λ p. own_in p ws) (drop i ws) (v.same.0 r) (omega (arith, length-drop i ws)),
-      )
-
   -- where no class is left, the counts decide
   pub walked_end : length ws ≤ i → Agree counts ws ↔ AllClasses now ws
   walked_end l = (
@@ -175,20 +166,19 @@ module _ {now : ℕ} {ws : List ℕ} {i last : ℕ} {counts : ℕ → ℕ} (v : 
     step : AllClasses now ws ↔ FiguresThen now last counts (λ p. own_in p ws) i ws
     step = Iff.trans v.same (figures now last counts (λ p. own_in p ws) i ws (omega arith))
 
-    pub walked_wrong : not (are_figures_at last i ws) ≡ true → AllClasses now ws → ⊥
-    walked_wrong t r = rw (not-true (are_figures_at last i ws) t) at (step.0 r).figures
+    pub walked_wrong : are_figures_at last i ws ≡ false → AllClasses now ws → ⊥
+    walked_wrong t r = rw t at (step.0 r).figures
 
     pub walked_counted :
-        not (are_figures_at last i ws) ≡ false
+        are_figures_at last i ws ≡ true
         → let w = get_or ws i 0 in
         Counted now ws i (key_of class_kind w) (λ p. counts p + own (designation_in (program p) w))
     walked_counted t =
-        let test = are_figures_at last i ws in
         record {
           few = λ p k. omega (arith, v.few p k, own_at_most_one (designation_in (program p) (get_or ws i 0)));
           same = (
             λ r. (step.0 r).rest,
-            λ r. step.1 (record { figures = true_T test (not-false test t); rest = r }),
+            λ r. step.1 (record { figures = true_T (are_figures_at last i ws) t; rest = r }),
           );
         }
 

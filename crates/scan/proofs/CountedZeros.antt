@@ -1,5 +1,5 @@
 -- Zeros count for nothing: the counters may be compared with words past those used, too. Assumes nothing.
-use Prim.Native.Nat.{ℕ, zero, suc, ◌+◌, ◌-◌, ◌≤◌, ◌<◌}
+use Prim.Native.Nat.{ℕ, ◌+◌, ◌-◌, ◌≤◌, ◌<◌}
 use mathlib.Core.Path.{◌≡◌, refl, ap, ◌∙◌}
 use mathlib.Core.Bool.{true, ◌&&◌}
 use mathlib.Core.List.{List, [], ◌∷◌, ◌++◌}
@@ -9,8 +9,9 @@ use lib.ListN.{length, take, drop, get_or-append}
 use lib.Seq.{drop-append-le, take-add, length-take-le}
 use lib.Dec.{T, eqb, eqb→eq}
 use Rattle.logic.specs.Lists.{every, sum}
-use Rattle.logic.proofs.Tests.{ands, and_intro}
+use Rattle.logic.proofs.Tests.{ands}
 use Rattle.logic.proofs.Lists.{sum_append}
+use Rattle.logic.proofs.Slices.{every_part}
 use Rattle.word.specs.Head.{first_place, strikes_in}
 use Rattle.word.specs.Counters.{strike_of}
 use Rattle.scan.specs.Stretches.{are_counted, counted_end, is_zero}
@@ -24,13 +25,6 @@ zeros_none : (p : ℕ) (zs : List ℕ) → T (every is_zero zs) → sum (strike_
 zeros_none p [] t = refl
 zeros_none p (w ∷ zs) t =
     rw (eqb→eq w 0 (search ands)) (zero-add (sum (strike_of p) zs) ∙ zeros_none p zs (search ands))
-
--- some of them are zeros, too
-zeros_some : (k : ℕ) (zs : List ℕ) → T (every is_zero zs) → T (every is_zero (take k zs))
-zeros_some zero zs t = tt
-zeros_some (suc k) [] t = tt
-zeros_some (suc k) (w ∷ zs) t =
-    and_intro (eqb w 0) (every is_zero (take k zs)) (search ands) (zeros_some k zs (search ands))
 
 -- words that hold the counters, with zeros after them
 module _ (us zs : List ℕ) (low : first_place ≤ length us) (z : T (every is_zero zs)) where
@@ -63,4 +57,4 @@ counted_further ws used end low l h z =
     ap (λ k. take k ws) parts ∙ take-add used (end - used) ws in
     rw split
     (counted_zeros (take used ws) past (omega (arith, length-take-le used ws (omega arith)))
-    (zeros_some (end - used) (drop used ws) z))
+    (every_part is_zero (drop used ws) (end - used) 0 z))

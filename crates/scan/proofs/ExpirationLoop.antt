@@ -1,16 +1,16 @@
 -- What the loop over a class's expirations keeps, and a law for each way through it: by the word at its place. Assumes
 -- nothing.
 use Prim.Native.Nat.{ℕ, suc, ◌+◌, ◌-◌, ◌≤◌, ◌<◌, max}
-use mathlib.Core.Path.{◌≡◌}
+use mathlib.Core.Path.{◌≡◌, sym}
 use mathlib.Core.Logic.Iff
 use mathlib.Core.Logic.{◌↔◌}
-use mathlib.Core.Bool.{true, false, not}
+use mathlib.Core.Bool.{Bool, true, false}
 use mathlib.Core.List.{List}
+use Rattle.std.specs.Prelude.{None}
 use native.Mathlib.Omega.{arith}
-use lib.ListN.{length, drop, get_or, drop_of_length-le}
+use lib.ListN.{length, drop, get_or}
 use lib.Seq.{drop-cons, drop-drop, get_or-drop}
 use lib.Dec.{T, leb→le}
-use borrow.Author.Tests.{not-true, not-false}
 use Rattle.word.specs.Limits.{between, latest_month}
 use Rattle.word.specs.Kinds.{kind_of, below_kind, expiration_kind}
 use Rattle.word.specs.Codec.{Expiration, packed}
@@ -20,10 +20,9 @@ use Rattle.book.specs.Books.{is_class}
 use Rattle.logic.proofs.Tests.{ands, true_T}
 use Rattle.scan.specs.NextStrikes.{next_length}
 use Rattle.scan.specs.Stretches.{may_follow, SeriesThen, SeriesEnd, Stretched, are_strikes}
-use Rattle.scan.specs.declared.Stretch.TheVariants.{Breaks}
 use Rattle.scan.proofs.ExpirationWords.{is_expiration_from, is_between, between_from}
 use Rattle.scan.proofs.NextStrikes.{last_next, HasStrikes}
-use Rattle.scan.proofs.Series.{expiration_more, expiration_none, expiration_end}
+use Rattle.scan.proofs.Series.{expiration_more, expiration_none}
 
 -- the series from `from` on are what they are after those before i, and `least` is the first expiration word that may
 -- follow them
@@ -37,37 +36,12 @@ pub record Expirations (now : ℕ) (ws : List ℕ) (from least i : ℕ) : Type 0
       (xs : List OpenClass) → T (every (is_class now) xs)
       → SeriesThen now 0 (may_follow 0) xs (drop from ws) ↔ SeriesThen now next (may_follow next) xs (drop i ws)
 
-pub expirations_start :
-    (now : ℕ) (ws : List ℕ) (from : ℕ) → from ≤ length ws → Expirations now ws from (packed (Expiration now)) from
-expirations_start now ws from l =
-    record {
-      next = 0;
-      first = omega arith;
-      onward = omega arith;
-      within = l;
-      same = λ xs legal. Iff.rfl;
-    }
-
 module _ {now : ℕ} {ws : List ℕ} {from least i : ℕ} (v : Expirations now ws from least i) where
-  pub expirations_done : length ws ≤ i → SeriesEnd now ws from i
-  expirations_done l =
-      record {
-        onward = v.onward;
-        within = v.within;
-        rest = λ xs legal. Iff.trans (v.same xs legal) (rw (drop_of_length-le ws l) (expiration_end now xs legal));
-      }
-
   -- the word at i is compared with those of the first and the last month that may follow
-  module _ (latest : ℕ) (last : latest ≡ packed (Expiration (latest_month now))) where
-    pub expirations_passed :
-        not (between least latest (get_or ws i 0)) ≡ false → T (is_between now v.next (get_or ws i 0))
-    expirations_passed t =
-        let test = between least latest (get_or ws i 0) in
-        rw (v.first, last) at (true_T test (not-false test t))
-
-    pub expirations_failed :
-        not (between least latest (get_or ws i 0)) ≡ true → is_between now v.next (get_or ws i 0) ≡ false
-    expirations_failed t = rw (v.first, last) at (not-true (between least latest (get_or ws i 0)) t)
+  pub expirations_compared :
+      (latest : ℕ) (test : Bool) → latest ≡ packed (Expiration (latest_month now))
+      → test ≡ between least latest (get_or ws i 0) → is_between now v.next (get_or ws i 0) ≡ test
+  expirations_compared latest test last e = sym (rw (v.first, last) at e)
 
   module _ (inside : i < length ws) where
     pub expirations_stop : (kind_of (get_or ws i 0) ≡ expiration_kind.number → ⊥) → SeriesEnd now ws from i
@@ -96,12 +70,12 @@ module _ {now : ℕ} {ws : List ℕ} {from least i : ℕ} (v : Expirations now w
           )
           (expiration_more now xs legal kind))
 
-      pub expirations_wrong : is_between now v.next (get_or ws i 0) ≡ false → Stretched now ws from Breaks
+      pub expirations_wrong : is_between now v.next (get_or ws i 0) ≡ false → Stretched now ws from None
       expirations_wrong t xs legal r = rw t at ((step xs legal).0 r).0
 
       -- the next strikes after it end at j
       module _ (j : ℕ) (end : j ≡ suc i + next_length (get_or ws i 0) (drop (suc i) ws)) where
-        pub expirations_empty : j ≤ i + 1 → Stretched now ws from Breaks
+        pub expirations_empty : j ≤ i + 1 → Stretched now ws from None
         expirations_empty none xs legal r = omega (arith, ((step xs legal).0 r).1.0)
 
         -- the first and the last of them, by their places in the run
@@ -115,23 +89,20 @@ module _ {now : ℕ} {ws : List ℕ} {from least i : ℕ} (v : Expirations now w
             rw (← drop-cons ws i 0 inside, get_or-drop (suc i) ws 0 0, one, get_or-drop i ws n 0, before)
 
         pub expirations_outside :
-            not (are_strikes (get_or ws (i + 1) 0) (get_or ws (j - 1) 0)) ≡ true → Stretched now ws from Breaks
-        expirations_outside t xs legal r =
-            rw (strikes_at, not-true (are_strikes (get_or ws (i + 1) 0) (get_or ws (j - 1) 0)) t) at ((step xs legal).0
-            r).1.1
+            are_strikes (get_or ws (i + 1) 0) (get_or ws (j - 1) 0) ≡ false → Stretched now ws from None
+        expirations_outside t xs legal r = rw (strikes_at, t) at ((step xs legal).0 r).1.1
 
         pub expirations_more :
             T (is_between now v.next (get_or ws i 0)) → i + 1 < j
-            → not (are_strikes (get_or ws (i + 1) 0) (get_or ws (j - 1) 0)) ≡ false → j ≤ length ws
+            → are_strikes (get_or ws (i + 1) 0) (get_or ws (j - 1) 0) ≡ true → j ≤ length ws
             → Expirations now ws from (get_or ws i 0 + 1) j
         expirations_more t some strikes within =
             let w = get_or ws i 0 in
             let m = below_kind w in
             let listed : T (is_expiration_from now v.next w) = rw (between_from now v.next w kind) at t in
             let low : now ≤ m = leb→le now m (search ands) in
-            let passed = are_strikes (get_or ws (i + 1) 0) (get_or ws (j - 1) 0) in
             let has : HasStrikes w (drop (suc i) ws) =
-            (omega arith, rw strikes_at (true_T passed (not-false passed strikes))) in
+            (omega arith, rw strikes_at (true_T (are_strikes (get_or ws (i + 1) 0) (get_or ws (j - 1) 0)) strikes)) in
             record {
               next = suc m;
               first = omega arith;

@@ -1,6 +1,6 @@
 -- The words of a class's figures at the front of the words of classes: by cases on the classes, and by the words' test.
 -- Assumes nothing.
-use Prim.Native.Nat.{ℕ, zero-le, ◌+◌, ◌-◌, ◌≤◌, ◌<◌}
+use Prim.Native.Nat.{ℕ, zero-le, ◌+◌, ◌-◌, ◌≤◌}
 use mathlib.Core.Path.{◌≡◌, ap, ◌∙◌}
 use mathlib.Core.Logic.{◌↔◌}
 use mathlib.Core.Bool.{◌&&◌}
@@ -102,13 +102,3 @@ module _ (now last : ℕ) (counts said : ℕ → ℕ) (i : ℕ) (ws : List ℕ) 
 
   pub figures : Classes now last counts said (drop i ws) ↔ FiguresThen now last counts said i ws
   figures = (figures_from, figures_to)
-
--- words of classes are none, or those of figures at least
-pub classes_length :
-    (now last : ℕ) (counts said : ℕ → ℕ) (ws : List ℕ) → Classes now last counts said ws → 0 < length ws
-    → figures_length ≤ length ws
-classes_length now last counts said ws r = go r.classes r.holds
-  where
-    go : (xs : List OpenClass) → map packed (classes_words xs []) ≡ ws → 0 < length ws → figures_length ≤ length ws
-    go [] e l = absurd (omega (arith, ap length e))
-    go (x ∷ xs) e l = omega (arith, ap length e)

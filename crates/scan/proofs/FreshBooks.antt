@@ -1,17 +1,15 @@
 -- Making a fresh book: a bad length is refused, and zeros with the head and the counters of no class are the layout of
 -- a fresh book. Assumes nothing.
-use Prim.Native.Nat.{ℕ, zero, suc, ◌-◌, ◌≤◌}
+use Prim.Native.Nat.{ℕ, zero, suc, ◌-◌}
 use mathlib.Core.Path.{◌≡◌, ap}
-use mathlib.Core.Bool.{true, false}
+use mathlib.Core.Bool.{true}
 use mathlib.Core.List.{List, ◌∷◌}
 use native.Mathlib.Omega.{arith}
 use lib.ListN.{length, set, replicate}
 use lib.Dec.{T}
+use Rattle.std.specs.Prelude.{Ok}
 use Rattle.word.specs.Head.{first_place, with_counter}
-use Rattle.word.specs.Counters.{Writable}
-use Rattle.word.specs.Programs.{IsProgram}
-use Rattle.word.specs.declared.answer.Answer.TheVariants.{Done, Refused}
-use Rattle.word.specs.declared.answer.Refusal.TheVariants.{NotABook}
+use Rattle.word.specs.declared.answer.Accepted.TheVariants.{Done}
 use Rattle.word.specs.Codec.{Head, Counter, packed}
 use Rattle.word.specs.Limits.{is_length}
 use Rattle.book.specs.Facts.{fresh}
@@ -35,21 +33,12 @@ fresh_layout (suc (suc (suc (suc n)))) long =
     let none = packed (Counter 0 0) in
     ap (λ (k : ℕ). packed (Head 0 first_place) ∷ none ∷ none ∷ none ∷ replicate k 0) rest
 
--- the counter of a program that counts nothing can be written
-pub none_writable :
-    (ws : List ℕ) (p : ℕ) → first_place ≤ length ws → IsProgram p → Writable ws p (record { own = 0; strikes = 0 })
-none_writable ws p room numbered =
-    record { room = room; numbered = numbered; fits = (omega arith, omega arith) }
-
 module _ (ws : List ℕ) where
-  pub begun_not : is_length (length ws) ≡ false → Begun ws (Refused NotABook) ws
-  begun_not t = record { answer = rw t; words = rw t }
-
   -- zeros, the head and the counters are written one after the other
   pub begun :
       {zeros headed one two three : List ℕ} → is_length (length ws) ≡ true → zeros ≡ replicate (length ws) 0
       → headed ≡ set zeros 0 (packed (Head 0 first_place)) → one ≡ with_counter 1 0 0 headed
-      → two ≡ with_counter 2 0 0 one → three ≡ with_counter 3 0 0 two → Begun ws Done three
+      → two ≡ with_counter 2 0 0 one → three ≡ with_counter 3 0 0 two → Begun ws (Ok Done) three
   begun t z h e f g =
       record {
         answer = rw t;

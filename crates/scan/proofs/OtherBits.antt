@@ -1,20 +1,23 @@
 -- The bits that tell the others in a stretch of words, as the digits of its words: by its parts, and by its next
 -- strikes. Assumes nothing.
-use Prim.Native.Nat.{ℕ, zero, suc, ◌+◌, ◌-◌, ◌*◌, ◌/◌, ◌%◌, ◌^◌, ◌<◌, ◌≤◌}
+use Prim.Native.Nat.{ℕ, zero, suc, ◌+◌, ◌-◌, ◌*◌, ◌/◌, ◌%◌, ◌^◌, ◌<◌, ◌≤◌, min}
 use mathlib.Core.Path.{◌≡◌, refl, sym, ap, ap₂, ◌∙◌}
 use mathlib.Core.Bool.{Bool, true, false, cond, not}
 use mathlib.Core.List.{List, [], ◌∷◌}
+use mathlib.Core.Logic.{inl, inr}
 use native.Mathlib.Omega.{arith}
+use native.Mathlib.Nat.{div-one}
 use lib.ListN.{length, drop, get_or, take, drop_of_length-le, length-drop}
 use lib.Seq.{drop-cons, drop-drop, get_or-drop, take_all}
 use lib.Pow.{shl_exact}
-use lib.Bits.{bit_or, or_shifted_r}
+use lib.Bits.{bit_or, or_shifted_r, or_zero_r}
 use Rattle.word.specs.Digits.{binary, first_one}
 use Rattle.word.proofs.Digits.{binary_small, binary_parts, binary_later, digit_more, first_later, first_one_lem}
 use Rattle.word.specs.Strikes.{is_next_strike}
 use Rattle.scan.specs.NextStrikes.{next_length}
-use Rattle.scan.specs.Ahead.{others, other_bits}
+use Rattle.scan.specs.Ahead.{others, other_bits, bits_at}
 use Rattle.logic.proofs.Slices.{before_later}
+use Rattle.logic.proofs.Tests.{lt_or_le}
 
 -- ---- the digits of some words
 
@@ -53,19 +56,9 @@ others_next before (w ∷ ws) = go (is_next_strike before w) (others_next w ws)
 
 -- ---- the bits of the words from an index on
 
--- the bits of k words from i on
-abbrev pub bits_at : List ℕ → ℕ → ℕ → ℕ
-bits_at ws i k = other_bits (get_or ws (i - 1) 0) (take k (drop i ws))
-
 -- how many words from i on are next strikes
 abbrev pub next_at : List ℕ → ℕ → ℕ
 next_at ws i = next_length (get_or ws (i - 1) 0) (drop i ws)
-
-bit_shifted :
-    (next : Bool) (i : ℕ) → i < 32
-    → cond {A = ℕ} next 0 (1 * 2 ^ i % 2 ^ 32) ≡ cond {A = ℕ} (not next) (2 ^ i) 0
-bit_shifted true i h = refl
-bit_shifted false i h = shl_exact 1 i 32 (omega arith) (omega arith) ∙ omega arith
 
 module _ (ws : List ℕ) where
   -- the digits of all words from i on
@@ -85,9 +78,6 @@ module _ (ws : List ℕ) where
   pub bits_whole : (i k : ℕ) → length ws ≤ i + k → bits_at ws i k ≡ other_bits (get_or ws (i - 1) 0) (drop i ws)
   bits_whole i k h = rw (take_all k (drop i ws) (omega (arith, length-drop i ws)))
 
-  pub bits_none : (i k : ℕ) → length ws ≤ i → bits_at ws i k ≡ 0
-  bits_none i k h = rw (bits_whole i k (omega arith), drop_of_length-le ws h)
-
   pub bits_lt : (i k : ℕ) → bits_at ws i k < 2 ^ k
   bits_lt i k = rw (bits_digits i k) (binary_small k (digits i))
 
@@ -101,18 +91,30 @@ module _ (ws : List ℕ) where
   bits_later j i k =
       rw (bits_digits i (j + k), bits_digits (i + j) k, ← digits_later i j) (binary_later j k (digits i))
 
-  -- `bits | bit` in 32 bits, with the bit of one word more
-  pub bits_more :
-      (i : ℕ) (next : Bool) → i + 1 < length ws → i < 32 → next ≡ is_next_strike (get_or ws i 0) (get_or ws (i + 1) 0)
-      → bit_or (bits_at ws 1 i) (cond {A = ℕ} next 0 (1 * 2 ^ i % 2 ^ 32)) ≡ bits_at ws 1 (i + 1)
-  bits_more i next l h e =
+  -- with the bit of one word more
+  bits_more :
+      (i : ℕ) (next : Bool) → i + 1 < length ws → is_next_strike (get_or ws i 0) (get_or ws (i + 1) 0) ≡ next
+      → bit_or (bits_at ws 1 i) (cond {A = ℕ} (not next) (2 ^ i) 0) ≡ bits_at ws 1 (i + 1)
+  bits_more i next l e =
       let before : 1 + i - 1 ≡ i = omega arith in
       let place : 1 + i ≡ i + 1 = omega arith in
       let digit : get_or (digits 1) i false ≡ not next =
       others_at (get_or ws 0 0) (drop 1 ws) i (omega (arith, length-drop 1 ws))
       ∙ rw (before_later ws 1 i, before, get_or-drop 1 ws i 0, place, e) in
-      rw (bit_shifted next i h, bits_digits 1 i, bits_digits 1 (i + 1), ← digit)
-      (digit_more (digits 1) i (omega (arith, digits_long 1)))
+      rw (bits_digits 1 i, bits_digits 1 (i + 1), ← digit) (digit_more (digits 1) i (omega (arith, digits_long 1)))
+
+  -- of a next strike, and of another word, as `1 << i` in 32 bits
+  pub bits_next :
+      (i : ℕ) → i + 1 < length ws → is_next_strike (get_or ws i 0) (get_or ws (i + 1) 0) ≡ true
+      → bits_at ws 1 i ≡ bits_at ws 1 (i + 1)
+  bits_next i l e = sym (or_zero_r (bits_at ws 1 i)) ∙ bits_more i true l e
+
+  pub bits_other :
+      (i : ℕ) → i + 1 < length ws → i < 32 → is_next_strike (get_or ws i 0) (get_or ws (i + 1) 0) ≡ false
+      → bit_or (bits_at ws 1 i) (1 * 2 ^ i % 2 ^ 32) ≡ bits_at ws 1 (i + 1)
+  bits_other i l h e =
+      let bit : 1 * 2 ^ i ≡ 2 ^ i = omega arith in
+      rw (shl_exact {a = 1} 1 i 32 (omega arith) (omega arith), bit) (bits_more i false l e)
 
   -- the words of `&ws[from..to]` after its first
   pub bits_part :
@@ -125,15 +127,22 @@ module _ (ws : List ℕ) where
       let before : suc from - 1 ≡ from = omega arith in
       rw (more, drop-cons ws from 0 (omega arith), place, before)
 
-  -- where the k words from `start` on are the last
+  -- of k words that begin at i, or earlier, as the last of all, those before i are shifted out
   pub bits_last :
-      (k start i : ℕ) → start ≤ i → i ≤ start + k → length ws ≤ start + k
+      (k start i : ℕ) → k ≤ length ws → i ≤ length ws → start ≡ min i (length ws - k)
       → bits_at ws start k / 2 ^ (i - start) ≡ bits_at ws i k
-  bits_last k start i l m h =
-      let all : i - start + (start + k - i) ≡ k = omega arith in
-      let here : start + (i - start) ≡ i = omega arith in
-      rw (all, here) at (bits_later (i - start) start (start + k - i))
-      ∙ bits_whole i (start + k - i) (omega arith) ∙ sym (bits_whole i k (omega arith))
+  bits_last k start i l m e =
+      elim (lt_or_le start i) [
+        | inl h ↦
+            let all : i - start + (start + k - i) ≡ k = omega arith in
+            let here : start + (i - start) ≡ i = omega arith in
+            rw (all, here) at (bits_later (i - start) start (start + k - i))
+            ∙ bits_whole i (start + k - i) (omega arith) ∙ sym (bits_whole i k (omega arith))
+        | inr h ↦
+            let same : start ≡ i = omega arith in
+            let none : i - i ≡ 0 = omega arith in
+            rw (same, none) (div-one (bits_at ws i k))
+      ]
 
   -- `low | (high << 32)` in 64 bits
   pub bits_joined :

@@ -390,6 +390,3 @@ module _ (now : ℕ) (xs : List OpenClass) (classes_legal : T (every (is_class n
       {p w : ℕ} {ws : List ℕ} → (kind_of w ≡ expiration_kind.number → ⊥)
       → SeriesThen now p (may_follow p) xs (w ∷ ws) ↔ (map packed (classes_words xs []) ≡ w ∷ ws)
   expiration_none other = (λ r. class_next other (first r), no_series)
-
-  pub expiration_end : {p : ℕ} → SeriesThen now p (may_follow p) xs [] ↔ (map packed (classes_words xs []) ≡ [])
-  expiration_end = (series_end, no_series)

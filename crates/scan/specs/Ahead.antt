@@ -1,9 +1,9 @@
 -- Inner: what is told ahead of a word: which of the next words are others, words that are no next strikes. Assumes
 -- nothing.
-use Rattle.std.specs.Prelude.{ℕ, suc, ◌+◌, ◌-◌, ◌*◌, ◌^◌, ◌<◌, ◌≤◌, ◌≡◌, Bool, not, List, [], ◌∷◌, length, drop, get_or, take}
+use Rattle.std.specs.Prelude.{ℕ, ◌+◌, ◌-◌, ◌*◌, ◌^◌, ◌<◌, ◌≤◌, ◌≡◌, Bool, not, List, [], ◌∷◌, length, drop, get_or, take}
 use Rattle.word.specs.Digits.{binary}
 use Rattle.word.specs.Strikes.{is_next_strike}
-use Rattle.scan.specs.declared.ahead.Ahead.{Ahead}
+use Rattle.scan.specs.declared.ahead.Blocks.{Blocks}
 
 -- which words are no next strikes, each after the one before it
 abbrev pub others : ℕ → List ℕ → List Bool
@@ -22,32 +22,19 @@ block_length = 64
 abbrev pub half_block : ℕ
 half_block = 32
 
--- `base` is no index past the end of ws, which has no more words than a block
-pub record Fewer (ws : List ℕ) (base : ℕ) : Type 0 where
-  pub after : 1 ≤ base
-  pub inside : base ≤ length ws
-  pub few : length ws ≤ block_length
+-- the bits of k words from i on
+abbrev pub bits_at : List ℕ → ℕ → ℕ → ℕ
+bits_at ws i k = other_bits (get_or ws (i - 1) 0) (take k (drop i ws))
 
--- the bits are those of the words after `at`, as far as the block from `base` on reaches; the word at `at` is looked at
--- by itself, and its bit is 1. `more` are those of the next block.
-pub record Tells (ws : List ℕ) (ahead : Ahead) : Type 0 where
-  pub first : 1 ≤ ahead.base
-  pub onward : ahead.base ≤ ahead.at
-  pub within : ahead.at ≤ length ws
-  pub reached : ahead.at < length ws → ahead.at < ahead.base + block_length
+-- the bits of the first block are those of the words after `at`, as far as it reaches; the word at `at` is looked at by
+-- itself, and its bit is 1. `more` are those of the next block.
+pub record Tells (ws : List ℕ) (at : ℕ) (blocks : Blocks) : Type 0 where
+  pub first : 1 ≤ blocks.base
+  pub onward : blocks.base ≤ at
+  pub within : at ≤ length ws
+  pub reached : at < length ws → at < blocks.base + block_length
   pub told :
-      ahead.at < length ws
-      → ahead.bits
-      ≡ 2 ^ (ahead.at - ahead.base)
-      * (1 + 2 * other_bits (get_or ws ahead.at 0)
-      (take (ahead.base + block_length - suc ahead.at) (drop (suc ahead.at) ws)))
-  pub further :
-      ahead.more
-      ≡ other_bits (get_or ws (ahead.base + block_length - 1) 0)
-      (take block_length (drop (ahead.base + block_length) ws))
-
--- the same, and `to` is a later index
-pub record Passable (ws : List ℕ) (ahead : Ahead) (to : ℕ) : Type 0 where
-  pub tells : Tells ws ahead
-  pub later : ahead.at ≤ to
-  pub inside : to ≤ length ws
+      at < length ws
+      → blocks.bits
+      ≡ 2 ^ (at - blocks.base) * (1 + 2 * bits_at ws (at + 1) (blocks.base + block_length - (at + 1)))
+  pub further : blocks.more ≡ bits_at ws (blocks.base + block_length) block_length

@@ -1,4 +1,3 @@
 pub mod NextStrikes
 pub mod Ahead
-pub mod Joined
 pub mod Stretches

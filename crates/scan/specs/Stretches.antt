@@ -1,6 +1,6 @@
 -- Inner: what the loops test, which proofs/ shows to be `is_book`: words that end a book's classes, or a class's series
 -- and the classes after it. Assumes nothing.
-use Rattle.std.specs.Prelude.{ℕ, ◌+◌, ◌-◌, ◌%◌, ◌≤◌, min, ◌≡◌, ◌↔◌, Bool, true, ◌&&◌, List, [], ◌∷◌, map, length, drop, T, eqb, leb, ltb}
+use Rattle.std.specs.Prelude.{ℕ, ◌+◌, ◌-◌, ◌%◌, ◌≤◌, min, ◌≡◌, ◌↔◌, Option, Some, None, Bool, true, ◌&&◌, List, [], ◌∷◌, map, length, drop, T, eqb, leb, ltb}
 use Rattle.logic.specs.Lists.{rises, every, sum}
 use Rattle.word.specs.Limits.{highest_strike, last_month, longest_run}
 use Rattle.word.specs.Head.{first_place, own_in, strikes_in}
@@ -12,9 +12,7 @@ use Rattle.word.specs.Codec.{packed}
 use Rattle.book.specs.Facts.{Series, OpenClass, number, is_below, precedes, owned}
 use Rattle.book.specs.Layout.{series_words, classes_words}
 use Rattle.book.specs.Books.{is_series, is_class}
-use Rattle.scan.specs.Ahead.{Tells}
-use Rattle.scan.specs.declared.Stretch.{Stretch}
-use Rattle.scan.specs.declared.Stretch.TheVariants.{EndsAt, Breaks}
+use Rattle.scan.specs.declared.ahead.Ahead.{Ahead}
 
 -- "Words past those used are zero."
 abbrev pub is_zero : ℕ → Bool
@@ -93,7 +91,7 @@ pub record SeriesEnd (now : ℕ) (ws : List ℕ) (from to : ℕ) : Type 0 where
 
 -- what the answer says: what is ahead of where the series that start at `from` end, or that no series with classes
 -- after them start there
-abbrev pub Stretched : ℕ → List ℕ → ℕ → Stretch → Type 0
-Stretched now ws from (EndsAt ahead) = SeriesEnd now ws from ahead.at × Tells ws ahead
-Stretched now ws from Breaks =
+abbrev pub Stretched : ℕ → List ℕ → ℕ → Option Ahead → Type 0
+Stretched now ws from (Some ahead) = SeriesEnd now ws from ahead.at × (ahead.words.now ≡ ws)
+Stretched now ws from None =
     (xs : List OpenClass) → T (every (is_class now) xs) → SeriesThen now 0 (may_follow 0) xs (drop from ws) → ⊥

@@ -6,32 +6,23 @@ ghost use Rattle.word.specs.Limits.{last_month, longest_run};
 ghost use Rattle.word.specs.Head.{first_place};
 ghost use Rattle.book.specs.Books.{is_book};
 ghost use Rattle.book.specs.Made.{Begun};
-ghost use Rattle.scan.specs.Ahead.{Tells};
 ghost use Rattle.scan.specs.Stretches.{AllClasses, Scannable, Stretched, are_counted, are_strikes, counted_end};
 
-use crate::ahead::{Ahead, look_ahead, next_other, skip_to};
+use crate::ahead::Ahead;
 use crate::all_zero::are_zero;
-use gap::zeros::zero_all;
-use word::answer::{Answer, Refusal};
+use word::answer::{Accepted, Answer, Refusal};
 use word::caps::{DollarCount, HalfCount, TwoFiftyCount};
 use word::codec::expiration_word;
 use word::counter::Counts;
 use word::field::field_of;
 use word::kind::{CLASS, EXPIRATION, STRIKE, is_of_kind, key_of};
 use word::limits::{is_length, latest_month};
-use word::programs::{DOLLAR, DOLLAR_BITS, HALF, HALF_BITS, TWO_FIFTY, TWO_FIFTY_BITS};
+use word::programs::{DOLLAR_BITS, HALF_BITS, Program, TWO_FIFTY_BITS};
 use word::strike::{Strike, is_first_strike};
 use word::{counter, figures, head};
 
 mod ahead;
 mod all_zero;
-
-// What is ahead of where the expirations of a class end, or that they are no expirations of a book.
-#[derive(Clone, Copy)]
-pub enum Stretch {
-    EndsAt(Ahead),
-    Breaks,
-}
 
 // Whether the words from `first` to `last`, each of which follows the one before it as strikes do, are strikes of a
 // book: the first is one, none is 0 and none is above the highest.
@@ -41,36 +32,38 @@ fn are_strikes(first: u32, last: u32) -> bool
     is_first_strike(first) & (key_of(last, STRIKE) <= Strike::HIGHEST.0)
 }
 
-// Where the expirations that start at `from.at` end, each with its strikes. An expiration word is compared as a whole
-// with those of the first and the last month that may follow.
-fn expirations_end(current: u32, s: &[u32], from: Ahead) -> Stretch
-    requires { (current ≤ last_month) × Tells s.now from }
-    ensures { Stretched current s.now from.at result }
+// What is ahead of where the expirations end that start at `from.at`, each with its strikes; none where they are no
+// expirations of a book. An expiration word is compared as a whole with those of the first and the last month that may
+// follow.
+fn expirations_end(current: u32, from: Ahead<'_>) -> Option<Ahead<'_>>
+    requires { current ≤ last_month }
+    ensures { Stretched current from.entry.words.now from.entry.at result }
 {
+    let s = from.words;
     let latest = expiration_word(latest_month(current));
     let mut least = expiration_word(current);
     let mut ahead = from;
-    let mut i = ahead.at;
-    while i < s.len() {
+    // No `for`: a turn passes an expiration and all of its strikes.
+    while ahead.at < s.len() {
+        let i = ahead.at;
         let w = s[i];
-        if !((least <= w) & (w <= latest)) {
+        if !(least..=latest).contains(&w) {
             if is_of_kind(w, EXPIRATION) {
-                return Stretch::Breaks;
+                return None;
             }
-            return Stretch::EndsAt(ahead);
+            return Some(ahead);
         }
-        ahead = next_other(s, ahead);
+        ahead = ahead.next_other();
         let next = ahead.at;
         if next == i + 1 {
-            return Stretch::Breaks;
+            return None;
         }
         if !are_strikes(s[i + 1], s[next - 1]) {
-            return Stretch::Breaks;
+            return None;
         }
         least = w + 1;
-        i = next;
     }
-    Stretch::EndsAt(ahead)
+    Some(ahead)
 }
 
 // Whether the words from the first class on are those of classes, as many ours as the counters say, within the caps.
@@ -78,16 +71,16 @@ fn are_classes(current: u32, s: &[u32]) -> bool
     requires { Scannable current s.now }
     ensures { T result ↔ AllClasses current s.now }
 {
-    let n = s.len();
-    let mut ahead = look_ahead(s, head::FIRST);
-    let mut i = head::FIRST;
+    let mut ahead = Ahead::new(s, head::FIRST);
     let mut last = 0;
-    let mut dollars = DollarCount(0);
-    let mut halves = HalfCount(0);
-    let mut two_fifties = TwoFiftyCount(0);
-    while i < n {
+    let mut dollars = DollarCount::of(0);
+    let mut halves = HalfCount::of(0);
+    let mut two_fifties = TwoFiftyCount::of(0);
+    // No `for`: a turn passes a class and all of its expirations.
+    while ahead.at < s.len() {
+        let i = ahead.at;
         let w = s[i];
-        if n - i < figures::LENGTH {
+        if s.len() - i < figures::LENGTH {
             return false;
         }
         if !figures::are_figures(s, i, last) {
@@ -97,16 +90,14 @@ fn are_classes(current: u32, s: &[u32]) -> bool
         dollars = dollars.counted(field_of(w, DOLLAR_BITS));
         halves = halves.counted(field_of(w, HALF_BITS));
         two_fifties = two_fifties.counted(field_of(w, TWO_FIFTY_BITS));
-        let stretch = expirations_end(current, s, skip_to(s, ahead, i + figures::LENGTH));
-        let Stretch::EndsAt(next) = stretch else {
+        let Some(next) = expirations_end(current, ahead.skip_to(i + figures::LENGTH)) else {
             return false;
         };
         ahead = next;
-        i = ahead.at;
     }
-    (dollars.0 == counter::read(s, DOLLAR).own)
-        & ((halves.0 == counter::read(s, HALF).own)
-            & ((two_fifties.0 == counter::read(s, TWO_FIFTY).own)
+    (dollars.0 == counter::read(s, Program::Dollar).own)
+        & ((halves.0 == counter::read(s, Program::Half).own)
+            & ((two_fifties.0 == counter::read(s, Program::TwoFifty).own)
                 & !(dollars.is_exceeded() | halves.is_exceeded() | two_fifties.is_exceeded())))
 }
 
@@ -117,7 +108,7 @@ fn are_counted(s: &[u32]) -> bool
 {
     let said = counter::strikes_said(s);
     let among = counter::strikes_among(&s[head::FIRST..]);
-    (said[0] == among[0]) & ((said[1] == among[1]) & (said[2] == among[2]))
+    said == among
 }
 
 // How many words strikes are counted of at once.
@@ -129,29 +120,26 @@ fn counted_end(used: usize, n: usize) -> usize
     requires { (first_place ≤ used) × ((used ≤ n) × (n ≤ longest_run)) }
     ensures { result ≡ counted_end used n }
 {
-    let single = (used - head::FIRST) % COUNTED;
-    let end = used + (COUNTED - single) % COUNTED;
-    if end < n { end } else { n }
+    (head::FIRST + (used - head::FIRST).next_multiple_of(COUNTED)).min(n)
 }
 
 // Whether the run is a book.
 pub fn is_book(run: &[u32]) -> bool
     ensures { result ≡ is_book run.now }
 {
-    let words = &run[..];
-    let n = words.len();
+    let n = run.len();
     if !is_length(n) {
         return false;
     }
-    if !head::is_head(words) {
+    if !head::is_head(run) {
         return false;
     }
-    let used = head::used(words);
-    if !are_classes(head::month(words), &words[0..used]) {
+    let used = head::used(run);
+    if !are_classes(head::month(run), &run[..used]) {
         return false;
     }
     let end = counted_end(used, n);
-    are_counted(&words[0..end]) & are_zero(&words[used..])
+    are_counted(&run[..end]) & are_zero(&run[used..])
 }
 
 // Makes a fresh book of the run, whatever it held; a run of a bad length is refused and keeps its words.
@@ -160,12 +148,12 @@ pub fn fresh(run: &mut [u32]) -> Answer
 {
     let n = run.len();
     if !is_length(n) {
-        return Answer::Refused(Refusal::NotABook);
+        return Err(Refusal::NotABook);
     }
-    zero_all(run);
+    run.fill(0);
     head::write(run, 0, head::FIRST);
-    counter::write(run, DOLLAR, Counts::NONE);
-    counter::write(run, HALF, Counts::NONE);
-    counter::write(run, TWO_FIFTY, Counts::NONE);
-    Answer::Done
+    counter::write(run, Program::Dollar, Counts::NONE);
+    counter::write(run, Program::Half, Counts::NONE);
+    counter::write(run, Program::TwoFifty, Counts::NONE);
+    Ok(Accepted::Done)
 }

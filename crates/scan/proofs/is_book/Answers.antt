@@ -1,5 +1,5 @@
 -- `is_book` tests what a book is: each return is one law of the parts of a book.
-use Rattle.std.proofs.Common.{◌≤◌, ◌↔◌, T, not, ◌&&◌, ◌∙◌, sym, ap, length}
+use Rattle.std.proofs.Common.{◌≤◌, ◌↔◌, T, ◌&&◌, ◌∙◌, sym, length}
 use Rattle.word.specs.Head.{month_in, used_in}
 use Rattle.logic.proofs.Tests.{true_T}
 use Rattle.scan.specs.Stretches.{AllClasses}
@@ -19,7 +19,7 @@ returns-then-not-is_length c = wrong_length c.args.run.now (sym c.is_length.ensu
 
 pub returns-then-not-is_head : goal.returns-then-not-is_head
 returns-then-not-is_head c =
-    wrong_head c.args.run.now (ap not (sym c.is_head.ensures ∙ c.if-not-is_head.true))
+    wrong_head c.args.run.now (sym c.is_head.ensures ∙ c.if-not-is_head.true)
 
 pub returns-then-not-are_classes : goal.returns-then-not-are_classes
 returns-then-not-are_classes c =
@@ -32,7 +32,7 @@ pub returns : goal.returns
 returns c =
     let ws = c.args.run.now in
     let long = sym c.is_length.ensures ∙ c.if-not-is_length.false in
-    let headed = ap not (sym c.is_head.ensures ∙ c.if-not-is_head.false) in
+    let headed = sym c.is_head.ensures ∙ c.if-not-is_head.false in
     let past = rw c.used-used.ensures at c.are_zero.ensures in
     let to : (used_in ws ≤ c.counted_end-end.result) × (c.counted_end-end.result ≤ length ws) =
     rw (c.counted_end-end.ensures, c.used-used.ensures) (end_within _ _ (head_within ws headed).1) in

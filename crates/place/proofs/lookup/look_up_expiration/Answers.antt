@@ -1,21 +1,21 @@
--- `look_up_expiration` finds the strikes of an expiration: after its word where that stands, to the next word that is
--- no strike. Assumes nothing.
-use Rattle.std.proofs.Common.{not, leb→le, ap}
+-- `look_up_expiration` finds the strikes of an expiration: from where they begin to the next word that is no strike.
+-- Assumes nothing.
+use Rattle.std.proofs.Common.{leb→le}
 use Rattle.word.specs.Limits.{last_month}
 use Rattle.place.proofs.LookedUp.{no_expiration, its_strikes}
 use Rattle.place.proofs.lookup.look_up_expiration.Goals as goal
 
-pub returns-then-not-is_word_at : goal.returns-then-not-is_word_at
-returns-then-not-is_word_at c =
+pub returns-in-Err : goal.returns-in-Err
+returns-in-Err c =
     let r = c.requires in
     λ x.
-    no_expiration _ r.book _ _ (leb→le c.args.m last_month r.month) _ _ _ c.expiration_at-place.ensures.0
-    c.expiration_word.ensures c.is_word_at.ensures x.number x.is_open x.place (ap not c.if-not-is_word_at.true)
+    let e = c.in-Err.ensures.place x in
+    no_expiration _ r.book _ x.is_open _ (leb→le c.args.m last_month r.month) e.0 _ e.1
 
-pub returns : goal.returns
-returns c =
+pub returns-in-Ok : goal.returns-in-Ok
+returns-in-Ok c =
     let r = c.requires in
     λ x.
-    its_strikes _ r.book _ _ (leb→le c.args.m last_month r.month) _ _ _ c.expiration_at-place.ensures.0
-    c.expiration_word.ensures c.is_word_at.ensures x.number x.is_open x.place (ap not c.if-not-is_word_at.false) _
-    c.used-used.ensures _ c.first.ensures.0
+    let e = c.in-Ok.ensures.place x in
+    its_strikes _ r.book _ x.is_open _ (leb→le c.args.m last_month r.month) e.0 _ e.1 _
+    (rw c.used_from.ensures.words at c.first.ensures.0)

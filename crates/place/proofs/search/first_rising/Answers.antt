@@ -1,63 +1,53 @@
 -- `first_rising` finds the first word by guesses: a word of the kind that holds less than the key stands before it, so
 -- what is left from `low` on has it, and one that holds the key is it. Assumes nothing.
-use Rattle.std.proofs.Common.{◌≡◌, ◌+◌, ◌-◌, ◌^◌, ◌<◌, ◌≤◌, true, length, get_or, sym, ◌∙◌, pow_mono, arith}
-use Rattle.word.specs.Kinds.{is_of_kind, kind_field}
-use Rattle.logic.proofs.Tests.{parts}
-use Rattle.logic.proofs.Firsts.{part_passes, Seeking, seek_before, seek_rest}
-use Rattle.place.specs.Search.{is_from, guess_width}
+use Rattle.std.proofs.Common.{◌≡◌, ◌-◌, ◌^◌, ◌<◌, length, take, ◌∙◌, pow_mono, arith, length-take-le, get_or-take}
+use Rattle.word.specs.Kinds.{kind_field}
+use Rattle.logic.proofs.Firsts.{seek_before, seek_rest}
+use Rattle.logic.proofs.Slices.{every_part}
+use Rattle.place.specs.Search.{is_no_lower, guess_width}
 use Rattle.place.proofs.KeyedWords.{part_from}
 use Rattle.place.proofs.search.first_rising.Goals as goal
-use Rattle.place.proofs.search.first_rising.Goals.{After-key_of-held, then-turn-eq0, else-turn-eq0}
+use Rattle.place.proofs.search.first_rising.Goals.{After-span, In-Some}
 
--- the word at which the side is decided is one of those left, and of the kind
-of_kind :
-    (c : After-key_of-held)
-    → let next = c.loop-high.low + c.if-turn-eq0.guess + c.first.result in
-    (next < c.loop-high.high) × (is_of_kind c.args.kind (get_or c.args.words.now next 0) ≡ true)
-of_kind c =
-    let a = c.args in
-    let l = c.loop-high in
-    let from = l.low + c.if-turn-eq0.guess in
-    let guess : from < l.high =
-    elim c.if-turn-eq0.branch [ then-turn-eq0 w ↦ omega arith | else-turn-eq0 w ↦ omega arith ] in
-    let within : from + c.first.result < l.high = omega arith in
-    let is_next =
-    c.first.ensures.0 ∙ part_from a.kind 0 (omega arith) a.words.now (l.high - from) from c.requires.no_lower in
-    let passes = part_passes a.words.now _ _ l.invariant.1 (is_from a.kind 0) 0 _ is_next within in
-    (within, search parts)
+small : (c : After-span) → c.args.key < 2 ^ guess_width
+small c = omega (arith, pow_mono {i = c.args.kind.width} {j = guess_width} c.requires.narrow)
 
--- the words up to one that holds less are passed
-passed :
-    (c : After-key_of-held) → c.key_of-held.result < c.args.key
-    → let low = c.loop-high.low + c.if-turn-eq0.guess + c.first.result + 1 in
-    (low ≤ c.loop-high.high) × Seeking (is_from c.args.kind c.args.key) c.args.words.now low
-passed c less =
-    let next = of_kind c in (
-      omega arith,
-      seek_before _ _ _
-          (omega (arith, c.requires.rises.below _ (omega arith) next.1 (omega (arith, c.key_of-held.ensures)))),
+-- the words up to `high`
+front_length : (c : After-span) → let high = c.loop-kind.left.high in length (take high c.args.words.now) ≡ high
+front_length c = length-take-le c.loop-kind.left.high c.args.words.now c.loop-kind.invariant.0
+
+-- the next word is one of those left, and of the kind
+pub guess-guess-requires : goal.guess-guess-requires
+guess-guess-requires c = (omega arith, omega arith, small (goal.at.guess-guess-requires c).After-span)
+
+pub next_held-requires : goal.next_held-requires
+next_held-requires c =
+    let a = c.args in (
+      record { is_kind = omega arith; narrow = omega arith; small = omega arith },
+      omega (arith, front_length (goal.at.next_held-requires c).After-span),
+      every_part (is_no_lower a.kind) a.words.now c.loop-kind.left.high 0 c.requires.no_lower,
     )
 
-pub returns-then-held-key : goal.returns-then-held-key
-returns-then-held-key c =
-    let next = of_kind (goal.at.returns-then-held-key c).After-key_of-held in
-    (c.requires.rises.equal _ (omega arith) next.1 (sym c.key_of-held.ensures ∙ c.if-held-key.true), omega arith)
+pub after-left-requires : goal.after-left-requires
+after-left-requires c =
+    let span = (goal.at.after-left-requires c).After-span in
+    (omega (arith, front_length span, c.in-Some.ensures.1), omega (arith, small span))
 
-pub loop-high-preserved-then-not-known : goal.loop-high-preserved-then-not-known
-loop-high-preserved-then-not-known c =
-    let p = passed (goal.at.loop-high-preserved-then-not-known c).After-key_of-held c.if-held-key-2.true in
-    (p.0, omega arith, p.1, omega arith)
-
-pub loop-high-preserved-else-not-known : goal.loop-high-preserved-else-not-known
-loop-high-preserved-else-not-known c =
-    let p = passed (goal.at.loop-high-preserved-else-not-known c).After-key_of-held c.if-held-key-2.true in
-    (p.0, omega arith, p.1, omega arith)
+pub loop-kind-preserved-then-held-key-2 : goal.loop-kind-preserved-then-held-key-2
+loop-kind-preserved-then-held-key-2 c =
+    let ws = c.args.words.now in
+    let there = c.in-Some.ensures in
+    let within : c.in-Some.next < c.loop-kind.left.high =
+    omega (arith, front_length (goal.at.loop-kind-preserved-then-held-key-2 c).After-span, there.1) in
+    let word = get_or-take c.loop-kind.left.high ws c.in-Some.next 0 within in
+    let before = c.requires.rises.below _ (omega arith) (rw word at there.2) (omega (arith, rw word at there.3)) in
+    (omega arith, rw c.after-left.ensures.0 (seek_before _ _ _ (omega (arith, before))), omega arith)
 
 pub returns : goal.returns
 returns c =
     let a = c.args in
-    let low = c.loop-high.low in
-    let small : a.key < 2 ^ kind_field.low =
+    let low = c.loop-kind.left.low in
+    let narrow : a.key < 2 ^ kind_field.low =
     omega (arith, pow_mono {i = a.kind.width} {j = guess_width} c.requires.narrow) in
-    seek_rest _ _ _ c.loop-high.invariant.2 _
-    (c.first-2.ensures.0 ∙ part_from a.kind a.key small a.words.now (length a.words.now - low) low c.requires.no_lower)
+    seek_rest _ _ _ c.loop-kind.invariant.1 _
+    (c.first-2.ensures.0 ∙ part_from a.kind a.key narrow a.words.now (length a.words.now - low) low c.requires.no_lower)

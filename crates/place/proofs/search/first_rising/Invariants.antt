@@ -5,9 +5,9 @@ use Rattle.logic.proofs.Firsts.{Seeking}
 use Rattle.place.specs.Search.{is_from}
 use Rattle.place.proofs.search.first_rising.Given as goal
 
-abbrev pub invariant-loop-high : goal.invariant-loop-high
-invariant-loop-high l =
-    (l.low ≤ l.high) × (l.high ≤ length l.words) × Seeking (is_from l.kind l.key) l.words l.low × (l.turn < 8)
+abbrev pub invariant-loop-kind : goal.invariant-loop-kind
+invariant-loop-kind l =
+    (l.left.high ≤ length l.words) × Seeking (is_from l.kind l.key) l.words l.left.low × (l.turn < 8)
 
-abbrev pub decreases-loop-high : goal.decreases-loop-high
-decreases-loop-high l = l.high - l.low
+abbrev pub decreases-loop-kind : goal.decreases-loop-kind
+decreases-loop-kind l = l.left.high - l.left.low

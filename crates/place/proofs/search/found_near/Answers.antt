@@ -1,29 +1,19 @@
 -- `found_near` makes the tests of the definition; where the word at `near` does not hold the key, the first of those
 -- about it decides. Assumes nothing.
-use Rattle.std.proofs.Common.{◌≡◌, ℕ, ◌+◌, ◌-◌, cond, length, sym, arith}
-use Rattle.std.proofs.lemmas.Grind.{common_steps}
-use Rattle.place.specs.Search.{about_count, before_count, found_near}
-use Rattle.place.proofs.FoundNear.{is_amid_lem, near_about}
+use Rattle.std.proofs.Common.{◌≡◌, ◌+◌, ◌-◌, true, length, refl, arith, le-leb}
+use borrow.Author.Tests.{lt-ltb}
+use Rattle.place.specs.Search.{about_count, before_count, is_amid, first_about}
 use Rattle.place.proofs.search.found_near.Goals as goal
-use Rattle.place.proofs.search.found_near.Goals.{After-holds-2}
 
--- what is found, by whether the first of the words about `near` holds the key
-else_found :
-    (c : After-holds-2)
-    → let a = c.args in
-    cond {A = ℕ} c.holds-2.result (a.near - before_count + c.first.result) (length a.words.now)
-    ≡ found_near a.near a.kind a.key a.words.now
-else_found c =
+pub returns-clause-value : goal.returns-clause-value
+returns-clause-value c =
     let a = c.args in
+    let ws = a.words.now in
     let from = a.near - before_count in
+    let end = a.near + (about_count - before_count) in
+    let amid : is_amid a.near ws ≡ true =
+    rw (le-leb before_count a.near (omega arith), lt-ltb end (length ws) (omega arith)) refl in
     let width : from + about_count - from ≡ about_count = omega arith in
-    let amid = is_amid_lem a.near a.words.now (grind (arith, common_steps)) (omega arith) in
-    let first = rw width at c.first.ensures.0 in
-    rw c.holds-2.ensures
-    (near_about a.near a.words.now a.kind a.key amid (sym c.if-holds.ensures) (from + c.first.result) (omega arith))
-
-pub returns-then-holds-2 : goal.returns-then-holds-2
-returns-then-holds-2 c = rw c.if-holds-2.true at (else_found (goal.at.returns-then-holds-2 c).After-holds-2)
-
-pub returns : goal.returns
-returns c = rw c.if-holds-2.false at (else_found (goal.at.returns c).After-holds-2)
+    let about : c.in_ok-from.from + c.first.result ≡ first_about a.near a.kind a.key ws =
+    omega (arith, rw (c.in_ok-from.ensures.1, width) at c.first.ensures.0) in
+    rw (amid, ← c.if-holds.ensures, ← about, ← c.holds-2.ensures) c.then_some.ensures

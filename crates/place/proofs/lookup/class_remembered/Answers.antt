@@ -1,9 +1,9 @@
--- `class_at` answers what `class_near` finds, whatever the slot remembers: the place that the slot is given is within
--- the words used. Assumes nothing.
+-- `class_remembered` answers what `class_near` finds, whatever the slot remembers: the place that the slot is given is
+-- within the words used. Assumes nothing.
 use Rattle.std.proofs.Common.{arith}
 use Rattle.place.proofs.Heads.{book_room, book_long}
 use Rattle.place.proofs.Found.{class_within}
-use Rattle.place.proofs.lookup.class_at.Goals as goal
+use Rattle.place.proofs.lookup.class_remembered.Goals as goal
 
 pub overflow_cast-places-2 : goal.overflow_cast-places-2
 overflow_cast-places-2 c =
