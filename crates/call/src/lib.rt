@@ -2,7 +2,8 @@
 // on a book; a single call remembers no places. And what is read of the counters.
 #![tactic(auto)]
 
-ghost use Rattle.std.specs.Prelude.{[], ◌≡◌, T};
+ghost use Rattle.std.specs.Prelude.{[], false, ◌≡◌, MatchResult, T};
+ghost use Rattle.word.specs.declared.answer.Refusal.TheVariants.{NotABook};
 ghost use Rattle.book.specs.Books.{is_book};
 ghost use Rattle.book.specs.Calls.{call_m, on, call_o, call_c, call_h, call_v, call_d, call_l, call_j, call_x, call_i, call_r, call_a};
 ghost use Rattle.book.specs.CounterReads.{counter_read, counter_said};
@@ -13,16 +14,25 @@ use word::answer::{Answer, Refusal};
 use word::counter;
 use word::counter::CounterAnswer;
 use word::head::FIRST;
-use word::programs::is_program;
+use word::programs::Program;
 use word::strike::Marks;
+
+// Refuses words that are no book.
+fn require_book(run: &[u32]) -> Result<(), Refusal>
+    ensures { MatchResult result (λ _. T (is_book run.now)) (λ why. (why ≡ NotABook) × (is_book run.now ≡ false)) }
+{
+    if is_book(run) {
+        Ok(())
+    } else {
+        Err(Refusal::NotABook)
+    }
+}
 
 // `M`: sets the current month, and removes the strikes of earlier months.
 pub fn set_month(run: &mut [u32], m: u32) -> Answer
     ensures { Made (call_m m) run.old [] result run.new [] }
 {
-    if !is_book(run) {
-        return Answer::Refused(Refusal::NotABook);
-    }
+    require_book(run)?;
     class_call::set_month(run, m)
 }
 
@@ -30,9 +40,7 @@ pub fn set_month(run: &mut [u32], m: u32) -> Answer
 pub fn open_class(run: &mut [u32], c: u32) -> Answer
     ensures { Made (on c call_o) run.old [] result run.new [] }
 {
-    if !is_book(run) {
-        return Answer::Refused(Refusal::NotABook);
-    }
+    require_book(run)?;
     class_call::open_class(run, c, &mut [])
 }
 
@@ -40,9 +48,7 @@ pub fn open_class(run: &mut [u32], c: u32) -> Answer
 pub fn set_close(run: &mut [u32], c: u32, p: u32) -> Answer
     ensures { Made (on c (call_c p)) run.old [] result run.new [] }
 {
-    if !is_book(run) {
-        return Answer::Refused(Refusal::NotABook);
-    }
+    require_book(run)?;
     class_call::set_close(run, c, p, &mut [])
 }
 
@@ -50,9 +56,7 @@ pub fn set_close(run: &mut [u32], c: u32, p: u32) -> Answer
 pub fn set_low_high(run: &mut [u32], c: u32, low: u32, high: u32) -> Answer
     ensures { Made (on c (call_h low high)) run.old [] result run.new [] }
 {
-    if !is_book(run) {
-        return Answer::Refused(Refusal::NotABook);
-    }
+    require_book(run)?;
     class_call::set_low_high(run, c, low, high, &mut [])
 }
 
@@ -60,9 +64,7 @@ pub fn set_low_high(run: &mut [u32], c: u32, low: u32, high: u32) -> Answer
 pub fn set_volume(run: &mut [u32], c: u32, n: u32) -> Answer
     ensures { Made (on c (call_v n)) run.old [] result run.new [] }
 {
-    if !is_book(run) {
-        return Answer::Refused(Refusal::NotABook);
-    }
+    require_book(run)?;
     class_call::set_volume(run, c, n, &mut [])
 }
 
@@ -70,9 +72,7 @@ pub fn set_volume(run: &mut [u32], c: u32, n: u32) -> Answer
 pub fn designate(run: &mut [u32], c: u32, p: u32, d: u32) -> Answer
     ensures { Made (on c (call_d p d)) run.old [] result run.new [] }
 {
-    if !is_book(run) {
-        return Answer::Refused(Refusal::NotABook);
-    }
+    require_book(run)?;
     class_call::designate(run, c, p, d, &mut [])
 }
 
@@ -80,9 +80,7 @@ pub fn designate(run: &mut [u32], c: u32, p: u32, d: u32) -> Answer
 pub fn list_strike(run: &mut [u32], c: u32, m: u32, h: u32) -> Answer
     ensures { Made (on c (call_l m h)) run.old [] result run.new [] }
 {
-    if !is_book(run) {
-        return Answer::Refused(Refusal::NotABook);
-    }
+    require_book(run)?;
     strike_call::list_strike(run, c, m, h, &mut [])
 }
 
@@ -90,9 +88,7 @@ pub fn list_strike(run: &mut [u32], c: u32, m: u32, h: u32) -> Answer
 pub fn judge_strike(run: &[u32], c: u32, m: u32, h: u32) -> Answer
     ensures { Made (on c (call_j m h)) run.now [] result run.now [] }
 {
-    if !is_book(run) {
-        return Answer::Refused(Refusal::NotABook);
-    }
+    require_book(run)?;
     strike_call::judge_strike(run, c, m, h, &mut [])
 }
 
@@ -100,9 +96,7 @@ pub fn judge_strike(run: &[u32], c: u32, m: u32, h: u32) -> Answer
 pub fn delist_strike(run: &mut [u32], c: u32, m: u32, h: u32) -> Answer
     ensures { Made (on c (call_x m h)) run.old [] result run.new [] }
 {
-    if !is_book(run) {
-        return Answer::Refused(Refusal::NotABook);
-    }
+    require_book(run)?;
     strike_call::delist_strike(run, c, m, h, &mut [])
 }
 
@@ -110,9 +104,7 @@ pub fn delist_strike(run: &mut [u32], c: u32, m: u32, h: u32) -> Answer
 pub fn mark_strike(run: &mut [u32], c: u32, m: u32, h: u32, a: u32, b: u32) -> Answer
     ensures { Made (on c (call_i m h a b)) run.old [] result run.new [] }
 {
-    if !is_book(run) {
-        return Answer::Refused(Refusal::NotABook);
-    }
+    require_book(run)?;
     strike_call::mark_strike(run, c, m, h, Marks { put: a, call: b }, &mut [])
 }
 
@@ -120,9 +112,7 @@ pub fn mark_strike(run: &mut [u32], c: u32, m: u32, h: u32, a: u32, b: u32) -> A
 pub fn review_class(run: &mut [u32], c: u32) -> Answer
     ensures { Made (on c call_r) run.old [] result run.new [] }
 {
-    if !is_book(run) {
-        return Answer::Refused(Refusal::NotABook);
-    }
+    require_book(run)?;
     class_call::review_class(run, c, &mut [])
 }
 
@@ -131,9 +121,7 @@ pub fn list_permitted(run: &[u32], second: &mut [u32], c: u32, m: u32) -> Answer
     ensures { Made (on c (call_a m)) run.now second.old
         result run.now second.new }
 {
-    if !is_book(run) {
-        return Answer::Refused(Refusal::NotABook);
-    }
+    require_book(run)?;
     strike_call::list_permitted(run, second, c, m, &mut [])
 }
 
@@ -141,9 +129,7 @@ pub fn list_permitted(run: &[u32], second: &mut [u32], c: u32, m: u32) -> Answer
 pub fn read_counter(run: &[u32], p: u32) -> CounterAnswer
     ensures { result ≡ counter_read p run.now }
 {
-    if !is_book(run) {
-        return CounterAnswer::Refused(Refusal::NotABook);
-    }
+    require_book(run)?;
     read_known_counter(run, p)
 }
 
@@ -154,10 +140,8 @@ pub fn read_known_counter(run: &[u32], p: u32) -> CounterAnswer
         × (T (is_book run.now) → result ≡ counter_read p run.now) }
 {
     if run.len() < FIRST {
-        return CounterAnswer::Refused(Refusal::NotABook);
+        return Err(Refusal::NotABook);
     }
-    if !is_program(p) {
-        return CounterAnswer::Refused(Refusal::BeyondLimits);
-    }
-    CounterAnswer::Counted(counter::read(run, p))
+    let program = Program::try_from(p)?;
+    Ok(counter::read(run, program))
 }

@@ -8,9 +8,10 @@ use mathlib.Core.List.{List, [], ◌∷◌, ◌++◌}
 use lib.ListN.{length}
 use lib.Dec.{T, eqb, leb→le}
 use borrow.Author.Tests.{not-true, not-false, eqb-false}
+use Rattle.std.specs.Prelude.{Ok, Err}
 use Rattle.word.specs.declared.class.ClassRecord.{ClassRecord}
-use Rattle.word.specs.declared.answer.Answer.{Answer}
-use Rattle.word.specs.declared.answer.Answer.TheVariants.{Done, Refused}
+use Rattle.word.specs.Answers.{Answer}
+use Rattle.word.specs.declared.answer.Accepted.TheVariants.{Done}
 use Rattle.word.specs.declared.answer.Refusal.TheVariants.{NoClose, NotQualified, CapReached}
 use Rattle.word.specs.Limits.{is_class_number, is_designation}
 use Rattle.word.specs.Programs.{programs, program_count, is_program, program, are_designations}
@@ -29,7 +30,8 @@ use Rattle.book.proofs.Keep.{set_designation}
 use Rattle.book.proofs.Order.{granted_answer}
 use Rattle.book.proofs.Answered.{made_refused}
 use Rattle.edit.specs.EditsAsked.{Redesignable}
-use Rattle.class_call.proofs.Ways.{Found, found_seen, found_figures, found_limits}
+use Rattle.class_call.proofs.Ways.{found_seen, found_limits}
+use Rattle.place.specs.Lookups.{ClassFound}
 use Rattle.class_call.proofs.FigureWays.{Stored, number, storable, figures_set}
 
 -- ---- what a claim draws
@@ -39,26 +41,26 @@ abbrev claim_asks : ℕ → ℕ → ClassRecord → Facts → List Condition
 claim_asks p d r f = claiming p d r ++ (capping p d r f ∷ [])
 
 module _ (f : Facts) (r : ClassRecord) (p d : ℕ) where
-  pub claim_untested : not (is_new p d r) ≡ true → Done ≡ first_or Done (claim_asks p d r f)
+  pub claim_untested : not (is_new p d r) ≡ true → (Ok Done) ≡ first_or (Ok Done) (claim_asks p d r f)
   claim_untested e = rw (not-true (is_new p d r) e)
 
   module _ (new : not (is_new p d r) ≡ false) where
     is_new_lem : is_new p d r ≡ true
     is_new_lem = not-false (is_new p d r) new
 
-    pub claim_no_close : lacks_close p r ≡ true → Refused NoClose ≡ first_or Done (claim_asks p d r f)
+    pub claim_no_close : lacks_close p r ≡ true → Err NoClose ≡ first_or (Ok Done) (claim_asks p d r f)
     claim_no_close e = rw (is_new_lem, e)
 
     module _ (close : lacks_close p r ≡ false) where
       pub claim_not_qualified :
-          not ((program p).qualifies r) ≡ true → Refused NotQualified ≡ first_or Done (claim_asks p d r f)
+          not ((program p).qualifies r) ≡ true → Err NotQualified ≡ first_or (Ok Done) (claim_asks p d r f)
       claim_not_qualified e = rw (is_new_lem, close, e)
 
       module _ (qualified : not ((program p).qualifies r) ≡ false) where
-        pub claim_capped : is_cap_reached p f ≡ true → Refused CapReached ≡ first_or Done (claim_asks p d r f)
+        pub claim_capped : is_cap_reached p f ≡ true → Err CapReached ≡ first_or (Ok Done) (claim_asks p d r f)
         claim_capped e = rw (is_new_lem, close, qualified, e)
 
-        pub claim_granted : is_cap_reached p f ≡ false → Done ≡ first_or Done (claim_asks p d r f)
+        pub claim_granted : is_cap_reached p f ≡ false → (Ok Done) ≡ first_or (Ok Done) (claim_asks p d r f)
         claim_granted e = rw (is_new_lem, close, qualified, e)
 
 -- ---- the ways out of `D`
@@ -86,11 +88,11 @@ module _
       (leb→le 1 p (search ands), leb→le p program_count (search ands))
 
   module _
-      (at : ℕ) (r : ClassRecord) (found : Found w c at r) (claim : Answer)
-      (drawn : claim ≡ first_or Done (claim_asks p d r (facts_of w))) where
+      (at : ℕ) (r : ClassRecord) (found : ClassFound w c at r) (claim : Answer)
+      (drawn : claim ≡ first_or (Ok Done) (claim_asks p d r (facts_of w))) where
     answer : answer_to (length w) 0 (on c (call_d p d)) (facts_of w) ≡ claim
     unfolding answer_to effect_on
-    answer = rw (within, found_seen w c at r found, ← found_figures w book c at r found) (sym drawn)
+    answer = rw (within, found_seen w c at r found, ← found.figures) (sym drawn)
 
     pub designation_refused : is_accepted claim ≡ false → Made (on c (call_d p d)) w [] claim w []
     designation_refused refused = made_refused (on c (call_d p d)) w [] book claim refused answer
@@ -99,10 +101,10 @@ module _
       pub designation_storable : (was : ℕ) → was ≡ designation p r → Redesignable w at new p was
       designation_storable was told =
           let given = passed (is_class_number c && (is_program p && is_designation d)) within in
-          let limits = found_limits w book c at r found in
+          let limits = found_limits w c at r found book in
           let of : (class (facts_of w) new.number).figures ≡ r =
           ap (λ (k : ℕ). (class (facts_of w) k).figures) (number w book c at r found (with_designation p d) refl new e)
-          ∙ sym (found_figures w book c at r found) in
+          ∙ sym found.figures in
           record {
             storable =
                 storable w book c at r found (with_designation p d) refl new e (in_limits p d r limits (search ands));
@@ -115,11 +117,11 @@ module _
           }
 
       pub designation_set :
-          (w' : List ℕ) → is_accepted claim ≡ true → Stored w new w' → Made (on c (call_d p d)) w [] Done w' []
+          (w' : List ℕ) → is_accepted claim ≡ true → Stored w new w' → Made (on c (call_d p d)) w [] (Ok Done) w' []
       unfolding effect_on
       designation_set w' granted stored =
           figures_set w book c at r found (with_designation p d) refl new e (on c (call_d p d)) refl w'
           (answer
           ∙ drawn
-          ∙ granted_answer Done (claim_asks p d r (facts_of w)) (sym (ap is_accepted drawn) ∙ granted))
+          ∙ granted_answer (Ok Done) (claim_asks p d r (facts_of w)) (sym (ap is_accepted drawn) ∙ granted))
           stored

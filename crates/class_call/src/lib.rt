@@ -1,6 +1,8 @@
 // The calls on months and classes, over a run that is known to be a book: `M`, `O`, `C`, `H`, `V`, `D` and `R`.
 // `places` is what `place::lookup::class_at` remembers of where classes stand: any numbers will do, and any count of
 // them.
+// The run is lent as its words, as C hands it over. Tried: a struct of them that is known to be a book, by which each
+// reading costs one value more and its proof one equation.
 #![tactic(auto)]
 
 ghost use Rattle.std.specs.Prelude.{[], T};
@@ -11,13 +13,13 @@ ghost use Rattle.book.specs.Made.{Made};
 use crate::programs::claim_of;
 use edit::{insert_class, store_designation, store_figures};
 use place::head::{current, used};
-use place::lookup::{class_at, is_open_at, next_class, open_at};
+use place::lookup::{class_at, find_class, is_open_at, next_class};
 use removal::expiry::expire;
 use review::review_all;
-use word::answer::{Answer, Refusal};
+use word::answer::{Accepted, Answer, Refusal};
 use word::figures;
 use word::limits::{is_class_number, is_designation, is_month, is_price, is_volume};
-use word::programs::is_program;
+use word::programs::Program;
 
 pub mod programs;
 
@@ -28,16 +30,16 @@ pub fn set_month(run: &mut [u32], m: u32) -> Answer
     ensures { Made (call_m m) run.old [] result run.new [] }
 {
     if !is_month(m) {
-        return Answer::Refused(Refusal::BeyondLimits);
+        return Err(Refusal::BeyondLimits);
     }
     if m < current(run) {
-        return Answer::Refused(Refusal::MonthOutside);
+        return Err(Refusal::MonthOutside);
     }
     if m == current(run) {
-        return Answer::Done;
+        return Ok(Accepted::Done);
     }
     expire(run, m);
-    Answer::Done
+    Ok(Accepted::Done)
 }
 
 // `O`: opens a class.
@@ -46,17 +48,17 @@ pub fn open_class(run: &mut [u32], c: u32, places: &mut [u32]) -> Answer
     ensures { Made (on c call_o) run.old [] result run.new [] }
 {
     if !is_class_number(c) {
-        return Answer::Refused(Refusal::BeyondLimits);
+        return Err(Refusal::BeyondLimits);
     }
     let at = class_at(run, places, c);
     if is_open_at(run, at, c) {
-        return Answer::Refused(Refusal::AlreadyOpen);
+        return Err(Refusal::AlreadyOpen);
     }
     if run.len() < used(run) + figures::LENGTH {
-        return Answer::Refused(Refusal::OutOfWords(0));
+        return Err(Refusal::OutOfWords(0));
     }
     insert_class(run, at, c);
-    Answer::Done
+    Ok(Accepted::Done)
 }
 
 // `C`: sets the close, and the day's low and high to it.
@@ -65,15 +67,11 @@ pub fn set_close(run: &mut [u32], c: u32, p: u32, places: &mut [u32]) -> Answer
     ensures { Made (on c (call_c p)) run.old [] result run.new [] }
 {
     if !(is_class_number(c) & is_price(p)) {
-        return Answer::Refused(Refusal::BeyondLimits);
+        return Err(Refusal::BeyondLimits);
     }
-    let at = open_at(run, places, c);
-    if at == 0 {
-        return Answer::Refused(Refusal::NotOpen);
-    }
-    let figures = figures::read(run, at);
-    store_figures(run, at, figures.with_close(p));
-    Answer::Done
+    let class = find_class(run, places, c)?;
+    store_figures(run, class.at, class.figures.with_close(p));
+    Ok(Accepted::Done)
 }
 
 // `H`: sets the day's low and high, with the close between them.
@@ -82,21 +80,17 @@ pub fn set_low_high(run: &mut [u32], c: u32, low: u32, high: u32, places: &mut [
     ensures { Made (on c (call_h low high)) run.old [] result run.new [] }
 {
     if !(is_class_number(c) & (is_price(low) & is_price(high))) {
-        return Answer::Refused(Refusal::BeyondLimits);
+        return Err(Refusal::BeyondLimits);
     }
-    let at = open_at(run, places, c);
-    if at == 0 {
-        return Answer::Refused(Refusal::NotOpen);
+    let class = find_class(run, places, c)?;
+    if class.figures.close == 0 {
+        return Err(Refusal::NoClose);
     }
-    let figures = figures::read(run, at);
-    if figures.close == 0 {
-        return Answer::Refused(Refusal::NoClose);
+    if (class.figures.close < low) | (high < class.figures.close) {
+        return Err(Refusal::CloseOutside);
     }
-    if (figures.close < low) | (high < figures.close) {
-        return Answer::Refused(Refusal::CloseOutside);
-    }
-    store_figures(run, at, figures.with_low_high(low, high));
-    Answer::Done
+    store_figures(run, class.at, class.figures.with_low_high(low, high));
+    Ok(Accepted::Done)
 }
 
 // `V`: sets the volume.
@@ -105,15 +99,11 @@ pub fn set_volume(run: &mut [u32], c: u32, n: u32, places: &mut [u32]) -> Answer
     ensures { Made (on c (call_v n)) run.old [] result run.new [] }
 {
     if !(is_class_number(c) & is_volume(n)) {
-        return Answer::Refused(Refusal::BeyondLimits);
+        return Err(Refusal::BeyondLimits);
     }
-    let at = open_at(run, places, c);
-    if at == 0 {
-        return Answer::Refused(Refusal::NotOpen);
-    }
-    let figures = figures::read(run, at);
-    store_figures(run, at, figures.with_volume(n));
-    Answer::Done
+    let class = find_class(run, places, c)?;
+    store_figures(run, class.at, class.figures.with_volume(n));
+    Ok(Accepted::Done)
 }
 
 // `D`: gives the program p the designation d.
@@ -121,26 +111,21 @@ pub fn designate(run: &mut [u32], c: u32, p: u32, d: u32, places: &mut [u32]) ->
     requires { T (is_book run.old) }
     ensures { Made (on c (call_d p d)) run.old [] result run.new [] }
 {
-    if !(is_class_number(c) & (is_program(p) & is_designation(d))) {
-        return Answer::Refused(Refusal::BeyondLimits);
+    let program = Program::try_from(p)?;
+    if !(is_class_number(c) & is_designation(d)) {
+        return Err(Refusal::BeyondLimits);
     }
-    let at = open_at(run, places, c);
-    if at == 0 {
-        return Answer::Refused(Refusal::NotOpen);
-    }
-    let figures = figures::read(run, at);
-    let claim = claim_of(run, figures, p, d);
-    if !claim.is_accepted() {
-        return claim;
-    }
+    let class = find_class(run, places, c)?;
+    claim_of(run, class.figures, program, d)?;
+    let was = class.figures.designation(program);
     store_designation(
         run,
-        at,
-        figures.with_designation(p, d),
-        p,
-        figures.designation(p),
+        class.at,
+        class.figures.with_designation(program, d),
+        program,
+        was,
     );
-    Answer::Done
+    Ok(Accepted::Done)
 }
 
 // `R`: the review.
@@ -149,17 +134,13 @@ pub fn review_class(run: &mut [u32], c: u32, places: &mut [u32]) -> Answer
     ensures { Made (on c call_r) run.old [] result run.new [] }
 {
     if !is_class_number(c) {
-        return Answer::Refused(Refusal::BeyondLimits);
+        return Err(Refusal::BeyondLimits);
     }
-    let at = open_at(run, places, c);
-    if at == 0 {
-        return Answer::Refused(Refusal::NotOpen);
+    let class = find_class(run, places, c)?;
+    if class.figures.close == 0 {
+        return Err(Refusal::NoClose);
     }
-    let figures = figures::read(run, at);
-    if figures.close == 0 {
-        return Answer::Refused(Refusal::NoClose);
-    }
-    let from = at + figures::LENGTH;
+    let from = class.at + figures::LENGTH;
     let to = next_class(run, from);
-    Answer::Removed(review_all(run, from, to, figures.close) as u32)
+    Ok(Accepted::Removed(review_all(run, from, to, class.figures.close) as u32))
 }

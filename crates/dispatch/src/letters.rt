@@ -1,37 +1,26 @@
 // The letter of each call, in ASCII.
+// A letter is a number and no enum: any byte of a sheet, and any word of a list, may stand where one is read.
 
-// `M`
-pub const SET_MONTH: u32 = 77;
+pub const SET_MONTH: u32 = 'M' as u32;
 
-// `O`
-pub const OPEN_CLASS: u32 = 79;
+pub const OPEN_CLASS: u32 = 'O' as u32;
 
-// `R`
-pub const REVIEW_CLASS: u32 = 82;
+pub const SET_CLOSE: u32 = 'C' as u32;
 
-// `C`
-pub const SET_CLOSE: u32 = 67;
+pub const SET_LOW_HIGH: u32 = 'H' as u32;
 
-// `V`
-pub const SET_VOLUME: u32 = 86;
+pub const SET_VOLUME: u32 = 'V' as u32;
 
-// `A`
-pub const LIST_PERMITTED: u32 = 65;
+pub const DESIGNATE: u32 = 'D' as u32;
 
-// `D`
-pub const DESIGNATE: u32 = 68;
+pub const LIST_STRIKE: u32 = 'L' as u32;
 
-// `L`
-pub const LIST_STRIKE: u32 = 76;
+pub const JUDGE_STRIKE: u32 = 'J' as u32;
 
-// `J`
-pub const JUDGE_STRIKE: u32 = 74;
+pub const DELIST_STRIKE: u32 = 'X' as u32;
 
-// `X`
-pub const DELIST_STRIKE: u32 = 88;
+pub const MARK_STRIKE: u32 = 'I' as u32;
 
-// `H`
-pub const SET_LOW_HIGH: u32 = 72;
+pub const REVIEW_CLASS: u32 = 'R' as u32;
 
-// `I`
-pub const MARK_STRIKE: u32 = 73;
+pub const LIST_PERMITTED: u32 = 'A' as u32;

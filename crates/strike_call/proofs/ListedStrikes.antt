@@ -8,14 +8,12 @@ use native.Mathlib.Omega.{arith}
 use lib.Dec.{T}
 use lib.ListN.{length}
 use borrow.Author.Tests.{lt-ltb, le-ltb}
-use types.Run.{OneOf, miss}
-use denote.Enum.Declared.{tag_of}
-use Rattle.word.specs.declared.answer.Answer.{Answer}
-use Rattle.word.specs.declared.answer.Answer.TheVariants.{Ground, Refused}
+use Rattle.std.specs.Prelude.{Ok, Err}
+use Rattle.word.specs.Answers.{Answer}
+use Rattle.word.specs.declared.answer.Accepted.TheVariants.{Ground}
 use Rattle.word.specs.declared.answer.Refusal.TheVariants.{OutOfWords}
 use Rattle.word.specs.Answers.{is_accepted}
 use Rattle.word.specs.Limits.{is_ground}
-use Rattle.word.specs.contracts.answer.Answer.{the_type}
 use Rattle.book.specs.Facts.{is_class_open, words_taken}
 use Rattle.book.specs.Layout.{used, layout, facts_of}
 use Rattle.book.specs.Books.{is_book}
@@ -31,13 +29,10 @@ use Rattle.book.proofs.Layouts.{book_facts, used_taken}
 use Rattle.book.proofs.Order.{granted_answer, first_accepted, first_append}
 use Rattle.book.proofs.Splices.{words_listed}
 use Rattle.book.proofs.Answered.{made_refused, made_accepted}
+use Rattle.word.specs.declared.class.ClassRecord.{ClassRecord}
 use Rattle.place.specs.declared.lookup.StrikeSearch.{StrikeSearch}
 use Rattle.edit.specs.EditsAsked.{Insertable}
 use Rattle.strike_call.specs.Judging.{Sought, judged}
-
--- an answer by whose tag it is no ground
-pub no_ground : (r : Answer) → OneOf (0 ∷ 2 ∷ 3 ∷ 4 ∷ []) (tag_of the_type r) → (g : ℕ) → r ≡ Ground g → ⊥
-no_ground r t g e = miss (0 ∷ 2 ∷ 3 ∷ 4 ∷ []) 1 tt (rw e at t)
 
 -- a strike that is judged to have the ground g
 pub record Permits (m h : ℕ) (v : View) (g : ℕ) : Type 0 where
@@ -48,14 +43,14 @@ pub record Permits (m h : ℕ) (v : View) (g : ℕ) : Type 0 where
 
 module _ (m h : ℕ) (v : View) where
   accepts : is_accepted (judged m h v) ≡ none_applies (judging m h v)
-  accepts = first_accepted (Ground (ground_of v m h)) (judging m h v) refl
+  accepts = first_accepted (Ok (Ground (ground_of v m h))) (judging m h v) refl
 
-  pub permits : (g : ℕ) → judged m h v ≡ Ground g → Permits m h v g
+  pub permits : (g : ℕ) → judged m h v ≡ Ok (Ground g) → Permits m h v g
   permits g e =
       let accepted : is_accepted (judged m h v) ≡ true = ap is_accepted e in
       let none : T (none_applies (judging m h v)) = true_T (none_applies (judging m h v)) (sym accepts ∙ accepted) in
-      let same : Ground (ground_of v m h) ≡ Ground g =
-      sym (granted_answer (Ground (ground_of v m h)) (judging m h v) accepted) ∙ e in
+      let same : Ok (Ground (ground_of v m h)) ≡ Ok (Ground g) =
+      sym (granted_answer (Ok (Ground (ground_of v m h))) (judging m h v) accepted) ∙ e in
       let on_ground : ground_of v m h ≡ g = cc in
       record {
         granted = sym accepts ∙ accepted;
@@ -65,19 +60,19 @@ module _ (m h : ℕ) (v : View) where
       }
 
   -- what is no ground refuses
-  refuses : ((g : ℕ) → judged m h v ≡ Ground g → ⊥) → none_applies (judging m h v) ≡ false
+  refuses : ((g : ℕ) → judged m h v ≡ Ok (Ground g) → ⊥) → none_applies (judging m h v) ≡ false
   refuses none = go (none_applies (judging m h v)) refl
     where
       go : (b : Bool) → none_applies (judging m h v) ≡ b → b ≡ false
       go true e =
           absurd
-          (none (ground_of v m h) (granted_answer (Ground (ground_of v m h)) (judging m h v) (accepts ∙ e)))
+          (none (ground_of v m h) (granted_answer (Ok (Ground (ground_of v m h))) (judging m h v) (accepts ∙ e)))
       go false e = refl
 
 -- a strike that was looked up and is permitted can be put at its place, where words are left for it
 abbrev pub insertable :
-    {w : List ℕ} {at : ℕ} {r : StrikeSearch} {m h g : ℕ} (x : Sought w at r m h)
-    → Permits m h (view_of x.begins.number (facts_of w)) g
+    {w : List ℕ} {figures : ClassRecord} {r : StrikeSearch} {m h g : ℕ} (x : Sought w figures r m h)
+    → Permits m h (view_of x.number (facts_of w)) g
     → used (facts_of w) + cond {A = ℕ} r.expiration 1 2 ≤ length w → Insertable w r.at r.expiration m h g
 insertable x p room =
     record {
@@ -85,8 +80,8 @@ insertable x p room =
       month = x.month;
       strike = x.strike;
       on = p.known;
-      class = x.begins.number;
-      is_open = x.begins.is_open;
+      class = x.number;
+      is_open = x.is_open;
       absent = p.absent;
       place = ap (λ (y : StrikeSearch). y.at) x.place;
       expiration = ap (λ (y : StrikeSearch). y.expiration) x.place;
@@ -115,17 +110,17 @@ module _ (w : List ℕ) (book : T (is_book w)) (c m h : ℕ) (l : not (is_place 
   listing :
       answer_to (length w) 0 (on c (call_l m h)) (facts_of w)
       ≡ cond (none_applies (judging m h seen))
-      (first_or (Ground (ground_of seen m h)) (lacking (length w) (facts_with_strike c m h (facts_of w)) ∷ []))
+      (first_or (Ok (Ground (ground_of seen m h))) (lacking (length w) (facts_with_strike c m h (facts_of w)) ∷ []))
       (judged m h seen)
   unfolding answer_to effect_on
   listing =
       rw l
-      (first_append (Ground (ground_of seen m h)) (judging m h seen)
+      (first_append (Ok (Ground (ground_of seen m h))) (judging m h seen)
       (lacking (length w) (facts_with_strike c m h (facts_of w)) ∷ exceeding 0 [] ∷ []))
 
   -- refused as `J` refuses
   pub list_refused :
-      (r : Answer) → r ≡ judged m h seen → ((g : ℕ) → r ≡ Ground g → ⊥) → Made (on c (call_l m h)) w [] r w []
+      (r : Answer) → r ≡ judged m h seen → ((g : ℕ) → r ≡ Ok (Ground g) → ⊥) → Made (on c (call_l m h)) w [] r w []
   list_refused r e none =
       let refused = refuses m h seen (λ g d. none g (e ∙ d)) in
       made_refused (on c (call_l m h)) w [] book r (ap is_accepted e ∙ accepts m h seen ∙ refused)
@@ -146,18 +141,18 @@ module _ (w : List ℕ) (book : T (is_book w)) (c m h : ℕ) (l : not (is_place 
         )
 
     pub out_of_words :
-        length w < used (facts_of w) + needed → Made (on c (call_l m h)) w [] (Refused (OutOfWords 0)) w []
+        length w < used (facts_of w) + needed → Made (on c (call_l m h)) w [] (Err (OutOfWords 0)) w []
     out_of_words short =
-        made_refused (on c (call_l m h)) w [] book (Refused (OutOfWords 0)) refl
+        made_refused (on c (call_l m h)) w [] book (Err (OutOfWords 0)) refl
         (listing ∙ rw (p.granted, taken, lt-ltb (length w) (used (facts_of w) + needed) short))
 
     pub list_done :
         used (facts_of w) + needed ≤ length w → (w' : List ℕ)
         → w' ≡ layout (length w) (update (strike_added (new_series m h g) (class (facts_of w) c)) (facts_of w))
-        → Made (on c (call_l m h)) w [] (Ground g) w' []
+        → Made (on c (call_l m h)) w [] (Ok (Ground g)) w' []
     unfolding effect_on class_grown
     list_done left w' added =
-        made_accepted (on c (call_l m h)) w [] book (Ground g) w' refl
+        made_accepted (on c (call_l m h)) w [] book (Ok (Ground g)) w' refl
         (listing ∙ rw (p.granted, taken, le-ltb (length w) (used (facts_of w) + needed) left, p.on_ground))
         (added
         ∙ ap (λ (i : ℕ). layout (length w)

@@ -7,8 +7,9 @@ use mathlib.Core.Bool.{Bool, true, false, cond, not, ◌&&◌}
 use mathlib.Core.List.{List, map}
 use lib.Dec.{T, ltb}
 use lib.ListN.{length, take, drop}
-use Rattle.word.specs.declared.answer.Answer.{Answer}
-use Rattle.word.specs.declared.answer.Answer.TheVariants.{Listed, Refused}
+use Rattle.std.specs.Prelude.{Ok, Err}
+use Rattle.word.specs.Answers.{Answer}
+use Rattle.word.specs.declared.answer.Accepted.TheVariants.{Listed}
 use Rattle.word.specs.declared.answer.Refusal.TheVariants.{MonthOutside, NoClose, OutOfWords}
 use Rattle.word.specs.declared.class.ClassRecord.{ClassRecord}
 use Rattle.word.specs.Limits.{is_class_number, is_month}
@@ -20,9 +21,9 @@ use Rattle.permitted.specs.Listing.{Listable, Filled}
 use Rattle.book.specs.Facts.{is_class_open}
 use Rattle.book.specs.Layout.{facts_of}
 use Rattle.book.specs.Books.{is_book}
-use Rattle.book.specs.Views.{View, view_of, is_not_open, has_no_close, setting}
+use Rattle.book.specs.Views.{View, class, view_of, is_not_open, has_no_close, setting}
 use Rattle.book.specs.Calls.{Call, on, call_a, permitted_in, effect_on, answer_to}
-use Rattle.book.specs.Places.{class_place, strikes_place, strikes_end}
+use Rattle.book.specs.Places.{strikes_place, strikes_end}
 use Rattle.book.specs.Made.{over, Made}
 use Rattle.book.proofs.Answered.{made_refused, made_accepted}
 use Rattle.book.proofs.Layouts.{book_facts}
@@ -30,7 +31,6 @@ use Rattle.book.proofs.Permits.{permitted_beside}
 use Rattle.book.proofs.Runs.{strikes_within, used_within}
 use Rattle.place.specs.declared.lookup.Expiration.{Expiration}
 use Rattle.place.specs.Lookups.{expiration_of}
-use Rattle.word.specs.Figures.{figures_at}
 use Rattle.place.proofs.Heads.{book_month}
 use Rattle.strike_call.proofs.StrikeWords.{standing_words, strikes_rising}
 use Rattle.strike_call.proofs.Settings.{class_open, prices_known, close_none, close_known, setting_is}
@@ -47,9 +47,8 @@ part_within w book c m o r e =
 
 module _
     (w v : List ℕ) (book : T (is_book w)) (c m : ℕ) (l : not (is_class_number c && is_month m) ≡ false)
-    (o : T (is_class_open c (facts_of w).classes)) (at : ℕ) (k : at ≡ class_place c (facts_of w))
-    (figures : ClassRecord)
-    (g : figures ≡ figures_at at w) (current : ℕ) (d : current ≡ (facts_of w).now) where
+    (o : T (is_class_open c (facts_of w).classes)) (figures : ClassRecord)
+    (g : figures ≡ (class (facts_of w) c).figures) (current : ℕ) (d : current ≡ (facts_of w).now) where
   abbrev call : Call
   call = on c (call_a m)
 
@@ -63,21 +62,21 @@ module _
   opened = class_open w book c o
 
   is_here : here ≡ setting seen m
-  is_here = setting_is w book c o at k figures g m current d
+  is_here = setting_is w book c o figures g m current d
 
   outside : is_outside (setting seen m) ≡ is_outside here
   outside = ap is_outside (sym is_here)
 
-  pub permitting_outside : is_outside here ≡ true → Made call w v (Refused MonthOutside) w v
+  pub permitting_outside : is_outside here ≡ true → Made call w v (Err MonthOutside) w v
   unfolding answer_to effect_on
-  permitting_outside t = made_refused call w v book (Refused MonthOutside) refl (rw (l, opened, outside ∙ t))
+  permitting_outside t = made_refused call w v book (Err MonthOutside) refl (rw (l, opened, outside ∙ t))
 
   module _ (t : is_outside here ≡ false) where
-    pub permitting_no_close : figures.close ≡ 0 → Made call w v (Refused NoClose) w v
+    pub permitting_no_close : figures.close ≡ 0 → Made call w v (Err NoClose) w v
     unfolding answer_to effect_on
     permitting_no_close z =
-        made_refused call w v book (Refused NoClose) refl
-        (rw (l, opened, outside ∙ t, close_none w book c o at k figures g z))
+        made_refused call w v book (Err NoClose) refl
+        (rw (l, opened, outside ∙ t, close_none w book c o figures g z))
 
     module _ (r : Expiration) (e : r ≡ expiration_of c m (facts_of w)) where
       -- the words of the strikes that stand
@@ -92,7 +91,7 @@ module _
 
       pub permitting_listable : Listable here words
       permitting_listable =
-          let prices = prices_known w book c o at k figures g in
+          let prices = prices_known w book c o figures g in
           record {
             measurable = record { low = omega arith; high = prices.most; current = rw d (book_month w book) };
             close = omega arith;
@@ -108,7 +107,7 @@ module _
         is_short = ltb (length v) (length strikes)
 
         priced : has_no_close seen ≡ false
-        priced = close_known w book c o at k figures g n
+        priced = close_known w book c o figures g n
 
         strikes_are : permitted here (map standing_of words) ≡ strikes
         strikes_are =
@@ -117,7 +116,7 @@ module _
 
         answer :
             answer_to (length w) (length v) call (facts_of w)
-            ≡ cond is_short (Refused (OutOfWords (length strikes))) (Listed (length strikes))
+            ≡ cond is_short (Err (OutOfWords (length strikes))) (Ok (Listed (length strikes)))
         unfolding answer_to effect_on
         answer = rw (l, opened, outside ∙ t, priced)
 
@@ -129,12 +128,12 @@ module _
           where
             go :
                 (short : Bool) → is_short ≡ short
-                → a ≡ cond is_short (Refused (OutOfWords (length strikes))) (Listed (length strikes))
+                → a ≡ cond is_short (Err (OutOfWords (length strikes))) (Ok (Listed (length strikes)))
                 → v' ≡ cond is_short v (over strikes v) → Made call w v a w v'
             go true q answered second =
                 rw (rw q at answered, rw q at second)
-                (made_refused call w v book (Refused (OutOfWords (length strikes))) refl (answer ∙ rw q))
+                (made_refused call w v book (Err (OutOfWords (length strikes))) refl (answer ∙ rw q))
             go false q answered second =
                 rw (rw q at answered, rw q at second)
-                (made_accepted call w v book (Listed (length strikes)) w refl (answer ∙ rw q)
+                (made_accepted call w v book (Ok (Listed (length strikes))) w refl (answer ∙ rw q)
                 (sym (book_facts w book).1))

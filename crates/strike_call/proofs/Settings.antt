@@ -14,12 +14,9 @@ use Rattle.book.specs.Facts.{is_class_open}
 use Rattle.book.specs.Layout.{facts_of}
 use Rattle.book.specs.Books.{is_book}
 use Rattle.book.specs.Views.{View, view_of, class, is_not_open, has_no_close, setting}
-use Rattle.book.specs.Places.{class_place}
 use Rattle.logic.proofs.Tests.{ands, T_true}
 use Rattle.book.proofs.ClassWords.{class_good}
-use Rattle.word.specs.Figures.{figures_at}
 use Rattle.place.proofs.Heads.{book_good}
-use Rattle.place.proofs.Found.{figures_found}
 
 module _ (w : List ℕ) (book : T (is_book w)) (c : ℕ) (o : T (is_class_open c (facts_of w).classes)) where
   abbrev seen : View
@@ -28,12 +25,7 @@ module _ (w : List ℕ) (book : T (is_book w)) (c : ℕ) (o : T (is_class_open c
   pub class_open : is_not_open seen ≡ false
   class_open = ap not (T_true (is_class_open c (facts_of w).classes) o)
 
-  module _
-      (at : ℕ) (place : at ≡ class_place c (facts_of w)) (figures : ClassRecord)
-      (read : figures ≡ figures_at at w) where
-    figures_are : figures ≡ seen.class.figures
-    figures_are = read ∙ figures_found w book c o at place
-
+  module _ (figures : ClassRecord) (figures_are : figures ≡ seen.class.figures) where
     close_is : figures.close ≡ seen.class.figures.close
     close_is i = (figures_are i).close
 

@@ -7,8 +7,9 @@ use mathlib.Core.List.{List, []}
 use native.Mathlib.Omega.{arith}
 use lib.Dec.{T, eqb}
 use lib.ListN.{length, get_or}
+use Rattle.std.specs.Prelude.{Ok, Err}
 use Rattle.word.specs.Strikes.{is_marked_in}
-use Rattle.word.specs.declared.answer.Answer.TheVariants.{Done, Refused}
+use Rattle.word.specs.declared.answer.Accepted.TheVariants.{Done}
 use Rattle.word.specs.declared.answer.Refusal.TheVariants.{NotStanding, OpenInterest}
 use Rattle.word.specs.Limits.{is_mark}
 use Rattle.book.specs.Facts.{is_class_open}
@@ -99,40 +100,40 @@ module _
   -- ---- the ways out of `X`
 
   module _ (l : not (is_place c m h) ≡ false) where
-    pub delist_not_standing : not r.standing ≡ true → Made (on c (call_x m h)) w [] (Refused NotStanding) w []
+    pub delist_not_standing : not r.standing ≡ true → Made (on c (call_x m h)) w [] (Err NotStanding) w []
     unfolding answer_to effect_on
     delist_not_standing s =
-        made_refused (on c (call_x m h)) w [] book (Refused NotStanding) refl (rw (l, opened, said ∙ s))
+        made_refused (on c (call_x m h)) w [] book (Err NotStanding) refl (rw (l, opened, said ∙ s))
 
     module _ (s : not r.standing ≡ false) where
       pub delist_marked :
-          is_marked_in (get_or w r.at 0) ≡ true → Made (on c (call_x m h)) w [] (Refused OpenInterest) w []
+          is_marked_in (get_or w r.at 0) ≡ true → Made (on c (call_x m h)) w [] (Err OpenInterest) w []
       unfolding answer_to effect_on
       delist_marked marked =
-          made_refused (on c (call_x m h)) w [] book (Refused OpenInterest) refl
+          made_refused (on c (call_x m h)) w [] book (Err OpenInterest) refl
           (rw (l, opened, said ∙ s, sym (interest s) ∙ marked))
 
       pub delist_done :
           is_marked_in (get_or w r.at 0) ≡ false → (w' : List ℕ)
           → w' ≡ layout (length w) (update (strike_removed m h (class (facts_of w) c)) (facts_of w))
-          → Made (on c (call_x m h)) w [] Done w' []
+          → Made (on c (call_x m h)) w [] (Ok Done) w' []
       unfolding answer_to effect_on
       delist_done unmarked w' left =
-          made_accepted (on c (call_x m h)) w [] book Done w' refl
+          made_accepted (on c (call_x m h)) w [] book (Ok Done) w' refl
           (rw (l, opened, said ∙ s, sym (interest s) ∙ unmarked)) left
 
   -- ---- the ways out of `I`
 
   module _ (a b : ℕ) (l : not (is_place c m h && (is_mark a && is_mark b)) ≡ false) where
-    pub mark_not_standing : not r.standing ≡ true → Made (on c (call_i m h a b)) w [] (Refused NotStanding) w []
+    pub mark_not_standing : not r.standing ≡ true → Made (on c (call_i m h a b)) w [] (Err NotStanding) w []
     unfolding answer_to effect_on
     mark_not_standing s =
-        made_refused (on c (call_i m h a b)) w [] book (Refused NotStanding) refl (rw (l, opened, said ∙ s))
+        made_refused (on c (call_i m h a b)) w [] book (Err NotStanding) refl (rw (l, opened, said ∙ s))
 
     pub mark_done :
         not r.standing ≡ false → (w' : List ℕ)
         → w' ≡ layout (length w) (update (marks_set m h a b (class (facts_of w) c)) (facts_of w))
-        → Made (on c (call_i m h a b)) w [] Done w' []
+        → Made (on c (call_i m h a b)) w [] (Ok Done) w' []
     unfolding answer_to effect_on
     mark_done s w' stored =
-        made_accepted (on c (call_i m h a b)) w [] book Done w' refl (rw (l, opened, said ∙ s)) stored
+        made_accepted (on c (call_i m h a b)) w [] book (Ok Done) w' refl (rw (l, opened, said ∙ s)) stored

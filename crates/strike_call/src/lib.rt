@@ -2,6 +2,8 @@
 // `place::lookup::class_at` remembers of where classes stand: any numbers will do, and any count of them. `J` and `A`,
 // which only read the run, take a slice of all of it first: that one stays in registers, where the lent one would be
 // copied in memory.
+// The run is lent as its words, as C hands it over. Tried: a struct of them that is known to be a book, by which each
+// reading costs one value more and its proof one equation.
 #![tactic(auto)]
 
 ghost use Rattle.std.specs.Prelude.{◌&&◌, [], ◌≡◌, T, ltb, get_or};
@@ -15,12 +17,12 @@ ghost use Rattle.strike_call.specs.Judging.{Sought, judged};
 
 use edit::{insert_strike, store_marks};
 use place::head;
-use place::lookup::{StrikeSearch, look_up_expiration, look_up_strike, open_at};
+use place::lookup::{StrikeSearch, find_class, look_up_expiration, look_up_strike};
 use removal::delist;
 use rule::judgement::judge;
-use rule::terms::{Setting, is_outside};
-use word::answer::{Answer, Refusal};
-use word::figures;
+use rule::terms::Setting;
+use word::answer::{Accepted, Answer, Refusal};
+use word::class::ClassRecord;
 use word::kind::{STRIKE, is_of_kind};
 use word::limits::{is_class_number, is_mark, is_month, is_strike};
 use word::strike::{Marks, Strike, is_marked};
@@ -47,26 +49,25 @@ fn is_strike_at(run: &[u32], at: usize) -> bool
 // What the conditions before the rules and then the rules say of a strike that was looked up: 5, 6, 8, 11, 12, 13 or
 // its ground. Of the standing strikes of its expiration only the next one below it and the next one above it bear on
 // it.
-fn judge_found(run: &[u32], class: usize, found: StrikeSearch, m: u32, h: u32) -> Answer
-    requires { Sought run.now class found m h }
-    ensures { (x : Sought run.now class found m h)
-        → result ≡ judged m h (view_of x.begins.number (facts_of run.now)) }
+fn judge_found(run: &[u32], figures: ClassRecord, found: StrikeSearch, m: u32, h: u32) -> Answer
+    requires { Sought run.now figures found m h }
+    ensures { (x : Sought run.now figures found m h)
+        → result ≡ judged m h (view_of x.number (facts_of run.now)) }
 {
     let words = &run[..];
-    let figures = figures::read(words, class);
     let setting = Setting {
         class: figures,
         current: head::current(words),
         month: m,
     };
-    if is_outside(setting) {
-        return Answer::Refused(Refusal::MonthOutside);
+    if setting.is_outside() {
+        return Err(Refusal::MonthOutside);
     }
     if found.standing {
-        return Answer::Refused(Refusal::AlreadyStanding);
+        return Err(Refusal::AlreadyStanding);
     }
     if figures.close == 0 {
-        return Answer::Refused(Refusal::NoClose);
+        return Err(Refusal::NoClose);
     }
     let at = found.at;
     let from = if found.expiration && is_strike_at(words, at - 1) {
@@ -85,14 +86,11 @@ pub fn judge_strike(run: &[u32], c: u32, m: u32, h: u32, places: &mut [u32]) -> 
 {
     let words = &run[..];
     if !is_place(c, m, h) {
-        return Answer::Refused(Refusal::BeyondLimits);
+        return Err(Refusal::BeyondLimits);
     }
-    let class = open_at(words, places, c);
-    if class == 0 {
-        return Answer::Refused(Refusal::NotOpen);
-    }
-    let found = look_up_strike(words, class, m, h);
-    judge_found(words, class, found, m, h)
+    let class = find_class(words, places, c)?;
+    let found = look_up_strike(words, class.at, m, h);
+    judge_found(words, class.figures, found, m, h)
 }
 
 // `L`: adds a strike.
@@ -101,23 +99,20 @@ pub fn list_strike(run: &mut [u32], c: u32, m: u32, h: u32, places: &mut [u32]) 
     ensures { Made (on c (call_l m h)) run.old [] result run.new [] }
 {
     if !is_place(c, m, h) {
-        return Answer::Refused(Refusal::BeyondLimits);
+        return Err(Refusal::BeyondLimits);
     }
-    let class = open_at(run, places, c);
-    if class == 0 {
-        return Answer::Refused(Refusal::NotOpen);
-    }
-    let found = look_up_strike(run, class, m, h);
-    let answer = judge_found(run, class, found, m, h);
-    let Answer::Ground(g) = answer else {
-        return answer;
+    let class = find_class(run, places, c)?;
+    let found = look_up_strike(run, class.at, m, h);
+    let accepted = judge_found(run, class.figures, found, m, h)?;
+    let Accepted::Ground(g) = accepted else {
+        return Ok(accepted);
     };
     let needed = if found.expiration { 1 } else { 2 };
     if run.len() < head::used(run) + needed {
-        return Answer::Refused(Refusal::OutOfWords(0));
+        return Err(Refusal::OutOfWords(0));
     }
     insert_strike(run, found.at, found.expiration, m, h, g);
-    answer
+    Ok(accepted)
 }
 
 // `X`: delists a strike.
@@ -126,23 +121,20 @@ pub fn delist_strike(run: &mut [u32], c: u32, m: u32, h: u32, places: &mut [u32]
     ensures { Made (on c (call_x m h)) run.old [] result run.new [] }
 {
     if !is_place(c, m, h) {
-        return Answer::Refused(Refusal::BeyondLimits);
+        return Err(Refusal::BeyondLimits);
     }
-    let class = open_at(run, places, c);
-    if class == 0 {
-        return Answer::Refused(Refusal::NotOpen);
-    }
-    let found = look_up_strike(run, class, m, h);
+    let class = find_class(run, places, c)?;
+    let found = look_up_strike(run, class.at, m, h);
     if !found.standing {
-        return Answer::Refused(Refusal::NotStanding);
+        return Err(Refusal::NotStanding);
     }
     let at = found.at;
     if is_marked(run[at]) {
-        return Answer::Refused(Refusal::OpenInterest);
+        return Err(Refusal::OpenInterest);
     }
     let alone = !is_strike_at(run, at - 1) & !is_strike_at(run, at + 1);
     delist(run, at, alone);
-    Answer::Done
+    Ok(Accepted::Done)
 }
 
 // `I`: sets the marks of open interest.
@@ -158,18 +150,15 @@ pub fn mark_strike(
     ensures { Made (on c (call_i m h marks.put marks.call)) run.old [] result run.new [] }
 {
     if !(is_place(c, m, h) & (is_mark(marks.put) & is_mark(marks.call))) {
-        return Answer::Refused(Refusal::BeyondLimits);
+        return Err(Refusal::BeyondLimits);
     }
-    let class = open_at(run, places, c);
-    if class == 0 {
-        return Answer::Refused(Refusal::NotOpen);
-    }
-    let found = look_up_strike(run, class, m, h);
+    let class = find_class(run, places, c)?;
+    let found = look_up_strike(run, class.at, m, h);
     if !found.standing {
-        return Answer::Refused(Refusal::NotStanding);
+        return Err(Refusal::NotStanding);
     }
     store_marks(run, found.at, marks.put, marks.call);
-    Answer::Done
+    Ok(Accepted::Done)
 }
 
 // `A`: writes the permitted strikes to the second run.
@@ -180,26 +169,20 @@ pub fn list_permitted(run: &[u32], second: &mut [u32], c: u32, m: u32, places: &
 {
     let words = &run[..];
     if !(is_class_number(c) & is_month(m)) {
-        return Answer::Refused(Refusal::BeyondLimits);
+        return Err(Refusal::BeyondLimits);
     }
-    let at = open_at(words, places, c);
-    if at == 0 {
-        return Answer::Refused(Refusal::NotOpen);
-    }
-    let class = figures::read(words, at);
+    let class = find_class(words, places, c)?;
     let setting = Setting {
-        class,
+        class: class.figures,
         current: head::current(words),
         month: m,
     };
-    if is_outside(setting) {
-        return Answer::Refused(Refusal::MonthOutside);
+    if setting.is_outside() {
+        return Err(Refusal::MonthOutside);
     }
-    if class.close == 0 {
-        return Answer::Refused(Refusal::NoClose);
+    if class.figures.close == 0 {
+        return Err(Refusal::NoClose);
     }
-    let found = look_up_expiration(words, at, m);
-    let from = found.from;
-    let to = found.to;
-    permitted::list_permitted(setting, &words[from..to], second)
+    let found = look_up_expiration(words, class.at, m);
+    permitted::list_permitted(setting, &words[found.from..found.to], second)
 }

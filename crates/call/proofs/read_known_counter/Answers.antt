@@ -1,9 +1,10 @@
 -- `read_known_counter` says what stands in a counter, which of a book is what it counts.
-use Rattle.std.proofs.Common.{◌≡◌, ℕ, T, List, length, ap, ◌∙◌, le-leb}
+use Rattle.std.proofs.Common.{◌≡◌, ℕ, T, List, length, ap, ◌∙◌, le-leb, Ok}
 use borrow.Author.Tests.{lt-leb}
-use Rattle.word.specs.declared.counter.CounterAnswer.{CounterAnswer}
-use Rattle.word.specs.declared.counter.CounterAnswer.TheVariants.{Counted}
+use Rattle.word.specs.Counters.{CounterAnswer}
 use Rattle.word.specs.Head.{first_place}
+use Rattle.word.specs.Programs.{number_of}
+use Rattle.word.proofs.EachProgram.{named}
 use Rattle.book.specs.Books.{is_book}
 use Rattle.book.specs.CounterReads.{counter_read, counter_said}
 use Rattle.book.proofs.Recounted.{known_read}
@@ -22,6 +23,7 @@ returns-then-run-lt-FIRST c =
 pub returns : goal.returns
 returns c =
     let w = c.args.run.now in
-    known c.args.p w _
-    (rw (le-leb first_place (length w) c.if-run-lt-FIRST.false, ← c.if-not-is_program.ensures)
-    (ap Counted c.read.ensures))
+    let program = c.in_ok-program.program in
+    let said : Ok c.read.result ≡ counter_said (number_of program) w =
+    rw (le-leb first_place (length w) c.if-run-lt-FIRST.false, named program) (ap Ok c.read.ensures) in
+    rw (← c.in_ok-program.ensures) (known (number_of program) w _ said)

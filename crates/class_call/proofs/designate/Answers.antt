@@ -1,44 +1,57 @@
--- `designate` keeps the contract of `D`: each way out by its law. Assumes nothing.
-use Rattle.std.proofs.Common.{refl, arith, rules}
-use Rattle.book.specs.Layout.{facts_of}
+-- `designate` keeps the contract of `D`: each way out by its law, over the number of the program. Assumes nothing.
+use Rattle.std.proofs.Common.{◌≡◌, ◌&&◌, false, not, refl, rules}
+use Rattle.logic.proofs.Results.{passed_on}
+use Rattle.word.specs.Limits.{is_class_number, is_designation}
+use Rattle.word.specs.Programs.{is_program, number_of}
+use Rattle.word.proofs.EachProgram.{named}
 use Rattle.book.specs.Calls.{on, call_d, effect_on}
-use Rattle.book.proofs.Answered.{made_beyond, made_not_open}
-use Rattle.book.proofs.OpenPlaces.{place_none}
-use Rattle.class_call.proofs.Ways.{open_room, Found}
+use Rattle.book.proofs.Answered.{made_beyond}
+use Rattle.place.proofs.OpenClasses.{made_absent}
 use Rattle.class_call.proofs.DesignationWays.{designation_refused, designation_storable, designation_set}
 use Rattle.class_call.proofs.designate.Goals as goal
-use Rattle.class_call.proofs.designate.Goals.{After-read-figures}
+use Rattle.class_call.proofs.designate.Goals.{Else-not-is_class_number-is_designation}
 
--- where the class was found, and what its words say
-found : (c : After-read-figures) → Found c.args.run.now c.args.c c.open_at-at.result c.read-figures.result
-found c = record { sought = c.open_at-at.ensures; there = c.if-at-eq0.false; said = c.read-figures.ensures }
+within :
+    (c : Else-not-is_class_number-is_designation)
+    → let p = number_of c.in_ok-program.program in
+    not (is_class_number c.args.c && (is_program p && is_designation c.args.d)) ≡ false
+within c = let known = named c.in_ok-program.program in search rules
 
-pub returns-then-not-is_class_number-is_program : goal.returns-then-not-is_class_number-is_program
+pub returns-in_err-program : goal.returns-in_err-program
 unfolding effect_on
-returns-then-not-is_class_number-is_program c = made_beyond (on _ (call_d _ _)) _ _ c.requires (search rules)
+returns-in_err-program c =
+    let none = c.in_err-program.ensures in
+    rw (passed_on _ c.from_residual.ensures.1, none.0)
+    (made_beyond (on _ (call_d _ _)) _ _ c.requires (search rules))
 
-pub returns-then-at-eq0 : goal.returns-then-at-eq0
+pub returns-then-not-is_class_number-is_designation : goal.returns-then-not-is_class_number-is_designation
 unfolding effect_on
-returns-then-at-eq0 c =
-    made_not_open _ (call_d _ _) _ _ c.requires _ refl (search rules)
-    (place_none c.args.c (facts_of c.args.run.now) _ c.open_at-at.ensures c.if-at-eq0.true)
+returns-then-not-is_class_number-is_designation c =
+    let known = named c.in_ok-program.program in
+    rw (← c.in_ok-program.ensures) (made_beyond (on _ (call_d _ _)) _ _ c.requires (search rules))
 
-pub read-figures-requires : goal.read-figures-requires
-read-figures-requires c = omega (arith, open_room _ c.requires _ _ c.open_at-at.ensures c.if-at-eq0.false)
+pub returns-in_err-class : goal.returns-in_err-class
+unfolding effect_on
+returns-in_err-class c =
+    let w = within (goal.at.returns-in_err-class c).Else-not-is_class_number-is_designation in
+    rw (← c.in_ok-program.ensures, passed_on _ c.from_residual-in_err-class.ensures.1)
+    (made_absent _ (call_d _ _) _ _ c.requires _ refl w _ c.in_err-class.ensures)
 
-pub returns-then-not-is_accepted : goal.returns-then-not-is_accepted
-returns-then-not-is_accepted c =
-    let f = found (goal.at.returns-then-not-is_accepted c).After-read-figures in
-    designation_refused _ _ _ _ c.requires (search rules) _ _ f _ c.claim_of-claim.ensures (search rules)
+pub returns-in_err-claim_of : goal.returns-in_err-claim_of
+returns-in_err-claim_of c =
+    let w = within (goal.at.returns-in_err-claim_of c).Else-not-is_class_number-is_designation in
+    rw (← c.in_ok-program.ensures, passed_on _ c.from_residual-in_err-claim_of.ensures.1)
+    (designation_refused _ _ _ _ c.requires w _ _ c.in_ok-class.ensures _ c.in_err-claim_of.ensures refl)
 
 pub store_designation-requires : goal.store_designation-requires
 store_designation-requires c =
-    let f = found (goal.at.store_designation-requires c).After-read-figures in
-    designation_storable _ c.args.p c.args.d _ c.requires (search rules) _ _ f _ c.claim_of-claim.ensures _
-    c.with_designation.ensures _ c.designation.ensures
+    let w = within (goal.at.store_designation-requires c).Else-not-is_class_number-is_designation in
+    designation_storable _ _ c.args.d _ c.requires w _ _ c.in_ok-class.ensures _ c.in_ok-claim_of.ensures _
+    c.with_designation.ensures _ c.designation-was.ensures
 
 pub returns : goal.returns
 returns c =
-    let f = found (goal.at.returns c).After-read-figures in
-    designation_set _ _ _ _ c.requires (search rules) _ _ f _ c.claim_of-claim.ensures _ c.with_designation.ensures _
-    (search rules) c.store_designation.ensures
+    let w = within (goal.at.returns c).Else-not-is_class_number-is_designation in
+    rw (← c.in_ok-program.ensures)
+    (designation_set _ _ _ _ c.requires w _ _ c.in_ok-class.ensures _ c.in_ok-claim_of.ensures _
+    c.with_designation.ensures _ refl c.store_designation.ensures)

@@ -2,71 +2,71 @@
 use Rattle.std.proofs.Common.{◌≡◌, ◌+◌, false, not, refl, arith, rules}
 use Rattle.word.specs.Limits.{is_class_number}
 use Rattle.word.specs.Figures.{figures_length}
-use Rattle.book.specs.Layout.{facts_of}
+use Rattle.logic.proofs.Results.{passed_on}
 use Rattle.book.specs.Calls.{on, call_r, effect_on}
-use Rattle.book.proofs.Answered.{made_beyond, made_not_open}
-use Rattle.book.proofs.OpenPlaces.{place_none}
+use Rattle.book.proofs.Answered.{made_beyond}
+use Rattle.place.proofs.OpenClasses.{made_absent}
+use Rattle.place.proofs.Found.{class_room}
+use Rattle.place.proofs.Heads.{book_room, book_long}
 use Rattle.review.specs.ReviewsAsked.{Reviewable}
-use Rattle.class_call.proofs.Ways.{open_within, open_room, Found}
 use Rattle.class_call.proofs.Ways.{review_no_close, class_reviewable, review_count, review_made}
 use Rattle.class_call.proofs.review_class.Goals as goal
-use Rattle.class_call.proofs.review_class.Goals.{After-read-figures, After-next_class-to}
-
--- where the class was found, and what its words say
-found : (c : After-read-figures) → Found c.args.run.now c.args.c c.open_at-at.result c.read-figures.result
-found c = record { sought = c.open_at-at.ensures; there = c.if-at-eq0.false; said = c.read-figures.ensures }
+use Rattle.class_call.proofs.review_class.Goals.{After-next_class-to}
 
 within : (c : After-next_class-to) → not (is_class_number c.args.c) ≡ false
 within c = search rules
 
 -- what is to be reviewed: its series, up to the next class
 abbrev reviewable :
-    (c : After-next_class-to) → Found c.args.run.now c.args.c c.open_at-at.result c.read-figures.result
-    → Reviewable c.args.run.now (c.open_at-at.result + figures_length) c.next_class-to.result
-    c.read-figures.result.close
-reviewable c f = class_reviewable _ _ c.requires (within c) _ _ f _ c.next_class-to.ensures.0
+    (c : After-next_class-to)
+    → Reviewable c.args.run.now (c.in_ok-class.class.at + figures_length) c.next_class-to.result
+    c.in_ok-class.class.figures.close
+reviewable c = class_reviewable _ _ c.requires (within c) _ _ c.in_ok-class.ensures _ c.next_class-to.ensures.0
 
 pub returns-then-not-is_class_number : goal.returns-then-not-is_class_number
 unfolding effect_on
 returns-then-not-is_class_number c = made_beyond (on _ call_r) _ _ c.requires (search rules)
 
-pub returns-then-at-eq0 : goal.returns-then-at-eq0
+pub returns-in_err-class : goal.returns-in_err-class
 unfolding effect_on
-returns-then-at-eq0 c =
-    made_not_open _ call_r _ _ c.requires _ refl (search rules)
-    (place_none c.args.c (facts_of c.args.run.now) _ c.open_at-at.ensures c.if-at-eq0.true)
+returns-in_err-class c =
+    rw (passed_on _ c.from_residual.ensures.1)
+    (made_absent _ call_r _ _ c.requires _ refl (search rules) _ c.in_err-class.ensures)
 
-pub read-figures-requires : goal.read-figures-requires
-read-figures-requires c = omega (arith, open_room _ c.requires _ _ c.open_at-at.ensures c.if-at-eq0.false)
+pub returns-then-class-eq0 : goal.returns-then-class-eq0
+returns-then-class-eq0 c =
+    review_no_close _ _ c.requires (search rules) _ _ c.in_ok-class.ensures c.if-class-eq0.true
 
-pub returns-then-figures-eq0 : goal.returns-then-figures-eq0
-returns-then-figures-eq0 c =
-    let f = found (goal.at.returns-then-figures-eq0 c).After-read-figures in
-    review_no_close _ _ c.requires (search rules) _ _ f c.if-figures-eq0.true
+pub overflow_add-from : goal.overflow_add-from
+overflow_add-from c =
+    let w = c.args.run.now in
+    let class = c.in_ok-class.ensures in
+    omega (
+      arith,
+      class.place,
+      class_room w c.requires c.args.c class.is_open,
+      book_room w c.requires,
+      book_long w c.requires,
+    )
 
 pub next_class-to-requires : goal.next_class-to-requires
 next_class-to-requires c =
+    let class = c.in_ok-class.ensures in
     record {
       book = c.requires;
       after = omega arith;
-      within = open_within _ c.requires _ _ c.open_at-at.ensures c.if-at-eq0.false;
+      within = omega (arith, class.place, class_room c.args.run.now c.requires c.args.c class.is_open);
     }
 
 pub review_all-requires : goal.review_all-requires
-review_all-requires c =
-    let p = goal.at.review_all-requires c in
-    reviewable p.After-next_class-to (found p.After-read-figures)
+review_all-requires c = reviewable (goal.at.review_all-requires c).After-next_class-to
 
 pub overflow_cast-result : goal.overflow_cast-result
 overflow_cast-result c =
-    let p = goal.at.overflow_cast-result c in
-    let f = found p.After-read-figures in
-    let done = c.review_all.ensures (reviewable p.After-next_class-to f) in
-    omega (arith, review_count _ _ c.requires (search rules) _ _ f _ done.0)
+    let done = c.review_all.ensures (reviewable (goal.at.overflow_cast-result c).After-next_class-to) in
+    omega (arith, review_count _ _ c.requires (search rules) _ _ c.in_ok-class.ensures _ done.0)
 
 pub returns : goal.returns
 returns c =
-    let p = goal.at.returns c in
-    let f = found p.After-read-figures in
-    review_made _ _ c.requires (search rules) _ _ f _ _ (c.review_all.ensures (reviewable p.After-next_class-to f))
-    c.if-figures-eq0.false
+    review_made _ _ c.requires (search rules) _ _ c.in_ok-class.ensures _ _
+    (c.review_all.ensures (reviewable (goal.at.returns c).After-next_class-to)) c.if-class-eq0.false

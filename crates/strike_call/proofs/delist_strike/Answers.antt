@@ -5,10 +5,11 @@ use mathlib.Core.Path.{ap₂}
 use Rattle.book.specs.Layout.{facts_of}
 use Rattle.book.specs.Calls.{on, call_x, effect_on}
 use Rattle.book.specs.Facts.{is_class_open}
-use Rattle.book.proofs.Answered.{made_beyond, made_not_open}
-use Rattle.book.proofs.OpenPlaces.{place_none, place_begins}
+use Rattle.logic.proofs.Results.{passed_on}
+use Rattle.book.proofs.Answered.{made_beyond}
 use Rattle.place.specs.Lookups.{strike_search_of}
 use Rattle.place.proofs.Heads.{book_long}
+use Rattle.place.proofs.OpenClasses.{begun, made_absent}
 use Rattle.strike_call.proofs.Standing.{place_within, delistable, delist_not_standing, delist_marked, delist_done}
 use Rattle.strike_call.proofs.delist_strike.Goals as goal
 use Rattle.strike_call.proofs.delist_strike.Goals.{After-look_up_strike-found, Else-not-found}
@@ -16,21 +17,21 @@ use Rattle.strike_call.proofs.delist_strike.Goals.{After-look_up_strike-found, E
 -- ---- what is known of a strike that was looked up
 
 is_open : (c : After-look_up_strike-found) → T (is_class_open c.args.c (facts_of c.args.run.now).classes)
-is_open c = (place_begins c.args.c (facts_of c.args.run.now) _ c.open_at-class.ensures c.if-class-eq0.false).is_open
+is_open c = (begun c.in_ok-class.ensures).is_open
 
 found :
     (c : After-look_up_strike-found)
     → c.look_up_strike-found.result ≡ strike_search_of c.args.c c.args.m c.args.h (facts_of c.args.run.now)
 found c =
     c.look_up_strike-found.ensures
-    (place_begins c.args.c (facts_of c.args.run.now) _ c.open_at-class.ensures c.if-class-eq0.false)
+    (begun c.in_ok-class.ensures)
 
 within :
     (c : Else-not-found)
     → let at = c.look_up_strike-found.result.at in
     (1 ≤ at) × (at < length c.args.run.now)
 within c =
-    let begins = place_begins c.args.c (facts_of c.args.run.now) _ c.open_at-class.ensures c.if-class-eq0.false in
+    let begins = begun c.in_ok-class.ensures in
     place_within c.args.run.now c.requires c.args.c c.args.m c.args.h begins.is_open _
     (c.look_up_strike-found.ensures begins) c.if-not-found.false
 
@@ -42,12 +43,12 @@ returns-then-not-is_place c =
     made_beyond (on c.args.c (call_x c.args.m c.args.h)) c.args.run.now [] c.requires
     (ap not (sym c.if-not-is_place.ensures))
 
-pub returns-then-class-eq0 : goal.returns-then-class-eq0
+pub returns-in_err-class : goal.returns-in_err-class
 unfolding effect_on
-returns-then-class-eq0 c =
-    let w = c.args.run.now in
-    made_not_open c.args.c (call_x c.args.m c.args.h) w [] c.requires _ refl (ap not (sym c.if-not-is_place.ensures))
-    (place_none c.args.c (facts_of w) _ c.open_at-class.ensures c.if-class-eq0.true)
+returns-in_err-class c =
+    rw (passed_on _ c.from_residual.ensures.1)
+    (made_absent c.args.c (call_x c.args.m c.args.h) c.args.run.now [] c.requires _ refl
+    (ap not (sym c.if-not-is_place.ensures)) _ c.in_err-class.ensures)
 
 pub returns-then-not-found : goal.returns-then-not-found
 returns-then-not-found c =

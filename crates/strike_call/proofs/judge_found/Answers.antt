@@ -3,7 +3,7 @@
 use Rattle.std.proofs.Common.{◌≡◌, ℕ, ◌+◌, ◌-◌, ◌≤◌, ◌&&◌, cond, length, sym, ◌∙◌, arith}
 use Rattle.place.proofs.Heads.{book_month, book_room, book_long}
 use Rattle.strike_call.proofs.Beside.{is_strike_at, beside_within}
-use Rattle.strike_call.proofs.Judgements.{class_words, class_prices, place_among, strike_most, found_no_close, found_judged}
+use Rattle.strike_call.proofs.Judgements.{class_prices, place_among, strike_most, found_no_close, found_judged}
 use Rattle.strike_call.proofs.judge_found.Goals as goal
 use Rattle.strike_call.proofs.judge_found.Goals.{Joined-is_strike_at-2, then-found-2+then-is_strike_at, else-found-2, else-found-2-via-then-found-2+else-is_strike_at, else-found-2-via-else-found-2, then-is_strike_at-2, else-is_strike_at-2}
 
@@ -48,16 +48,10 @@ within c =
     (place_among c.requires).1 in
     (p.0, omega (arith, p.1, book_room w c.requires.book))
 
-pub read-figures-requires : goal.read-figures-requires
-read-figures-requires c = class_words c.requires
-
-pub is_outside-requires : goal.is_outside-requires
-is_outside-requires c = omega (arith, book_month c.args.run.now c.requires.book, c.current.ensures)
-
 pub returns-then-figures-eq0 : goal.returns-then-figures-eq0
 returns-then-figures-eq0 c =
     λ x.
-    found_no_close x _ c.read-figures.ensures _ c.current.ensures (sym c.if-is_outside.ensures) c.if-found.false
+    found_no_close x _ c.current.ensures (sym c.if-is_outside.ensures) c.if-found.false
     c.if-figures-eq0.true
 
 pub offset_bounds-words-from : goal.offset_bounds-words-from
@@ -70,7 +64,7 @@ slice_bounds-judge-end c = (within (goal.at.slice_bounds-judge-end c).Joined-is_
 
 pub judge-requires : goal.judge-requires
 judge-requires c =
-    let prices = class_prices c.requires _ c.read-figures.ensures in
+    let prices = class_prices c.requires in
     record {
       low = omega (arith, prices.below, prices.above, prices.most);
       high = prices.most;
@@ -82,5 +76,5 @@ pub returns : goal.returns
 returns c =
     let j = (goal.at.returns c).Joined-is_strike_at-2 in
     λ x.
-    found_judged x _ c.read-figures.ensures _ c.current.ensures (sym c.if-is_outside.ensures) c.if-found.false
+    found_judged x _ c.current.ensures (sym c.if-is_outside.ensures) c.if-found.false
     c.if-figures-eq0.false _ _ (begins j) (ends j) _ c.judge.ensures

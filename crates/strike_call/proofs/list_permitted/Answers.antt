@@ -5,32 +5,28 @@ use mathlib.Core.Path.{ap₂}
 use Rattle.word.specs.Limits.{is_month, is_class_number}
 use Rattle.book.specs.Layout.{facts_of}
 use Rattle.book.specs.Calls.{on, call_a, effect_on}
-use Rattle.book.specs.Places.{ClassBegins}
-use Rattle.book.proofs.Answered.{made_beyond, made_not_open}
-use Rattle.book.proofs.OpenPlaces.{place_none, place_begins}
+use Rattle.book.proofs.Answered.{made_beyond}
+use Rattle.logic.proofs.Results.{passed_on}
+use Rattle.place.proofs.OpenClasses.{begun, made_absent}
 use Rattle.place.specs.Lookups.{expiration_of}
-use Rattle.place.proofs.Found.{begins_room}
-use Rattle.place.proofs.Heads.{book_long, book_month, book_room}
+use Rattle.place.proofs.Heads.{book_long}
 use Rattle.strike_call.proofs.Permitting.{part_within, permitting_outside, permitting_no_close, permitting_listable, permitting_filled}
 use Rattle.strike_call.proofs.list_permitted.Goals as goal
-use Rattle.strike_call.proofs.list_permitted.Goals.{Else-at-eq0, After-look_up_expiration-found}
+use Rattle.strike_call.proofs.list_permitted.Goals.{Else-not-is_class_number-is_month, After-look_up_expiration-found}
 
 -- the limits, as the code joins them
 joined : {a b x y : Bool} → a ≡ x → b ≡ y → (z : Bool) → (a && b) ≡ z → not (x && y) ≡ not z
 joined e d z k = ap not (sym (ap₂ ◌&&◌ e d) ∙ k)
 
-limits : (c : Else-at-eq0) → not (is_class_number c.args.c && is_month c.args.m) ≡ false
+limits : (c : Else-not-is_class_number-is_month) → not (is_class_number c.args.c && is_month c.args.m) ≡ false
 limits c = joined c.is_class_number.ensures c.is_month.ensures true c.if-not-is_class_number-is_month.false
-
-abbrev begins : (c : Else-at-eq0) → ClassBegins (facts_of c.args.run.now) c.open_at-at.result
-begins c = place_begins c.args.c (facts_of c.args.run.now) _ c.open_at-at.ensures c.if-at-eq0.false
 
 found :
     (c : After-look_up_expiration-found)
     → c.look_up_expiration-found.result ≡ expiration_of c.args.c c.args.m (facts_of c.args.run.now)
 found c =
     c.look_up_expiration-found.ensures
-    (place_begins c.args.c (facts_of c.args.run.now) _ c.open_at-at.ensures c.if-at-eq0.false)
+    (begun c.in_ok-class.ensures)
 
 -- the words of the strikes are a part of the run
 within :
@@ -38,8 +34,7 @@ within :
     → let r = c.look_up_expiration-found.result in
     (r.from ≤ r.to) × (r.to ≤ length c.args.run.now)
 within c =
-    let begun = place_begins c.args.c (facts_of c.args.run.now) _ c.open_at-at.ensures c.if-at-eq0.false in
-    part_within c.args.run.now c.requires c.args.c c.args.m begun.is_open _ (found c)
+    part_within c.args.run.now c.requires c.args.c c.args.m c.in_ok-class.ensures.is_open _ (found c)
 
 pub returns-then-not-is_class_number-is_month : goal.returns-then-not-is_class_number-is_month
 unfolding effect_on
@@ -47,38 +42,28 @@ returns-then-not-is_class_number-is_month c =
     made_beyond (on c.args.c (call_a c.args.m)) c.args.run.now c.args.second.now c.requires
     (joined c.is_class_number.ensures c.is_month.ensures false c.if-not-is_class_number-is_month.true)
 
-pub returns-then-at-eq0 : goal.returns-then-at-eq0
+pub returns-in_err-class : goal.returns-in_err-class
 unfolding effect_on
-returns-then-at-eq0 c =
-    let w = c.args.run.now in
-    made_not_open c.args.c (call_a c.args.m) w c.args.second.now c.requires _ refl
-    (joined c.is_class_number.ensures c.is_month.ensures true c.if-not-is_class_number-is_month.false)
-    (place_none c.args.c (facts_of w) _ c.open_at-at.ensures c.if-at-eq0.true)
-
-pub read-class-requires : goal.read-class-requires
-read-class-requires c =
-    let w = c.args.run.now in
-    let o = (goal.at.read-class-requires c).Else-at-eq0 in
-    omega (arith, begins_room w c.requires _ (begins o), book_room w c.requires)
-
-pub is_outside-requires : goal.is_outside-requires
-is_outside-requires c = omega (arith, book_month c.args.run.now c.requires, c.current.ensures)
+returns-in_err-class c =
+    rw (passed_on _ c.from_residual.ensures.1)
+    (made_absent c.args.c (call_a c.args.m) c.args.run.now c.args.second.now c.requires _ refl
+    (limits (goal.at.returns-in_err-class c).Else-not-is_class_number-is_month) _ c.in_err-class.ensures)
 
 pub returns-then-is_outside : goal.returns-then-is_outside
 returns-then-is_outside c =
-    let o = (goal.at.returns-then-is_outside c).Else-at-eq0 in
-    permitting_outside c.args.run.now c.args.second.now c.requires c.args.c c.args.m (limits o) (begins o).is_open _
-    (begins o).place _ c.read-class.ensures _ c.current.ensures (sym c.if-is_outside.ensures)
+    let o = (goal.at.returns-then-is_outside c).Else-not-is_class_number-is_month in
+    permitting_outside c.args.run.now c.args.second.now c.requires c.args.c c.args.m (limits o)
+    c.in_ok-class.ensures.is_open _ c.in_ok-class.ensures.figures _ c.current.ensures (sym c.if-is_outside.ensures)
 
 pub returns-then-class-eq0 : goal.returns-then-class-eq0
 returns-then-class-eq0 c =
-    let o = (goal.at.returns-then-class-eq0 c).Else-at-eq0 in
-    permitting_no_close c.args.run.now c.args.second.now c.requires c.args.c c.args.m (limits o) (begins o).is_open _
-    (begins o).place _ c.read-class.ensures _ c.current.ensures (sym c.if-is_outside.ensures) c.if-class-eq0.true
+    let o = (goal.at.returns-then-class-eq0 c).Else-not-is_class_number-is_month in
+    permitting_no_close c.args.run.now c.args.second.now c.requires c.args.c c.args.m (limits o)
+    c.in_ok-class.ensures.is_open _ c.in_ok-class.ensures.figures _ c.current.ensures (sym c.if-is_outside.ensures) c.if-class-eq0.true
 
-pub offset_bounds-words-from : goal.offset_bounds-words-from
-offset_bounds-words-from c =
-    let p = within (goal.at.offset_bounds-words-from c).After-look_up_expiration-found in
+pub offset_bounds-words-found : goal.offset_bounds-words-found
+offset_bounds-words-found c =
+    let p = within (goal.at.offset_bounds-words-found c).After-look_up_expiration-found in
     omega (arith, p, book_long c.args.run.now c.requires)
 
 pub slice_bounds-list_permitted-count : goal.slice_bounds-list_permitted-count
@@ -95,14 +80,14 @@ slice_bounds-list_permitted-end c =
 
 pub list_permitted-requires : goal.list_permitted-requires
 list_permitted-requires c =
-    let o = (goal.at.list_permitted-requires c).Else-at-eq0 in
-    permitting_listable c.args.run.now c.args.second.now c.requires c.args.c c.args.m (limits o) (begins o).is_open _
-    (begins o).place _ c.read-class.ensures _ c.current.ensures (sym c.if-is_outside.ensures) _
+    let o = (goal.at.list_permitted-requires c).Else-not-is_class_number-is_month in
+    permitting_listable c.args.run.now c.args.second.now c.requires c.args.c c.args.m (limits o)
+    c.in_ok-class.ensures.is_open _ c.in_ok-class.ensures.figures _ c.current.ensures (sym c.if-is_outside.ensures) _
     (found (goal.at.list_permitted-requires c).After-look_up_expiration-found)
 
 pub returns : goal.returns
 returns c =
-    let o = (goal.at.returns c).Else-at-eq0 in
-    permitting_filled c.args.run.now c.args.second.now c.requires c.args.c c.args.m (limits o) (begins o).is_open _
-    (begins o).place _ c.read-class.ensures _ c.current.ensures (sym c.if-is_outside.ensures) _
+    let o = (goal.at.returns c).Else-not-is_class_number-is_month in
+    permitting_filled c.args.run.now c.args.second.now c.requires c.args.c c.args.m (limits o)
+    c.in_ok-class.ensures.is_open _ c.in_ok-class.ensures.figures _ c.current.ensures (sym c.if-is_outside.ensures) _
     (found (goal.at.returns c).After-look_up_expiration-found) c.if-class-eq0.false c.list_permitted.ensures

@@ -7,9 +7,10 @@ use Rattle.book.specs.Facts.{is_class_open}
 use Rattle.book.specs.Layout.{facts_of}
 use Rattle.book.specs.Calls.{on, call_i, is_place, effect_on}
 use Rattle.logic.proofs.Tests.{ands, passed}
-use Rattle.book.proofs.Answered.{made_beyond, made_not_open}
-use Rattle.book.proofs.OpenPlaces.{place_none, place_begins}
+use Rattle.logic.proofs.Results.{passed_on}
+use Rattle.book.proofs.Answered.{made_beyond}
 use Rattle.place.specs.Lookups.{strike_search_of}
+use Rattle.place.proofs.OpenClasses.{begun, made_absent}
 use Rattle.strike_call.proofs.Standing.{stands, mark_not_standing, mark_done}
 use Rattle.strike_call.proofs.mark_strike.Goals as goal
 use Rattle.strike_call.proofs.mark_strike.Goals.{Else-not-is_place-is_mark, After-look_up_strike-found}
@@ -27,14 +28,14 @@ limits :
 limits c = joined c.is_place.ensures c.is_mark.ensures c.is_mark-2.ensures true c.if-not-is_place-is_mark.false
 
 is_open : (c : After-look_up_strike-found) → T (is_class_open c.args.c (facts_of c.args.run.now).classes)
-is_open c = (place_begins c.args.c (facts_of c.args.run.now) _ c.open_at-class.ensures c.if-class-eq0.false).is_open
+is_open c = (begun c.in_ok-class.ensures).is_open
 
 found :
     (c : After-look_up_strike-found)
     → c.look_up_strike-found.result ≡ strike_search_of c.args.c c.args.m c.args.h (facts_of c.args.run.now)
 found c =
     c.look_up_strike-found.ensures
-    (place_begins c.args.c (facts_of c.args.run.now) _ c.open_at-class.ensures c.if-class-eq0.false)
+    (begun c.in_ok-class.ensures)
 
 -- ---- the goals
 
@@ -44,13 +45,13 @@ returns-then-not-is_place-is_mark c =
     made_beyond (on c.args.c (call_i c.args.m c.args.h c.args.marks.put c.args.marks.call)) c.args.run.now [] c.requires
     (joined c.is_place.ensures c.is_mark.ensures c.is_mark-2.ensures false c.if-not-is_place-is_mark.true)
 
-pub returns-then-class-eq0 : goal.returns-then-class-eq0
+pub returns-in_err-class : goal.returns-in_err-class
 unfolding effect_on
-returns-then-class-eq0 c =
-    let w = c.args.run.now in
-    made_not_open c.args.c (call_i c.args.m c.args.h c.args.marks.put c.args.marks.call) w [] c.requires _ refl
-    (limits (goal.at.returns-then-class-eq0 c).Else-not-is_place-is_mark)
-    (place_none c.args.c (facts_of w) _ c.open_at-class.ensures c.if-class-eq0.true)
+returns-in_err-class c =
+    rw (passed_on _ c.from_residual.ensures.1)
+    (made_absent c.args.c (call_i c.args.m c.args.h c.args.marks.put c.args.marks.call) c.args.run.now [] c.requires _ refl
+    (limits (goal.at.returns-in_err-class c).Else-not-is_place-is_mark)
+    _ c.in_err-class.ensures)
 
 pub returns-then-not-found : goal.returns-then-not-found
 returns-then-not-found c =
