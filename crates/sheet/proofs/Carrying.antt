@@ -1,18 +1,18 @@
 -- What is carried from one part of the input to the next is what the bytes of both leave: a reader that has printed
 -- nothing begins where the last one ended, and what is printed changes nothing else. Assumes nothing.
-use Prim.Native.Nat.{ℕ, ◌+◌, ◌-◌, ◌≤◌, ◌<◌, zero-le}
-use mathlib.Core.Path.{◌≡◌, refl, sym, ap, subst, ◌∙◌}
+use Prim.Native.Nat.{ℕ, ◌≤◌, ◌<◌, zero-le}
+use mathlib.Core.Path.{◌≡◌, refl, sym, ap, ◌∙◌}
 use mathlib.Core.Bool.{true, false}
 use mathlib.Core.List.{List, [], ◌∷◌, ◌++◌, append_assoc, append-nil}
 use mathlib.Core.Logic.{⊎_elim}
 use native.Mathlib.Omega.{arith}
 use lib.Dec.{T, eqb}
-use lib.ListN.{length, take, drop, length-drop}
-use lib.Seq.{take_all, take-add}
-use Rattle.word.specs.Limits.{is_length}
+use lib.ListN.{length, take, drop, length-append, take-append-drop}
+use lib.Seq.{take_at}
+use borrow.Author.Tests.{eqb-false}
 use Rattle.book.specs.Facts.{fresh}
 use Rattle.book.specs.Layout.{layout, facts_of}
-use Rattle.book.specs.Books.{is_book}
+use Rattle.book.specs.Books.{is_well_formed, is_book}
 use Rattle.book.proofs.Layouts.{facts_of_layout, book_layout, book_facts, fresh_well_formed}
 use Rattle.logic.proofs.Tests.{bool_cases}
 use Rattle.text.specs.Alphabet.{line_feed}
@@ -35,11 +35,11 @@ use Rattle.sheet.specs.InputRead.{AllRead, SomeRead, SheetRead}
 
 -- ---- a fresh book of the program's length
 
-pub good_length : {n : ℕ} → book_length ≡ n → T (is_length n)
-good_length e = subst (λ (n : ℕ). T (is_length n)) e tt
+fresh_fits : T (is_well_formed book_length fresh)
+fresh_fits = fresh_well_formed book_length tt
 
-pub fresh_book : {n : ℕ} {w : List ℕ} → book_length ≡ n → w ≡ layout n fresh → T (is_book w)
-fresh_book {n} e is = rw is (book_layout n fresh (fresh_well_formed n (good_length e)))
+pub fresh_book : {w : List ℕ} → w ≡ layout book_length fresh → T (is_book w)
+fresh_book is = rw is (book_layout book_length fresh fresh_fits)
 
 -- ---- what is carried does not depend on what was printed
 
@@ -100,133 +100,102 @@ held_on h =
       line_is = h.line_is;
     }
 
--- ---- a piece of which the bytes before `from` have been read
+-- ---- a piece of which `rest` is left
 
-pub record PieceSoFar (w v piece : List ℕ) (line₀ : Line) (run second : List ℕ) (line : Line) (from : ℕ) : Type 0 where
-  pub within : from ≤ length piece
-  pub size : length run ≡ length w
-  pub room : length second ≡ length v
-  pub carried : AfterBytes w v line₀ (take from piece) run second line
+pub record PieceSoFar
+    (w v piece : List ℕ) (line₀ : Line) (run second : List ℕ) (line : Line) (rest : List ℕ) : Type 0
+  where
+    pub bytes : List ℕ
+    pub split : piece ≡ bytes ++ rest
+    pub carried : AfterBytes w v line₀ bytes run second line
 
-pub reading_start : (w v piece : List ℕ) (line : Line) → T (is_book w) → PieceSoFar w v piece line w v line 0
+pub reading_start : (w v piece : List ℕ) (line : Line) → T (is_book w) → PieceSoFar w v piece line w v line piece
 unfolding bytes_read
-reading_start w v piece line book =
-    record { within = zero-le; size = refl; room = refl; carried = carried_start w v line book }
+reading_start w v piece line book = record { bytes = []; split = refl; carried = carried_start w v line book }
 
 module _
     {w v piece : List ℕ}
     {line₀ : Line}
     {run second : List ℕ}
     {line : Line}
-    {from : ℕ}
-    (g : PieceSoFar w v piece line₀ run second line from)
+    {rest : List ℕ}
+    (g : PieceSoFar w v piece line₀ run second line rest)
   where
-    -- what is left of the piece
-    rest : take (length piece - from) (drop from piece) ≡ drop from piece
-    rest = take_all (length piece - from) (drop from piece) (omega (arith, length-drop from piece))
-
-    -- some of it is read, and no more than it has
-    pub some_read :
-        {out run' second' out' : List ℕ} {r : PieceProgress} → from < length piece
-        → line_room (length second) ≤ length out
-        → Pieced run second (take (length piece - from) (drop from piece)) out line r run' second' out'
-        → (0 < r.read) × (from + r.read ≤ length piece)
-    some_read {out} h enough p =
-        let is = rw rest at p.taken in
-        let n = length run in
-        let m = length second in
-        let start = begun run second line in
-        let long = length-drop from piece in
-        let all = taken_within n m (length out) start (drop from piece) in
-        let some = taken_some n m (length out) start (drop from piece) (omega arith) (omega arith) in
-        (omega (arith, is), omega (arith, is, g.within))
-
     pub reading_more :
-        {out run' second' out' : List ℕ} {r : PieceProgress} → from < length piece
-        → line_room (length second) ≤ length out
-        → Pieced run second (take (length piece - from) (drop from piece)) out line r run' second' out'
-        → length run' ≡ length run → length second' ≡ length second
-        → PieceSoFar w v piece line₀ run' second' r.line (from + r.read)
-    reading_more {r = r} h enough p size room =
+        {out run' second' out' : List ℕ} {r : PieceProgress} → length run ≡ length w → length second ≡ length v
+        → Pieced run second rest out line r run' second' out'
+        → PieceSoFar w v piece line₀ run' second' r.line (drop r.read rest)
+    reading_more {r = r} size room p =
         let n = length w in
         let m = length v in
-        let more = take r.read (drop from piece) in
+        let more = take r.read rest in
         record {
-          within = (some_read h enough p).1;
-          size = size ∙ g.size;
-          room = room ∙ g.room;
+          bytes = g.bytes ++ more;
+          split =
+              g.split ∙ ap (λ (s : List ℕ). g.bytes ++ s) (sym (take-append-drop r.read rest))
+              ∙ sym (append_assoc g.bytes more (drop r.read rest));
           carried =
-              rw (take-add from r.read piece, bytes_append n m (begun w v line₀) (take from piece) more)
-              (carried_more more g.carried g.size g.room (held_on (rw rest at p.holds)));
+              rw (bytes_append n m (begun w v line₀) g.bytes more)
+              (carried_more more g.carried size room (held_on p.holds));
         }
-
-    pub reading_done : length piece ≤ from → AfterBytes w v line₀ piece run second line
-    reading_done h = rw (take_all from piece h) at g.carried
 
     -- where a write fails
     pub reading_cut : FrontRead w v line₀ piece run second
-    reading_cut = record { read = from; within = g.within; next = line; carried = g.carried }
+    reading_cut =
+        record {
+          read = length g.bytes;
+          within = omega (arith, ap length g.split, length-append g.bytes rest);
+          next = line;
+          carried = rw (g.split, take_at g.bytes rest (length g.bytes) refl) g.carried;
+        }
+
+-- some of the bytes that are left is read, and no more than there is
+pub some_read :
+    {run second rest out run' second' out' : List ℕ} {line : Line} {r : PieceProgress} → false ≡ eqb (length rest) 0
+    → line_room (length second) ≤ length out → Pieced run second rest out line r run' second' out'
+    → (0 < r.read) × (r.read ≤ length rest)
+some_read {run} {second} {rest} {out} {line = line} some enough p =
+    let n = length run in
+    let m = length second in
+    let start = begun run second line in
+    let all = taken_within n m (length out) start rest in
+    let any = eqb-false (length rest) 0 (sym some) in
+    let one = taken_some n m (length out) start rest (omega (arith, any)) (omega arith) in
+    (omega (arith, p.taken), omega (arith, p.taken))
 
 -- ---- the turns
 
-pub record Turning (w v input₀ out₀ : List ℕ) (line : Line) (run second input out : List ℕ) : Type 0 where
-  pub all : AllRead w v line run second
-  pub size : length run ≡ length w
-  pub room : length second ≡ length v
-  pub taken : length input ≡ length input₀
-  pub long : length out ≡ length out₀
-
-pub turning_start : (w v input out : List ℕ) (line : Line) → T (is_book w) → line ≡ empty_line
-    → Turning w v input out line w v input out
+pub all_start : (w v : List ℕ) {line : Line} → T (is_book w) → line ≡ empty_line → AllRead w v line w v
 unfolding bytes_read
-turning_start w v input out line book empty =
-    record {
-      all = record { bytes = []; carried = rw empty (carried_start w v empty_line book) };
-      size = refl;
-      room = refl;
-      taken = refl;
-      long = refl;
-    }
+all_start w v book empty = record { bytes = []; carried = rw empty (carried_start w v empty_line book) }
 
 module _
-    {w v input₀ out₀ : List ℕ}
+    {w v : List ℕ}
     {line : Line}
-    {run second input out : List ℕ}
-    (g : Turning w v input₀ out₀ line run second input out)
+    {run second : List ℕ}
+    (g : AllRead w v line run second)
+    (size : length run ≡ length w)
+    (room : length second ≡ length v)
   where
     read_on :
         {run' second' : List ℕ} {next : Line} (s : List ℕ) → AfterBytes run second line s run' second' next
         → AllRead w v next run' second'
     read_on s after =
         record {
-          bytes = g.all.bytes ++ s;
+          bytes = g.bytes ++ s;
           carried =
-              rw (bytes_append (length w) (length v) (begun w v empty_line) g.all.bytes s)
-              (carried_more s g.all.carried g.size g.room after);
+              rw (bytes_append (length w) (length v) (begun w v empty_line) g.bytes s)
+              (carried_more s g.carried size room after);
         }
 
     pub all_more :
-        {run' second' input' : List ℕ} {r : Turn} → TurnTaken run second line r run' second' input'
+        {run' second' input : List ℕ} {r : Turn} → TurnTaken run second line r run' second' input
         → AllRead w v r.line run' second'
-    all_more {input' = input'} {r = r} turn = read_on (take r.count input') turn.carried
+    all_more {input = input} {r = r} turn = read_on (take r.count input) turn.carried
 
     -- where a turn fails
     pub some_more : {run' second' s : List ℕ} → FrontRead run second line s run' second' → SomeRead w v run' second'
     some_more {s = s} cut = record { line = cut.next; all = read_on (take cut.read s) cut.carried }
-
-    pub turning_more :
-        {run' second' input' out' : List ℕ} {r : Turn} → TurnTaken run second line r run' second' input'
-        → length run' ≡ length run → length second' ≡ length second
-        → length input' ≡ length input → length out' ≡ length out
-        → Turning w v input₀ out₀ r.line run' second' input' out'
-    turning_more turn size room taken long =
-        record {
-          all = all_more turn;
-          size = size ∙ g.size;
-          room = room ∙ g.room;
-          taken = taken ∙ g.taken;
-          long = long ∙ g.long;
-        }
 
 -- ---- the last line
 
@@ -294,53 +263,47 @@ module _ (n m : ℕ) (start : Reader) where
 
 -- ---- the whole sheet
 
--- a book of the words w that was fresh, and what is left after the bytes s
+-- a fresh book of the words w, and what is left after the bytes s
 sheet_made :
-    {w v w₁ w' v' : List ℕ} (s : List ℕ) → book_length ≡ length w → w₁ ≡ layout (length w) fresh
+    {w v w' v' : List ℕ} (s : List ℕ) → w ≡ layout book_length fresh
     → Left (length w)
-    (last_ended (length w) (length v) (bytes_read (length w) (length v) (begun w₁ v empty_line) s)) w' v'
+    (last_ended (length w) (length v) (bytes_read (length w) (length v) (begun w v empty_line) s)) w' v'
     → SheetRead w v w' v'
-sheet_made {w} {v} {w₁} {w'} {v'} s e is left =
+sheet_made {w} {v} {w'} {v'} s is left =
     let n = length w in
     let m = length v in
-    let start = begun w₁ v empty_line in
-    let calls = sheet_read n m s start refl in
-    let facts : facts_of w₁ ≡ fresh = ap facts_of is ∙ facts_of_layout n fresh (fresh_well_formed n (good_length e)) in
-    let done : Left n (calls_made n m (calls_in s) start) w' v' = rw calls at left in
+    let start = begun w v empty_line in
+    let facts : facts_of w ≡ fresh = ap facts_of is ∙ facts_of_layout book_length fresh fresh_fits in
+    let done : Left n (calls_made n m (calls_in s) start) w' v' = rw (sheet_read n m s start refl) at left in
     record { bytes = s; words = rw facts at done.words; second = rw facts at done.second }
 
 -- where the input breaks off: the calls of its whole lines have been made
-pub sheet_cut :
-    {w v w₁ w₂ v₂ : List ℕ} → book_length ≡ length w → w₁ ≡ layout (length w) fresh → length w₁ ≡ length w
-    → SomeRead w₁ v w₂ v₂ → SheetRead w v w₂ v₂
+pub sheet_cut : {w v w' v' : List ℕ} → w ≡ layout book_length fresh → SomeRead w v w' v' → SheetRead w v w' v'
 unfolding last_ended has_begun
-sheet_cut {w} {v} {w₁} {w₂} {v₂} e is long some =
+sheet_cut {w} {v} {w'} {v'} is some =
     let n = length w in
     let m = length v in
-    let start = begun w₁ v empty_line in
-    let now = bytes_read n m start some.all.bytes in
-    let carried : Carried n now w₂ v₂ some.line = rw long at some.all.carried in
+    let start = begun w v empty_line in
+    let carried = some.all.carried in
     let whole = whole_lines n m start some.all.bytes refl in
     let held = bytes_read n m start whole.bytes in
-    let left : Left n held w₂ v₂ =
+    let left : Left n held w' v' =
     record {
       words = carried.left.words ∙ ap (layout n) (sym whole.facts_are);
       second = carried.left.second ∙ sym whole.second_is;
     } in
     let none : has_begun held.line.phase ≡ false = rw whole.ended refl in
-    sheet_made whole.bytes e is (rw none left)
+    sheet_made whole.bytes is (rw none left)
 
 pub sheet_left :
-    {w v w₁ w₂ v₂ w₃ v₃ : List ℕ} {line : Line} → book_length ≡ length w → w₁ ≡ layout (length w) fresh
-    → length w₁ ≡ length w → AllRead w₁ v line w₂ v₂ → length w₂ ≡ length w₁ → length v₂ ≡ length v
-    → Left (length w₂) (last_ended (length w₂) (length v₂) (begun w₂ v₂ line)) w₃ v₃ → SheetRead w v w₃ v₃
-sheet_left {w} {v} {w₁} {w₂} {v₂} {w₃} {v₃} {line} e is long all size room left =
+    {w v w₁ v₁ w' v' : List ℕ} {line : Line} → w ≡ layout book_length fresh → AllRead w v line w₁ v₁
+    → length w₁ ≡ length w → length v₁ ≡ length v
+    → Left (length w₁) (last_ended (length w₁) (length v₁) (begun w₁ v₁ line)) w' v' → SheetRead w v w' v'
+sheet_left {w} {v} {w₁} {v₁} {w'} {v'} {line} is all size room left =
     let n = length w in
     let m = length v in
-    let start = begun w₁ v empty_line in
-    let now = bytes_read n m start all.bytes in
-    let ended : Left n (last_ended n m (begun w₂ v₂ line)) w₃ v₃ = rw (size ∙ long, room) at left in
-    let carried : Carried n now w₂ v₂ line = rw long at all.carried in
-    let made : Left n (last_ended n m now) w₃ v₃ =
-    left_same (last_unprinted n m (begun w₂ v₂ line) now (begun_same carried)) ended in
-    sheet_made all.bytes e is made
+    let now = bytes_read n m (begun w v empty_line) all.bytes in
+    let ended : Left n (last_ended n m (begun w₁ v₁ line)) w' v' = rw (size, room) at left in
+    let made : Left n (last_ended n m now) w' v' =
+    left_same (last_unprinted n m (begun w₁ v₁ line) now (begun_same all.carried)) ended in
+    sheet_made all.bytes is made

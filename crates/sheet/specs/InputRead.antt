@@ -55,7 +55,7 @@ pub record SomeRead (w v w' v' : List ℕ) : Type 0 where
   pub line : Line
   pub all : AllRead w v line w' v'
 
--- a whole sheet over words w that are made a fresh book, with the second run v, and the bytes that were read
+-- a whole sheet over words w that were made a fresh book, with the second run v, and the bytes that were read
 pub record SheetRead (w v w' v' : List ℕ) : Type 0 where
   pub bytes : List ℕ
   pub words : w' ≡ layout (length w) (after (length w) (calls_in bytes))

@@ -4,7 +4,7 @@ use Prim.Native.Nat.{ℕ}
 use mathlib.Core.Path.{◌≡◌}
 use mathlib.Core.List.{List}
 use lib.ListN.{length}
-use Rattle.word.specs.declared.answer.Answer.{Answer}
+use Rattle.word.specs.Answers.{Answer}
 use Rattle.book.specs.Layout.{facts_of}
 use Rattle.book.specs.Made.{Made}
 use Rattle.text.specs.declared.line.Line.{Line}

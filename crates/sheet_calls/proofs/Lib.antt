@@ -2,6 +2,7 @@
 pub mod Limited
 pub mod Lines
 mod CallsRead
+mod Lending
 mod Sheets
 mod LineReplies
 pub mod Readers

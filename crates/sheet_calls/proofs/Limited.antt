@@ -8,7 +8,7 @@ use Prim.Native.Nat.{ℕ, ◌-◌}
 use native.Mathlib.Omega.{arith}
 use lib.Dec.{T, eqb, leb, leb→le, le→leb}
 use borrow.Author.Tests.{leb-true}
-use Rattle.word.specs.declared.answer.Answer.TheVariants.{Refused}
+use Rattle.std.specs.Prelude.{Err}
 use Rattle.word.specs.declared.answer.Refusal.TheVariants.{BeyondLimits}
 use Rattle.logic.specs.Lists.{every}
 use Rattle.book.specs.Facts.{Facts}
@@ -93,7 +93,7 @@ module _ (f : Facts) where
 
     pub same_answer : (n room : ℕ) → answer_to n room (call_of c (map capped ns)) f ≡ answer_to n room (call_of c ns) f
     unfolding answer_to
-    same_answer n room = alike (λ (x : Call). answer_to n room x f) (Refused BeyondLimits) (λ x e. rw e)
+    same_answer n room = alike (λ (x : Call). answer_to n room x f) (Err BeyondLimits) (λ x e. rw e)
 
     pub same_written : (n room : ℕ) → written n room (call_of c (map capped ns)) f ≡ written n room (call_of c ns) f
     unfolding answer_to written

@@ -224,32 +224,19 @@ holds_line room (b ∷ s) h size ends ended =
 
 -- ---- the lines from `from` on: those up to the place `read` have been read
 
-pub record Onward
-    (w v piece : List ℕ) (from : ℕ) (out₀ : List ℕ) (at : ℕ) (run second out : List ℕ) (put read : ℕ) : Type 0
-  where
-    pub lines : LinesRead w v piece from out₀ at (record { read = read; put = put }) run second out
-    pub size : length run ≡ length w
-    pub room : length second ≡ length v
-    pub long : length out ≡ length out₀
-
-pub onward_start :
+pub lines_none :
     (w v piece : List ℕ) (from : ℕ) (out : List ℕ) (at : ℕ) → T (is_book w) → from ≤ length piece → at ≤ length out
-    → Onward w v piece from out at w v out at from
+    → LinesRead w v piece from out at (record { read = from; put = at }) w v out
 unfolding bytes_read
-onward_start w v piece from out at book within fits =
+lines_none w v piece from out at book within fits =
     let none : from - from ≡ 0 = omega arith in
     record {
-      lines = record {
-        book = book;
-        fits = fits;
-        onward = omega arith;
-        within = within;
-        holds = λ front before h. rw none h;
-        taken = λ front before h. rw none (first_none (length w) (length v) (length out) before (drop from piece));
-      };
-      size = refl;
-      room = refl;
-      long = refl;
+      book = book;
+      fits = fits;
+      onward = omega arith;
+      within = within;
+      holds = λ front before h. rw none h;
+      taken = λ front before h. rw none (first_none (length w) (length v) (length out) before (drop from piece));
     }
 
 -- one line more, which ends at a line end, where there is room for its answer
@@ -260,22 +247,23 @@ module _
     {at : ℕ}
     {run second out : List ℕ}
     {put read : ℕ}
-    (g : Onward w v piece from out₀ at run second out put read)
+    (g : LinesRead w v piece from out₀ at (record { read = read; put = put }) run second out)
+    (room : length second ≡ length v)
+    (long : length out ≡ length out₀)
     (end : ℕ)
     (test : (eqb end (length piece) || ltb (length out - put) (line_room (length second))) ≡ false)
   where
-    pub onward_room : put + line_room (length second) ≤ length out
-    onward_room =
+    enough : put + line_room (length second) ≤ length out
+    enough =
         let some : line_room (length second) ≤ length out - put =
         ltb-false (length out - put) (line_room (length second)) (search nors) in
         omega (arith, some)
 
-    pub onward_more :
+    pub line_more :
         {line : Line} {run' second' out' : List ℕ} {put' : ℕ} → WholeAt piece read (record { line = line; end = end })
         → Ended (call_held line) run second out put put' run' second' out'
-        → length run' ≡ length run → length second' ≡ length second → length out' ≡ length out
-        → Onward w v piece from out₀ at run' second' out' put' (end + 1)
-    onward_more is ended size room long =
+        → LinesRead w v piece from out₀ at (record { read = end + 1; put = put' }) run' second' out'
+    line_more is ended =
         let n = length w in
         let m = length v in
         let s = drop read piece in
@@ -283,31 +271,25 @@ module _
         let inside : end < length piece =
         omega (arith, eqb-false end (length piece) (search nors), is.within) in
         let ends : line_end s < length s = omega (arith, is.end_is, length-drop read piece) in
-        let upto : end + 1 - from ≡ (read - from) + suc (line_end s) = omega (arith, is.end_is, g.lines.onward) in
-        let here : from + (read - from) ≡ read = omega (arith, g.lines.onward) in
+        let upto : end + 1 - from ≡ (read - from) + suc (line_end s) = omega (arith, is.end_is, g.onward) in
+        let here : from + (read - from) ≡ read = omega (arith, g.onward) in
         let rest : drop (read - from) whole ≡ s = rw (drop-drop (read - from) from piece, here) in
         let bytes : take (end + 1 - from) whole ≡ take (read - from) whole ++ take (suc (line_end s)) s =
         rw (upto, take-add (read - from) (suc (line_end s)) whole, rest) in
         record {
-          lines = record {
-            book = ended.book;
-            fits = omega (arith, ended.fits, g.long);
-            onward = omega (arith, is.end_is, g.lines.onward);
-            within = omega arith;
-            holds = λ front before h.
-                rw (bytes, bytes_append n m before (take (read - from) whole) (take (suc (line_end s)) s))
-                (holds_line m s (g.lines.holds front before h) g.room ends (rw is.line_is at ended));
-            taken = λ front before h.
-                let now : Reader = bytes_read n m before (take (read - from) whole) in
-                let put_is = (g.lines.holds front before h).put_is in
-                rw upto
-                (first_more n m (length out₀) before whole (read - from) (suc (line_end s))
-                (g.lines.taken front before h)
-                (rw rest (first_line n m (length out₀) now s ends (omega (arith, onward_room, g.room, g.long)))));
-          };
-          size = size ∙ g.size;
-          room = room ∙ g.room;
-          long = long ∙ g.long;
+          book = ended.book;
+          fits = omega (arith, ended.fits, long);
+          onward = omega (arith, is.end_is, g.onward);
+          within = omega arith;
+          holds = λ front before h.
+              rw (bytes, bytes_append n m before (take (read - from) whole) (take (suc (line_end s)) s))
+              (holds_line m s (g.holds front before h) room ends (rw is.line_is at ended));
+          taken = λ front before h.
+              let now : Reader = bytes_read n m before (take (read - from) whole) in
+              let put_is = (g.holds front before h).put_is in
+              rw upto
+              (first_more n m (length out₀) before whole (read - from) (suc (line_end s)) (g.taken front before h)
+              (rw rest (first_line n m (length out₀) now s ends (omega (arith, enough, room, long)))));
         }
 
 -- ---- the loop: `read` bytes of the piece have been read

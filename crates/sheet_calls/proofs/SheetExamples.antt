@@ -2,7 +2,8 @@
 -- each computes. Assumes nothing.
 use mathlib.Core.Path.{◌≡◌, refl}
 use mathlib.Core.List.{[], ◌∷◌}
-use Rattle.word.specs.declared.answer.Answer.TheVariants.{Done, Ground, Listed, Refused}
+use Rattle.std.specs.Prelude.{Ok, Err}
+use Rattle.word.specs.declared.answer.Accepted.TheVariants.{Done, Ground, Listed}
 use Rattle.word.specs.declared.answer.Refusal.TheVariants.{AlreadyStanding, OutOfRange, OutOfWords, CloseOutside}
 use Rattle.book.specs.Calls.{call_m, on, call_h, call_l, call_a, malformed}
 use Rattle.book.specs.Letters.{call_of}
@@ -51,37 +52,37 @@ unfolding call_of call_of_parts first_part later_parts is_numeral value_from
 line_last_space = refl
 
 -- `0`
-printed_done : answer_text Done [] ≡ 48 ∷ 10 ∷ []
+printed_done : answer_text (Ok Done) [] ≡ 48 ∷ 10 ∷ []
 unfolding decimal_by decimal spaced_numbers after_number answer_text
 printed_done = refl
 
 -- `0 7 2 4 6 8 10 12 14`
-printed_listed : answer_text (Listed 7) (2 ∷ 4 ∷ 6 ∷ 8 ∷ 10 ∷ 12 ∷ 14 ∷ [])
+printed_listed : answer_text (Ok (Listed 7)) (2 ∷ 4 ∷ 6 ∷ 8 ∷ 10 ∷ 12 ∷ 14 ∷ [])
     ≡ 48 ∷ 32 ∷ 55 ∷ 32 ∷ 50 ∷ 32 ∷ 52 ∷ 32 ∷ 54 ∷ 32 ∷ 56 ∷ 32 ∷ 49 ∷ 48 ∷ 32 ∷ 49 ∷ 50 ∷ 32 ∷ 49 ∷ 52 ∷ 10 ∷ []
 unfolding decimal_by decimal spaced_numbers after_number answer_text
 printed_listed = refl
 
 -- `0 1`
-printed_ground : answer_text (Ground 1) [] ≡ 48 ∷ 32 ∷ 49 ∷ 10 ∷ []
+printed_ground : answer_text (Ok (Ground 1)) [] ≡ 48 ∷ 32 ∷ 49 ∷ 10 ∷ []
 unfolding decimal_by decimal spaced_numbers after_number answer_text
 printed_ground = refl
 
 -- `12`
-printed_out_of_range : answer_text (Refused OutOfRange) [] ≡ 49 ∷ 50 ∷ 10 ∷ []
+printed_out_of_range : answer_text (Err OutOfRange) [] ≡ 49 ∷ 50 ∷ 10 ∷ []
 unfolding decimal_by decimal spaced_numbers value_or_none after_number answer_text
 printed_out_of_range = refl
 
 -- `6`
-printed_standing : answer_text (Refused AlreadyStanding) [] ≡ 54 ∷ 10 ∷ []
+printed_standing : answer_text (Err AlreadyStanding) [] ≡ 54 ∷ 10 ∷ []
 unfolding decimal_by decimal spaced_numbers value_or_none after_number answer_text
 printed_standing = refl
 
 -- #103: `16`
-printed_close_outside : answer_text (Refused CloseOutside) [] ≡ 49 ∷ 54 ∷ 10 ∷ []
+printed_close_outside : answer_text (Err CloseOutside) [] ≡ 49 ∷ 54 ∷ 10 ∷ []
 unfolding decimal_by decimal spaced_numbers value_or_none after_number answer_text
 printed_close_outside = refl
 
 -- `15 30`: "for 15 on `A` the value too"
-printed_out_of_words : answer_text (Refused (OutOfWords 30)) [] ≡ 49 ∷ 53 ∷ 32 ∷ 51 ∷ 48 ∷ 10 ∷ []
+printed_out_of_words : answer_text (Err (OutOfWords 30)) [] ≡ 49 ∷ 53 ∷ 32 ∷ 51 ∷ 48 ∷ 10 ∷ []
 unfolding decimal_by decimal spaced_numbers value_or_none after_number answer_text
 printed_out_of_words = refl

@@ -1,14 +1,15 @@
 -- A sheet read line by line: what the lines that are left make of the present words is what the whole sheet makes of
 -- the first ones; by what one call makes of any words. Assumes nothing.
-use Prim.Native.Nat.{ℕ, ◌+◌, ◌≤◌, ◌<◌, zero-le}
+use Prim.Native.Nat.{ℕ, suc, ◌+◌, ◌*◌, ◌≤◌, ◌<◌}
 use mathlib.Core.Path.{◌≡◌, refl, sym, ap, ◌∙◌, subst}
 use mathlib.Core.Bool.{Bool, true, false}
 use mathlib.Core.Logic.{⊎_elim}
 use mathlib.Core.List.{List, [], ◌∷◌, map}
 use native.Mathlib.Omega.{arith}
-use lib.ListN.{length, drop, drop_of_length-le}
+use lib.ListN.{length, drop, set, length-drop}
+use Rattle.std.proofs.lemmas.List.{nil_from_length}
 use lib.Seq.{sets}
-use Rattle.word.specs.declared.answer.Answer.{Answer}
+use Rattle.word.specs.Answers.{Answer}
 use Rattle.word.specs.Answers.{answer_number, answer_value}
 use Rattle.book.specs.Books.{is_book}
 use Rattle.book.specs.Calls.{Call, steps}
@@ -19,9 +20,12 @@ use Rattle.logic.proofs.Tests.{T_true, true_T, bool_cases}
 use Rattle.book.proofs.Layouts.{book_facts}
 use Rattle.book.proofs.Followed.{made_book}
 use Rattle.text.proofs.SheetLines.{line_next}
-use Rattle.sheet_calls.specs.LineCalls.{call_in}
-use Rattle.sheet_calls.specs.declared.sheet.LineAnswer.{LineAnswer}
-use Rattle.sheet_calls.specs.Sheets.{calls_in, answers_over, words_after, second_over, LineMade, SheetRun}
+use Rattle.sheet_calls.specs.LineCalls.{call_in, call_held}
+use Rattle.sheet_calls.specs.Sheets.{calls_in, answers_over, words_after, second_over, SheetRun}
+use Rattle.sheet_calls.proofs.CallsRead.{made_read}
+use Rattle.text.specs.declared.line.Line.{Line}
+use Rattle.text.specs.Reading.{line_of}
+use native.Mathlib.Numerals.{add-one}
 
 -- ---- one call of a list, over any words
 
@@ -64,97 +68,66 @@ none_left w v room =
     (λ (e : is_book w ≡ false). (rw e, rw e, rw e))
     (bool_cases (is_book w))
 
--- ---- a sheet that has been read up to the place `from`
+-- ---- a sheet of which `lines` lines have been read, and `left` is left
 
 pub record SheetSoFar
-    (w₀ v₀ sheet answers₀ : List ℕ) (tested : Bool) (w v answers : List ℕ) (lines at from : ℕ) : Type 0
+    (w₀ v₀ sheet answers₀ w v answers : List ℕ) (lines : ℕ) (left : List ℕ) : Type 0
   where
-    pub within : from ≤ length sheet
-    pub few : lines ≤ from
-    pub book : tested ≡ is_book w
-    pub size : length w ≡ length w₀
+    pub few : lines + length left ≤ length sheet
     pub room : length v ≡ length v₀
-    pub places : length answers ≡ length answers₀
-    pub counted : lines + length (lines_of (drop from sheet)) ≡ length (lines_of sheet)
+    pub counted : lines + length (lines_of left) ≡ length (lines_of sheet)
     pub answered :
-        sets answers at (told (answers_over w (length v₀) (calls_in (drop from sheet))))
+        sets answers (2 * lines) (told (answers_over w (length v₀) (calls_in left)))
         ≡ sets answers₀ 0 (told (answers_over w₀ (length v₀) (calls_in sheet)))
-    pub words : words_after w (calls_in (drop from sheet)) ≡ words_after w₀ (calls_in sheet)
-    pub second : second_over w (calls_in (drop from sheet)) v ≡ second_over w₀ (calls_in sheet) v₀
-
-pub read_start :
-    (w v sheet answers : List ℕ) {tested : Bool} → tested ≡ is_book w
-    → SheetSoFar w v sheet answers tested w v answers 0 0 0
-read_start w v sheet answers is =
-    record {
-      within = zero-le;
-      few = zero-le;
-      book = is;
-      size = refl;
-      room = refl;
-      places = refl;
-      counted = omega arith;
-      answered = refl;
-      words = refl;
-      second = refl;
-    }
+    pub words : words_after w (calls_in left) ≡ words_after w₀ (calls_in sheet)
+    pub second : second_over w (calls_in left) v ≡ second_over w₀ (calls_in sheet) v₀
 
 module _
-    {w₀ v₀ sheet answers₀ : List ℕ}
-    {tested : Bool}
-    {w v answers : List ℕ}
-    {lines at from : ℕ}
-    (i : SheetSoFar w₀ v₀ sheet answers₀ tested w v answers lines at from)
+    {w₀ v₀ sheet answers₀ w v answers left : List ℕ}
+    {lines : ℕ}
+    (i : SheetSoFar w₀ v₀ sheet answers₀ w v answers lines left)
   where
     -- one line more
     pub read_more :
-        {number value at' at'' : ℕ} {r : LineAnswer} {w' v' answers' answers'' : List ℕ}
-        → from < length sheet → LineMade w v sheet from r w' v'
-        → length w' ≡ length w → length v' ≡ length v → length answers'' ≡ length answers
-        → number ≡ answer_number r.answer
-        → ((rest : List ℕ) → sets answers' at' rest ≡ sets answers at (number ∷ rest))
-        → value ≡ answer_value r.answer
-        → ((rest : List ℕ) → sets answers'' at'' rest ≡ sets answers' at' (value ∷ rest))
-        → SheetSoFar w₀ v₀ sheet answers₀ tested w' v' answers'' (lines + 1) at'' r.next
-    read_more {value = value} {r = r} {w' = w'} l m size room places n first k then =
-        let split = line_next sheet from l in
+        {line : Line} {left' w' v' answers' : List ℕ} {r : Answer}
+        → (0 < length left) × (line ≡ line_of (line_at left 0)) × (left' ≡ drop (next_line left 0) left)
+        → Made (call_held line) w v r w' v' → length v' ≡ length v
+        → answers' ≡ set (set answers (2 * lines) (answer_number r)) (2 * lines + 1) (answer_value r)
+        → SheetSoFar w₀ v₀ sheet answers₀ w' v' answers' (lines + 1) left'
+    read_more {line} {left'} {w'} {v'} {answers'} {r} first m room put =
+        let split = line_next left 0 first.0 in
         let calls = ap (map call_in) split in
-        let rest = calls_in (drop (next_line sheet from) sheet) in
-        let made = next m.made room in
+        let rest = calls_in (drop (next_line left 0) left) in
+        let made = next (made_read (line_at left 0) first.1 m) room in
         let later = answers_over w' (length v₀) rest in
-        let said : answers_over w (length v₀) (calls_in (drop from sheet)) ≡ r.answer ∷ later =
+        let said : answers_over w (length v₀) (calls_in left) ≡ r ∷ later =
         ap (answers_over w (length v₀)) calls
         ∙ subst
-        (λ (n : ℕ). answers_over w n (call_in (line_at sheet from) ∷ rest) ≡ r.answer ∷ answers_over w' n rest)
+        (λ (n : ℕ). answers_over w n (call_in (line_at left 0) ∷ rest) ≡ r ∷ answers_over w' n rest)
         i.room
         (made.answers rest) in
-        rw m.next_is
+        let two : 2 * (lines + 1) ≡ suc (suc (2 * lines)) = omega arith in
+        rw first.2
         (record {
-          within = omega arith;
-          few = omega (arith, i.few);
-          book = i.book ∙ sym made.book;
-          size = size ∙ i.size;
+          few = omega (arith, length-drop (next_line left 0) left);
           room = room ∙ i.room;
-          places = places ∙ i.places;
           counted = omega (arith, ap length split, i.counted);
           answered =
-              then (told later)
-              ∙ first (value ∷ told later)
-              ∙ rw (n, k) (ap (λ (rs : List Answer). sets answers at (told rs)) (sym said))
-              ∙ i.answered;
+              rw (two, put, add-one)
+              (ap (λ (rs : List Answer). sets answers (2 * lines) (told rs)) (sym said) ∙ i.answered);
           words = sym (ap (words_after w) calls ∙ made.words rest) ∙ i.words;
           second = sym (ap (λ (xs : List Call). second_over w xs v) calls ∙ made.second rest) ∙ i.second;
         })
 
-    pub read_done : length sheet ≤ from → SheetRun w₀ v₀ sheet answers₀ lines w v answers
+    pub read_done : length left ≡ 0 → SheetRun w₀ v₀ sheet answers₀ lines w v answers
     unfolding lines_of
-    read_done l =
-        let none : drop from sheet ≡ [] = drop_of_length-le sheet l in
-        let left = none_left w v (length v₀) in
+    read_done last =
+        let none : left ≡ [] = nil_from_length left last in
+        let done = none_left w v (length v₀) in
         record {
           lines = omega (arith, rw none at i.counted);
           answered =
-              sym (ap (λ (rs : List Answer). sets answers at (told rs)) left.0) ∙ rw none at i.answered;
-          words = sym left.1 ∙ rw none at i.words;
-          second = sym left.2 ∙ rw none at i.second;
+              sym (ap (λ (rs : List Answer). sets answers (2 * lines) (told rs)) done.0) ∙ rw none at i.answered;
+          words = sym done.1 ∙ rw none at i.words;
+          second = sym done.2 ∙ rw none at i.second;
         }

@@ -3,6 +3,8 @@
 -- proofs/Pieces.antt shows that it is what the sheet's lines ask for. Assumes nothing.
 use Rattle.std.specs.Prelude.{ℕ, suc, ◌+◌, ◌-◌, ◌≤◌, ◌≡◌, Bool, true, false, cond, ◌&&◌, List, [], ◌∷◌, ◌++◌, T, eqb, ltb, length, take, drop}
 use Rattle.std.proofs.lemmas.List.Edits.{sets}
+use Rattle.word.specs.Answers.{Answer}
+use Rattle.word.specs.Answers.{strikes_listed}
 use Rattle.book.specs.Facts.{Facts}
 use Rattle.book.specs.Layout.{layout, facts_of}
 use Rattle.book.specs.Books.{is_book}
@@ -101,6 +103,10 @@ bytes_taken n room size r (b ∷ bs) =
 abbrev pub FirstTaken : ℕ → ℕ → ℕ → Reader → List ℕ → ℕ → Type 0
 FirstTaken n room size r s k =
     bytes_taken n room size r s ≡ k + bytes_taken n room size (bytes_read n room r (take k s)) (drop k s)
+
+-- the line that is printed for an answer whose strikes stand at the front of the words v
+abbrev pub printed_text : Answer → List ℕ → List ℕ
+printed_text r v = answer_text r (take (strikes_listed r) v)
 
 -- the line of the call x ends over the words w of a book, with the second run v:
 -- its call is made, and its answer printed from `at` on

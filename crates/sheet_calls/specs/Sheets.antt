@@ -1,18 +1,18 @@
 -- Clause a of document 01, of every line of a sheet over any words (demand 1): the calls of its lines, and what they
 -- leave. Assumes nothing.
-use Rattle.std.specs.Prelude.{ℕ, ◌<◌, ◌≡◌, Bool, cond, List, map, length}
+use Rattle.std.specs.Prelude.{ℕ, ◌<◌, ◌≡◌, cond, List, Option, MatchOption, map, length, drop, Err}
 use Rattle.std.proofs.lemmas.List.Edits.{sets}
-use Rattle.word.specs.declared.answer.Answer.{Answer}
-use Rattle.word.specs.declared.answer.Answer.TheVariants.{Refused}
+use Rattle.word.specs.Answers.{Answer}
 use Rattle.word.specs.declared.answer.Refusal.TheVariants.{NotABook}
 use Rattle.book.specs.Layout.{layout, facts_of}
 use Rattle.book.specs.Books.{is_book}
 use Rattle.book.specs.Calls.{Call, steps}
 use Rattle.book.specs.CallLists.{lent_each, answers_to, told, second_after}
-use Rattle.book.specs.Made.{Made}
+use Rattle.text.specs.declared.line.Line.{Line}
+use Rattle.text.specs.Reading.{line_of}
 use Rattle.text.specs.SheetLines.{lines_of, line_at, next_line}
 use Rattle.sheet_calls.specs.LineCalls.{call_in}
-use Rattle.sheet_calls.specs.declared.sheet.LineAnswer.{LineAnswer}
+use Rattle.sheet_calls.specs.declared.sheet.LinesLeft.{LinesLeft}
 
 -- the calls of a sheet
 abbrev pub calls_in : List ℕ → List Call
@@ -21,7 +21,7 @@ calls_in sheet = map call_in (lines_of sheet)
 -- each call's answer, over any words w and with a second run of `room` words; "1 the run is no book": each draws it
 abbrev pub answers_over : List ℕ → ℕ → List Call → List Answer
 answers_over w room xs =
-    cond (is_book w) (answers_to (length w) (lent_each room xs) (facts_of w)) (map (λ x. Refused NotABook) xs)
+    cond (is_book w) (answers_to (length w) (lent_each room xs) (facts_of w)) (map (λ x. Err NotABook) xs)
 
 -- the words that calls leave, over any words
 abbrev pub words_after : List ℕ → List Call → List ℕ
@@ -31,15 +31,11 @@ words_after w xs = cond (is_book w) (layout (length w) (steps (length w) xs (fac
 abbrev pub second_over : List ℕ → List Call → List ℕ → List ℕ
 second_over w xs v = cond (is_book w) (second_after (length w) (lent_each (length v) xs) (facts_of w) v) v
 
--- a line begins at `from`, and `tested` says whether the words w are a book
-pub record LineBegins (w : List ℕ) (tested : Bool) (sheet : List ℕ) (from : ℕ) : Type 0 where
-  pub book : tested ≡ is_book w
-  pub inside : from < length sheet
-
--- the call of the line that begins at `from`, made on any words w, with a second run v, and where the next line begins
-pub record LineMade (w v sheet : List ℕ) (from : ℕ) (r : LineAnswer) (w' v' : List ℕ) : Type 0 where
-  pub made : Made (call_in (line_at sheet from)) w v r.answer w' v'
-  pub next_is : r.next ≡ next_line sheet from
+-- the first line of the bytes that are left of a sheet, where there is one, and the bytes after it
+abbrev pub FirstLine : LinesLeft → Option Line → LinesLeft → Type 0
+FirstLine s r t =
+    MatchOption r ((length s.0.now ≡ 0) × (t ≡ s))
+    (λ l. (0 < length s.0.now) × (l ≡ line_of (line_at s.0.now 0)) × (t.0.now ≡ drop (next_line s.0.now 0) s.0.now))
 
 -- a sheet read over any words w, with a second run v: how many lines it has, and the words that are left. The answers
 -- are written as far as `answers` has places for them

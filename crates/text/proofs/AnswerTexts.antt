@@ -1,62 +1,21 @@
--- The text of an answer, by its cases and in its parts, and stores of a text in two parts: the definitions opened
--- once. Assumes nothing.
+-- The length of an answer's text by its parts, and stores of a text in two parts. Assumes nothing.
 use mathlib.Core.Path.{◌≡◌, ◌∙◌}
 use Prim.Native.Nat.{ℕ, ◌+◌}
 use native.Mathlib.Omega.{arith}
 use mathlib.Core.List.{List, [], ◌∷◌, ◌++◌}
 use lib.ListN.{length, length-append}
 use lib.Seq.{sets}
-use borrow.Author.Tests.{eq-eqb, ne_eqb}
-use Rattle.word.specs.declared.answer.Answer.{Answer}
-use Rattle.word.specs.declared.answer.Answer.TheVariants.{Done, Ground, Removed, Listed, Refused}
-use Rattle.word.specs.declared.answer.Refusal.{Refusal}
-use Rattle.word.specs.Answers.{refusal_value, answer_number}
+use Rattle.word.specs.Answers.{Answer}
+use Rattle.word.specs.Answers.{answer_number}
 use Rattle.logic.proofs.Stores.{sets_append}
 use Rattle.text.specs.Alphabet.{line_feed}
-use Rattle.text.specs.Printing.{decimal, spaced_number, spaced_numbers, value_or_none, after_number, answer_text}
-use Rattle.text.proofs.SpacedNumbers.{one_number}
+use Rattle.text.specs.Printing.{decimal, spaced_numbers, after_number, answer_text}
 
 -- the stores of a second part, after those of the first
 pub stores_after :
     (out₀ out last a b : List ℕ) (at next : ℕ) → next ≡ at + length a → out ≡ sets out₀ at a → last ≡ sets out next b
     → last ≡ sets out₀ at (a ++ b)
 stores_after out₀ out last a b at next place before then = then ∙ rw (before, place, sets_append)
-
--- a value: none for 0
-pub no_value_text : (v : ℕ) → v ≡ 0 → spaced_numbers (value_or_none v) ≡ []
-unfolding spaced_numbers value_or_none
-no_value_text v h = simp (eq-eqb v 0 h)
-
-pub value_text : (v : ℕ) → (v ≡ 0 → ⊥) → spaced_numbers (value_or_none v) ≡ spaced_number v
-unfolding value_or_none
-value_text v h = simp (ne_eqb v 0 h) (one_number v)
-
--- what comes after the number, by the answer
-module _ (strikes : List ℕ) {answer : Answer} where
-  pub done_text : answer ≡ Done → spaced_numbers (after_number answer strikes) ≡ []
-  unfolding after_number spaced_numbers
-  done_text is = rw is
-
-  pub ground_text : {g : ℕ} → answer ≡ Ground g → spaced_numbers (after_number answer strikes) ≡ spaced_number g
-  unfolding after_number
-  ground_text {g} is = rw is (one_number g)
-
-  pub removed_text :
-      {count : ℕ} → answer ≡ Removed count → spaced_numbers (after_number answer strikes) ≡ spaced_number count
-  unfolding after_number
-  removed_text {count} is = rw is (one_number count)
-
-  pub listed_text :
-      {count : ℕ} → answer ≡ Listed count
-      → spaced_numbers (after_number answer strikes) ≡ spaced_number count ++ spaced_numbers strikes
-  unfolding after_number spaced_numbers
-  listed_text is = rw is
-
-  pub refused_text :
-      {why : Refusal} {value : ℕ} → answer ≡ Refused why → value ≡ refusal_value why
-      → spaced_numbers (after_number answer strikes) ≡ spaced_numbers (value_or_none value)
-  unfolding after_number
-  refused_text is said = rw (is, said)
 
 -- the whole line: the number, what comes after it, and the line end
 pub length_whole :
@@ -68,5 +27,3 @@ length_whole answer strikes =
     let number : List ℕ = decimal (answer_number answer) in
     let rest : List ℕ = spaced_numbers (after_number answer strikes) in
     omega (arith, length-append number (rest ++ (line_feed ∷ [])), length-append rest (line_feed ∷ []))
-
-pub ruleset whole_laws = (length_whole, sets_append)

@@ -8,16 +8,12 @@ use mathlib.Core.List.{List, [], ◌∷◌}
 use native.Mathlib.Omega.{arith}
 use lib.Dec.{eqb}
 use lib.ListN.{length, get_or, length-append}
-use mir.Val.{Val}
-use denote.Laws.{Is}
-use denote.Enum.Declared.{row}
+use Rattle.std.specs.Prelude.{Ok, Err}
 use Rattle.word.specs.declared.answer.Refusal.{Refusal}
 use Rattle.word.specs.declared.answer.Refusal.TheVariants.{NotABook, BeyondLimits, AlreadyOpen, NotOpen, MonthOutside, AlreadyStanding, NotStanding, NoClose, NotQualified, CapReached, OffGrid, OutOfRange, TooClose, OpenInterest, OutOfWords, CloseOutside}
-use Rattle.word.specs.declared.answer.Answer.{Answer}
-use Rattle.word.specs.declared.answer.Answer.TheVariants.{Done, Ground, Removed, Listed, Refused}
+use Rattle.word.specs.Answers.{Answer}
+use Rattle.word.specs.declared.answer.Accepted.TheVariants.{Done, Ground, Removed, Listed}
 use Rattle.word.specs.Answers.{refusal_number, refusal_value, answer_number, answer_value}
-use Rattle.word.specs.contracts.answer.Answer.{the_type as answer-type}
-use Rattle.word.specs.contracts.answer.Refusal.{the_type as refusal-type}
 use Rattle.text.specs.Printing.{spaced_number, spaced_numbers, value_or_none, after_number, answer_text, strike_room, line_room}
 use Rattle.logic.proofs.Tests.{bool_cases}
 use Rattle.text.proofs.Decimals.{length_decimal}
@@ -32,38 +28,29 @@ word_limit = 4294967296
 abbrev number_limit : ℕ
 number_limit = 100
 
--- ---- a value of the type holds a number of two digits and a value of 32 bits
+-- ---- an answer's number has two digits
 
-refusal_below :
-    (why : Refusal) (vs : List Val) → Is (row refusal-type) why vs
-    → (refusal_number why < number_limit) × (refusal_value why < word_limit)
-refusal_below NotABook vs ok = (omega arith, omega arith)
-refusal_below BeyondLimits vs ok = (omega arith, omega arith)
-refusal_below AlreadyOpen vs ok = (omega arith, omega arith)
-refusal_below NotOpen vs ok = (omega arith, omega arith)
-refusal_below MonthOutside vs ok = (omega arith, omega arith)
-refusal_below AlreadyStanding vs ok = (omega arith, omega arith)
-refusal_below NotStanding vs ok = (omega arith, omega arith)
-refusal_below NoClose vs ok = (omega arith, omega arith)
-refusal_below NotQualified vs ok = (omega arith, omega arith)
-refusal_below CapReached vs ok = (omega arith, omega arith)
-refusal_below OffGrid vs ok = (omega arith, omega arith)
-refusal_below OutOfRange vs ok = (omega arith, omega arith)
-refusal_below TooClose vs ok = (omega arith, omega arith)
-refusal_below OpenInterest vs ok = (omega arith, omega arith)
-refusal_below (OutOfWords count) vs ok = (omega arith, omega arith)
-refusal_below CloseOutside vs ok = (omega arith, omega arith)
+refusal_below : (why : Refusal) → refusal_number why < number_limit
+refusal_below NotABook = omega arith
+refusal_below BeyondLimits = omega arith
+refusal_below AlreadyOpen = omega arith
+refusal_below NotOpen = omega arith
+refusal_below MonthOutside = omega arith
+refusal_below AlreadyStanding = omega arith
+refusal_below NotStanding = omega arith
+refusal_below NoClose = omega arith
+refusal_below NotQualified = omega arith
+refusal_below CapReached = omega arith
+refusal_below OffGrid = omega arith
+refusal_below OutOfRange = omega arith
+refusal_below TooClose = omega arith
+refusal_below OpenInterest = omega arith
+refusal_below (OutOfWords count) = omega arith
+refusal_below CloseOutside = omega arith
 
-answer_below :
-    (answer : Answer) (vs : List Val) → Is (row answer-type) answer vs
-    → (answer_number answer < number_limit) × (answer_value answer < word_limit)
-answer_below Done vs ok = (omega arith, omega arith)
-answer_below (Ground g) vs ok = (omega arith, omega arith)
-answer_below (Removed count) vs ok = (omega arith, omega arith)
-answer_below (Listed count) vs ok = (omega arith, omega arith)
-answer_below (Refused why) vs ok =
-    let fields = ok.1.1 in
-    refusal_below why _ fields.1.1.0
+number_below : (answer : Answer) → answer_number answer < number_limit
+number_below (Ok a) = omega arith
+number_below (Err why) = refusal_below why
 
 -- ---- what is printed of it
 
@@ -96,22 +83,21 @@ module _ (strikes : List ℕ) (each : (k : ℕ) → get_or strikes k 0 < word_li
       (answer : Answer) → answer_value answer < word_limit
       → length (spaced_numbers (after_number answer strikes)) ≤ strike_room + strike_room * length strikes
   unfolding after_number spaced_numbers
-  after_bound Done small = omega arith
-  after_bound (Ground g) small = omega (arith, ap length (one_number g), number_bound g small)
-  after_bound (Removed count) small = omega (arith, ap length (one_number count), number_bound count small)
-  after_bound (Listed count) small =
+  after_bound (Ok Done) small = omega arith
+  after_bound (Ok (Ground g)) small = omega (arith, ap length (one_number g), number_bound g small)
+  after_bound (Ok (Removed count)) small = omega (arith, ap length (one_number count), number_bound count small)
+  after_bound (Ok (Listed count)) small =
       omega (
         arith,
         length-append (spaced_number count) (spaced_numbers strikes),
         number_bound count small,
         numbers_bound strikes each,
       )
-  after_bound (Refused why) small = omega (arith, value_bound (refusal_value why) small)
+  after_bound (Err why) small = omega (arith, value_bound (refusal_value why) small)
 
   pub answer_bound :
-      (answer : Answer) (vs : List Val) → Is (row answer-type) answer vs
+      (answer : Answer) → answer_value answer < word_limit
       → length (answer_text answer strikes) ≤ line_room (length strikes)
-  answer_bound answer vs ok =
-      let below = answer_below answer vs ok in
-      let few = length_decimal 1 (answer_number answer) (omega arith) in
-      omega (arith, length_whole answer strikes, few, after_bound answer below.1)
+  answer_bound answer small =
+      let few = length_decimal 1 (answer_number answer) (omega (arith, number_below answer)) in
+      omega (arith, length_whole answer strikes, few, after_bound answer small)

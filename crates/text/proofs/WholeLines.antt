@@ -1,38 +1,39 @@
 -- A line read number by number is what its bytes give one by one: a number that has been read and not ended goes on as
 -- a line at Letter that has it, and five numbers and a space end malformed. By recursion on the digits, and by the
 -- byte after them. Assumes nothing.
-use Prim.Native.Nat.{ℕ, suc, ◌+◌, ◌*◌, ◌-◌, ◌≤◌, ◌<◌}
+use Prim.Native.Nat.{ℕ, ◌+◌, ◌*◌, ◌-◌, ◌≤◌, ◌<◌}
 use mathlib.Core.Path.{◌≡◌, refl, sym, ap, ◌∙◌}
 use mathlib.Core.Logic.{◌⊎◌, inl, inr, ⊎_elim}
-use mathlib.Core.Bool.{Bool, true, false, cond, not, ◌||◌, and-false, true≢false}
+use mathlib.Core.Bool.{Bool, true, false, and-false, true≢false}
 use mathlib.Core.List.{List, [], ◌∷◌}
 use native.Mathlib.Omega.{arith}
-use native.Mathlib.Numerals.{add-one}
-use lib.Dec.{T, ltb, eqb, eqb→eq, T_not}
-use lib.ListN.{length, take, drop, get_or, set, drop_of_length-le}
-use lib.Seq.{drop-cons, drop-drop}
-use borrow.Author.Tests.{lt-ltb, le-ltb, lt-leb, eq-eqb, ne_eqb, eqb-true, eqb-false, not-false}
+use lib.ListN.{length, take, drop, get_or, set, length-drop}
+use borrow.Author.Tests.{lt-ltb, le-ltb, lt-leb, eq-eqb, ne_eqb}
+use Rattle.std.specs.Prelude.{Some, None, MatchOption}
+use Rattle.std.proofs.lemmas.List.{take_rest}
 use Rattle.text.specs.declared.line.Phase.{Phase}
 use Rattle.text.specs.declared.line.Phase.TheVariants.{Letter, Space, Zero, Number}
 use Rattle.text.specs.declared.line.Line.{Line}
-use Rattle.text.specs.declared.line.WholeLine.{WholeLine}
 use Rattle.text.specs.Alphabet.{line_feed, space, zero_digit, nine_digit, first_letter, last_letter, base}
 use Rattle.text.specs.Reading.{numbers_kept, capped, zeros, empty_line, malformed_line, feed_by, feed_of, end_by, end_of, run_of}
 use Rattle.text.specs.Grammar.{is_digit}
 use Rattle.text.specs.SheetLines.{line_end}
-use Rattle.text.specs.WholeLines.{digits_length, grown_by, numeral_length, numeral_value, NumeralAt, line_after, EndsAfter, letter_line, WholeAt}
-use Rattle.logic.proofs.Tests.{equal_test, bool_cases, lt_or_le, eq_or_not, true_T, nors, or_cases, outside, inside}
+use Rattle.text.specs.WholeLines.{digits_read, numeral_read, with_number, line_after, line_rest, FormedRead, WholeAt}
+use Rattle.logic.proofs.Tests.{bool_cases, lt_or_le, eq_or_not}
 use Rattle.text.proofs.Complete.{Pending, at_zero, in_number, state, feed_space, end_number}
 use Rattle.text.proofs.Sound.{Follows, follows, run_malformed, ended}
+use Rattle.text.proofs.SheetLines.{end_within}
 use Rattle.text.proofs.LineParts.{between_true, between_both}
-use Rattle.text.proofs.SheetLines.{end_here, end_later, end_none}
 
--- ---- digits
+-- the bytes after the first, as the pattern of a slice has them
+abbrev after_first : List ℕ → List ℕ
+after_first s = take (length s - 1) (drop 1 s)
 
--- where the code's test says that a byte is no digit
-digit_not : (b : ℕ) → (ltb b zero_digit || ltb nine_digit b) ≡ true → is_digit b ≡ false
-digit_not b h = ⊎_elim (λ under. simp (lt-leb zero_digit b under)) (λ over. simp (lt-leb b nine_digit over, and-false))
-    (outside zero_digit nine_digit b h)
+-- ---- digits and numbers, by the first byte
+
+no_digit : (b : ℕ) → (b < zero_digit) ⊎ (nine_digit < b) → is_digit b ≡ false
+no_digit b out =
+    ⊎_elim (λ under. simp (lt-leb zero_digit b under)) (λ over. simp (lt-leb b nine_digit over, and-false)) out
 
 not_digit : (b : ℕ) → is_digit b ≡ false → (b < zero_digit) ⊎ (nine_digit < b)
 not_digit b e =
@@ -47,69 +48,70 @@ not_digit b e =
     (lt_or_le nine_digit b))
     (lt_or_le b zero_digit)
 
--- the digits from a place on, by the byte there
-module _ (s : List ℕ) (i : ℕ) where
-  pub digits_here : i < length s → (ltb (get_or s i 0) zero_digit || ltb nine_digit (get_or s i 0)) ≡ true
-      → digits_length (drop i s) ≡ 0
-  unfolding digits_length
-  digits_here l h = rw (drop-cons s i 0 l, digit_not (get_or s i 0) h)
+module _ (v : ℕ) where
+  pub digits_done : (s : List ℕ) → (get_or s 0 0 < zero_digit) ⊎ (nine_digit < get_or s 0 0) → digits_read v s ≡ (v, s)
+  unfolding digits_read
+  digits_done [] out = refl
+  digits_done (b ∷ s) out = rw (no_digit b out)
 
-  pub digits_none : length s ≤ i → digits_length (drop i s) ≡ 0
-  unfolding digits_length
-  digits_none l = rw (drop_of_length-le s l)
+  pub digits_more : (s : List ℕ) → zero_digit ≤ get_or s 0 0 → get_or s 0 0 ≤ nine_digit
+      → digits_read v s ≡ digits_read (capped (base * v + (get_or s 0 0 - zero_digit))) (after_first s)
+  unfolding digits_read
+  digits_more [] least most = absurd (omega arith)
+  digits_more (b ∷ s) least most = rw (take_rest (b ∷ s) 1, between_true zero_digit nine_digit b least most)
 
-  module _ (l : i < length s) (h : (ltb (get_or s i 0) zero_digit || ltb nine_digit (get_or s i 0)) ≡ false) where
-    digit : is_digit (get_or s i 0) ≡ true
-    digit =
-        let range = inside zero_digit nine_digit (get_or s i 0) h in
-        between_true zero_digit nine_digit (get_or s i 0) range.0 range.1
+pub ruleset digit_laws = (digits_done, digits_more)
 
-    pub digits_later : digits_length (drop i s) ≡ suc (digits_length (drop (i + 1) s))
-    unfolding digits_length
-    digits_later = rw (add-one, drop-cons s i 0 l, digit)
+pub numeral_other : (s : List ℕ) → (get_or s 0 0 < zero_digit) ⊎ (nine_digit < get_or s 0 0) → numeral_read s ≡ None
+unfolding numeral_read
+numeral_other [] out = refl
+numeral_other (b ∷ s) out =
+    let differs : b ≡ zero_digit → ⊥ = λ is. ⊎_elim (λ under. omega arith) (λ over. omega arith) out in
+    rw (ne_eqb b zero_digit differs, no_digit b out)
 
-    pub grown_later : (v : ℕ)
-        → grown_by v (take (digits_length (drop i s)) (drop i s))
-        ≡ grown_by (capped (base * v + (get_or s i 0 - zero_digit)))
-        (take (digits_length (drop (i + 1) s)) (drop (i + 1) s))
-    unfolding digits_length grown_by
-    grown_later v = rw (add-one, drop-cons s i 0 l, digit)
+pub numeral_zero : (s : List ℕ) → get_or s 0 0 ≡ zero_digit → numeral_read s ≡ Some (0, after_first s)
+unfolding numeral_read
+numeral_zero [] is = absurd (omega arith)
+numeral_zero (b ∷ s) is = rw (take_rest (b ∷ s) 1, eq-eqb b zero_digit is)
 
-pub ruleset digit_laws = (digits_here, digits_none, digits_later, grown_later)
+pub numeral_digits : (s : List ℕ) → zero_digit ≤ get_or s 0 0 → (get_or s 0 0 ≡ zero_digit → ⊥)
+    → get_or s 0 0 ≤ nine_digit → numeral_read s ≡ Some (digits_read (get_or s 0 0 - zero_digit) (after_first s))
+unfolding numeral_read
+numeral_digits [] least other most = absurd (omega arith)
+numeral_digits (b ∷ s) least other most =
+    rw (take_rest (b ∷ s) 1, ne_eqb b zero_digit other, between_true zero_digit nine_digit b least most)
 
--- the line end comes after the digits
-digits_end : (s : List ℕ) → line_end s ≡ digits_length s + line_end (drop (digits_length s) s)
-unfolding digits_length line_end
-digits_end [] = refl
-digits_end (b ∷ s) =
-    ⊎_elim
-    (λ (e : is_digit b ≡ true).
-    let range = between_both zero_digit nine_digit b e in
-    simp (e, ne_eqb b line_feed (λ is. omega (arith, range.0))) (omega (arith, digits_end s)))
-    (λ (e : is_digit b ≡ false). simp e (omega arith))
-    (bool_cases (is_digit b))
+pub ruleset numeral_laws = (numeral_other, numeral_zero, numeral_digits)
 
--- ---- a line that goes on, byte by byte
+-- ---- a line that goes on as another
 
-after_byte : (l : Line) (b : ℕ) (s : List ℕ) → (b ≡ line_feed → ⊥) → line_after l (b ∷ s) ≡ line_after (feed_of l b) s
-unfolding line_end run_of
-after_byte l b s differs = rw (ne_eqb b line_feed differs)
+-- a line that goes on in s ends as another does in t, and so do the bytes
+pub record Goes (l : Line) (s : List ℕ) (m : Line) (t : List ℕ) : Type 0 where
+  pub same : line_after l s ≡ line_after m t
+  pub rest : line_rest s ≡ line_rest t
+
+goes_on : {l m n : Line} {s t u : List ℕ} → Goes l s m t → Goes m t n u → Goes l s n u
+goes_on a b = record { same = a.same ∙ b.same; rest = a.rest ∙ b.rest }
 
 after_end : (l : Line) (b : ℕ) (s : List ℕ) → b ≡ line_feed → line_after l (b ∷ s) ≡ end_of l
 unfolding line_end run_of
 after_end l b s is = rw (eq-eqb b line_feed is)
 
+-- by one byte
+fed : (l m : Line) (b : ℕ) (s : List ℕ) → (b ≡ line_feed → ⊥) → feed_of l b ≡ m → Goes l (b ∷ s) m s
+unfolding line_end run_of
+fed l m b s differs is = record {
+  same = rw (ne_eqb b line_feed differs) (ap (λ (n : Line). line_after n s) is);
+  rest = rw (ne_eqb b line_feed differs);
+}
+
 after_malformed : (s : List ℕ) → line_after malformed_line s ≡ malformed_line
 unfolding end_by
 after_malformed s = ap end_of (run_malformed (take (line_end s) s))
 
-after_fed : (l l' : Line) (b : ℕ) (s : List ℕ) → (b ≡ line_feed → ⊥) → feed_of l b ≡ l'
-    → line_after l (b ∷ s) ≡ line_after l' s
-after_fed l l' b s differs fed = after_byte l b s differs ∙ ap (λ (m : Line). line_after m s) fed
-
-after_refused : (l : Line) (b : ℕ) (s : List ℕ) → (b ≡ line_feed → ⊥) → feed_of l b ≡ malformed_line
+refused : (l : Line) (b : ℕ) (s : List ℕ) → (b ≡ line_feed → ⊥) → feed_of l b ≡ malformed_line
     → line_after l (b ∷ s) ≡ malformed_line
-after_refused l b s differs fed = after_fed l malformed_line b s differs fed ∙ after_malformed s
+refused l b s differs is = (fed l malformed_line b s differs is).same ∙ after_malformed s
 
 -- ---- a number that has been read and not ended goes on as a line that has it
 
@@ -117,50 +119,49 @@ module _ (c k : ℕ) (ns : List ℕ) (few : k < numbers_kept) where
   -- at a byte that ends it, or is refused
   number_ended : {p : Phase} → Pending p → (v b : ℕ) (s : List ℕ)
       → ((b ≡ space → ⊥) → feed_of (state p c v k ns) b ≡ malformed_line)
-      → line_after (state p c v k ns) (b ∷ s) ≡ line_after (state Letter c 0 (k + 1) (set ns k v)) (b ∷ s)
+      → Goes (state p c v k ns) (b ∷ s) (state Letter c 0 (k + 1) (set ns k v)) (b ∷ s)
   unfolding feed_by end_by
-  number_ended {p} w v b s refused =
+  number_ended {p} w v b s out =
       let now = state p c v k ns in
       let next = state Letter c 0 (k + 1) (set ns k v) in
+      let same : line_after now (b ∷ s) ≡ line_after next (b ∷ s) =
       ⊎_elim
       (λ (is : b ≡ line_feed). after_end now b s is ∙ end_number w c v k ns few ∙ sym (after_end next b s is))
       (λ differs.
       ⊎_elim
       (λ (is : b ≡ space).
       let spaced : Line = state Space c 0 (k + 1) (set ns k v) in
-      let fed : feed_of now b ≡ spaced = ap (feed_of now) is ∙ feed_space w c v k ns few in
-      let fed-next : feed_of next b ≡ spaced = simp (eq-eqb b space is) in
-      after_fed now spaced b s differs fed ∙ sym (after_fed next spaced b s differs fed-next))
+      (fed now spaced b s differs (ap (feed_of now) is ∙ feed_space w c v k ns few)).same
+      ∙ sym (fed next spaced b s differs (simp (eq-eqb b space is))).same)
       (λ (other : b ≡ space → ⊥).
-      let fed-next : feed_of next b ≡ malformed_line = simp (ne_eqb b space other) in
-      after_refused now b s differs (refused other) ∙ sym (after_refused next b s differs fed-next))
+      refused now b s differs (out other) ∙ sym (refused next b s differs (simp (ne_eqb b space other))))
       (eq_or_not b space))
-      (eq_or_not b line_feed)
+      (eq_or_not b line_feed) in
+      record { same = same; rest = refl }
 
-  zero_read : (s : List ℕ) → line_after (state Zero c 0 k ns) s ≡ line_after (state Letter c 0 (k + 1) (set ns k 0)) s
+  zero_read : (s : List ℕ) → Goes (state Zero c 0 k ns) s (state Letter c 0 (k + 1) (set ns k 0)) s
   unfolding feed_by end_by run_of line_end
-  zero_read [] = end_number at_zero c 0 k ns few
+  zero_read [] = record { same = end_number at_zero c 0 k ns few; rest = refl }
   zero_read (b ∷ s) = number_ended at_zero 0 b s (λ other. simp (ne_eqb b space other))
 
-  digits_read : (s : List ℕ) (v : ℕ)
-      → line_after (state Number c v k ns) s
-      ≡ line_after (state Letter c 0 (k + 1) (set ns k (grown_by v (take (digits_length s) s))))
-      (drop (digits_length s) s)
-  unfolding feed_by end_by run_of line_end digits_length grown_by
-  digits_read [] v = end_number in_number c v k ns few
-  digits_read (b ∷ s) v =
+  digits_go : (s : List ℕ) (v : ℕ)
+      → let read = digits_read v s in
+      Goes (state Number c v k ns) s (state Letter c 0 (k + 1) (set ns k read.0)) read.1
+  unfolding feed_by end_by run_of line_end digits_read
+  digits_go [] v = record { same = end_number in_number c v k ns few; rest = refl }
+  digits_go (b ∷ s) v =
       ⊎_elim
       (λ (e : is_digit b ≡ true).
       let range = between_both zero_digit nine_digit b e in
       let more : Line = state Number c (capped (base * v + (b - zero_digit))) k ns in
-      let fed : feed_of (state Number c v k ns) b ≡ more =
+      let is : feed_of (state Number c v k ns) b ≡ more =
       simp (
         ne_eqb b space (λ is. omega (arith, range.0)),
         le-ltb b zero_digit range.0,
         le-ltb nine_digit b range.1,
       ) in
-      rw e (after_fed (state Number c v k ns) more b s (λ is. omega (arith, range.0)) fed
-      ∙ digits_read s (capped (base * v + (b - zero_digit)))))
+      rw e (goes_on (fed (state Number c v k ns) more b s (λ is. omega (arith, range.0)) is)
+      (digits_go s (capped (base * v + (b - zero_digit))))))
       (λ (e : is_digit b ≡ false).
       rw e
       (number_ended in_number v b s
@@ -171,78 +172,43 @@ module _ (c k : ℕ) (ns : List ℕ) (few : k < numbers_kept) where
       (not_digit b e))))
       (bool_cases (is_digit b))
 
-  -- a number after a space
-  numeral_read : (s : List ℕ) → (numeral_length s ≡ 0 → ⊥)
-      → line_after (state Space c 0 k ns) s ≡ line_after (state Letter c 0 (k + 1) (set ns k (numeral_value s)))
-      (drop (numeral_length s) s)
-  unfolding feed_by numeral_length numeral_value
-  numeral_read [] some = absurd (some refl)
-  numeral_read (b ∷ s) some =
+  -- a number after a space, or none
+  numeral_go : (s : List ℕ)
+      → MatchOption (numeral_read s) (line_after (state Space c 0 k ns) s ≡ malformed_line)
+      (λ read. Goes (state Space c 0 k ns) s (state Letter c 0 (k + 1) (set ns k read.0)) read.1)
+  unfolding feed_by end_by run_of line_end numeral_read
+  numeral_go [] = refl
+  numeral_go (b ∷ s) =
+      let now = state Space c 0 k ns in
       ⊎_elim
       (λ (is : b ≡ zero_digit).
-      let fed : feed_of (state Space c 0 k ns) b ≡ state Zero c 0 k ns =
+      let zero-fed : feed_of now b ≡ state Zero c 0 k ns =
       simp (le-ltb b zero_digit (omega arith), le-ltb nine_digit b (omega arith), eq-eqb b zero_digit is) in
       rw (eq-eqb b zero_digit is)
-      (after_fed (state Space c 0 k ns) (state Zero c 0 k ns) b s (λ e. omega arith) fed ∙ zero_read s))
+      (goes_on (fed now (state Zero c 0 k ns) b s (λ e. omega arith) zero-fed) (zero_read s)))
       (λ differs.
       ⊎_elim
       (λ (e : is_digit b ≡ true).
       let range = between_both zero_digit nine_digit b e in
-      let fed : feed_of (state Space c 0 k ns) b ≡ state Number c (b - zero_digit) k ns =
+      let more : Line = state Number c (b - zero_digit) k ns in
+      let first : feed_of now b ≡ more =
       simp (le-ltb b zero_digit range.0, le-ltb nine_digit b range.1, ne_eqb b zero_digit differs) in
       rw (ne_eqb b zero_digit differs, e)
-      (after_fed (state Space c 0 k ns) (state Number c (b - zero_digit) k ns) b s (λ is. omega (arith, range.0)) fed
-      ∙ digits_read s (b - zero_digit)))
-      (λ (e : is_digit b ≡ false). absurd (some (simp (ne_eqb b zero_digit differs, e))))
+      (goes_on (fed now more b s (λ is. omega (arith, range.0)) first) (digits_go s (b - zero_digit))))
+      (λ (e : is_digit b ≡ false).
+      let out : line_after now (b ∷ s) ≡ malformed_line =
+      ⊎_elim
+      (λ (is : b ≡ line_feed). after_end now b s is)
+      (λ ends.
+      refused now b s ends
+      (⊎_elim
+      (λ under. simp (lt-ltb b zero_digit under))
+      (λ over. simp (le-ltb b zero_digit (omega arith), lt-ltb nine_digit b over))
+      (not_digit b e)))
+      (eq_or_not b line_feed) in
+      rw (ne_eqb b zero_digit differs, e) out)
       (bool_cases (is_digit b)))
       (eq_or_not b zero_digit)
-
--- the line end comes after a number
-numeral_end : (s : List ℕ) → line_end s ≡ numeral_length s + line_end (drop (numeral_length s) s)
-unfolding numeral_length line_end
-numeral_end [] = refl
-numeral_end (b ∷ s) =
-    ⊎_elim
-    (λ (is : b ≡ zero_digit). simp (eq-eqb b zero_digit is, ne_eqb b line_feed (λ e. omega arith)) (omega arith))
-    (λ differs.
-    ⊎_elim
-    (λ (e : is_digit b ≡ true).
-    let range = between_both zero_digit nine_digit b e in
-    simp (ne_eqb b zero_digit differs, e, ne_eqb b line_feed (λ is. omega (arith, range.0)))
-    (omega (arith, digits_end s)))
-    (λ (e : is_digit b ≡ false). simp (ne_eqb b zero_digit differs, e) (omega arith))
-    (bool_cases (is_digit b)))
-    (eq_or_not b zero_digit)
-
--- ---- what is refused after a space
-
--- no number
-space_refused : (c v k : ℕ) (ns s : List ℕ) → numeral_length s ≡ 0
-    → line_after (state Space c v k ns) s ≡ malformed_line
-unfolding feed_by end_by run_of line_end numeral_length
-space_refused c v k ns [] none = refl
-space_refused c v k ns (b ∷ s) none =
-    ⊎_elim
-    (λ (is : b ≡ line_feed). after_end (state Space c v k ns) b s is)
-    (λ differs.
-    ⊎_elim
-    (λ (under : b < zero_digit). after_refused (state Space c v k ns) b s differs (simp (lt-ltb b zero_digit under)))
-    (λ (low : zero_digit ≤ b).
-    ⊎_elim
-    (λ (over : nine_digit < b). after_refused (state Space c v k ns) b s differs
-    (simp (le-ltb b zero_digit low, lt-ltb nine_digit b over)))
-    (λ (high : b ≤ nine_digit).
-    let one : numeral_length (b ∷ s) ≡ cond {A = ℕ} (eqb b zero_digit) 1 (suc (digits_length s)) = rw
-    (between_true zero_digit nine_digit b low high) in
-    ⊎_elim
-    (λ (is : b ≡ zero_digit). let z : ◌≡◌ {A = ℕ} 0 1 = sym none ∙ one
-    ∙ rw (eq-eqb b zero_digit is) in absurd (omega arith))
-    (λ other. let z : ◌≡◌ {A = ℕ} 0 (suc (digits_length s)) = sym none ∙ one
-    ∙ rw (ne_eqb b zero_digit other) in absurd (omega arith))
-    (eq_or_not b zero_digit))
-    (lt_or_le nine_digit b))
-    (lt_or_le b zero_digit))
-    (eq_or_not b line_feed)
 
 -- a sixth number
 sixth_refused : (c v : ℕ) (ns s : List ℕ) → line_after (state Space c v numbers_kept ns) s ≡ malformed_line
@@ -257,215 +223,149 @@ sixth_refused c v ns s =
     (λ e. e)
     (ended read.phase read refl)
 
--- ---- a number from a place on, by the byte there
+-- ---- the line at the front of s
 
-module _ (s : List ℕ) (i : ℕ) where
-  pub no_byte : i ≤ length s → length s ≤ i → NumeralAt s i 0 i
-  unfolding numeral_length numeral_value
-  no_byte within l =
-      let none : drop i s ≡ [] = drop_of_length-le s l in
-      record { end_is = rw none (omega arith); within = within; value_is = rw none }
+pub letter_other : (s : List ℕ) → (get_or s 0 0 < first_letter) ⊎ (last_letter < get_or s 0 0)
+    → line_after empty_line s ≡ malformed_line
+unfolding feed_by end_by run_of line_end
+letter_other [] out = refl
+letter_other (b ∷ s) out =
+    ⊎_elim
+    (λ (is : b ≡ line_feed). after_end empty_line b s is)
+    (λ differs.
+    refused empty_line b s differs
+    (⊎_elim
+    (λ under. simp (lt-ltb b first_letter under))
+    (λ over. simp (le-ltb b first_letter (omega arith), lt-ltb last_letter b over))
+    out))
+    (eq_or_not b line_feed)
 
-  module _ (l : i < length s) where
-    pub zero_byte : get_or s i 0 ≡ zero_digit → NumeralAt s i 0 (i + 1)
-    unfolding numeral_length numeral_value
-    zero_byte is =
-        record {
-          end_is = rw (drop-cons s i 0 l, eq-eqb (get_or s i 0) zero_digit is);
-          within = omega arith;
-          value_is = rw (drop-cons s i 0 l, eq-eqb (get_or s i 0) zero_digit is);
-        }
+-- it has the form as far as it has been read, up to `rest`
+pub record LineGoing (s : List ℕ) (line : Line) (rest : List ℕ) : Type 0 where
+  pub few : line.count ≤ numbers_kept
+  pub shape : line ≡ state Letter line.letter 0 line.count line.numbers
+  pub goes : Goes empty_line s (state Letter line.letter 0 line.count line.numbers) rest
 
-    module _ (differs : get_or s i 0 ≡ zero_digit → ⊥) where
-      pub other_byte : (ltb (get_or s i 0) zero_digit || ltb nine_digit (get_or s i 0)) ≡ true → NumeralAt s i 0 i
-      unfolding numeral_length numeral_value
-      other_byte h =
-          record {
-            end_is = rw (drop-cons s i 0 l, ne_eqb (get_or s i 0) zero_digit differs, digit_not (get_or s i 0) h)
-                (omega arith);
-            within = omega arith;
-            value_is = rw (drop-cons s i 0 l, ne_eqb (get_or s i 0) zero_digit differs, digit_not (get_or s i 0) h);
-          }
-
-      pub digit_byte : {value end : ℕ} → (ltb (get_or s i 0) zero_digit || ltb nine_digit (get_or s i 0)) ≡ false
-          → end ≡ i + 1 + digits_length (drop (i + 1) s) → end ≤ length s
-          → value ≡ grown_by (get_or s i 0 - zero_digit) (take (digits_length (drop (i + 1) s)) (drop (i + 1) s))
-          → NumeralAt s i value end
-      unfolding numeral_length numeral_value
-      digit_byte h e within v =
-          record {
-            end_is = rw (drop-cons s i 0 l, ne_eqb (get_or s i 0) zero_digit differs, digit s i l h)
-                (omega (arith, rw add-one at e));
-            within = within;
-            value_is = rw (drop-cons s i 0 l, ne_eqb (get_or s i 0) zero_digit differs, digit s i l h)
-                (rw add-one at v);
-          }
-
--- ---- the ways a line goes on from a place
-
--- a malformed line
-pub malformed_ends : {sheet : List ℕ} {i end : ℕ} {line : Line} → line ≡ malformed_line
-    → end ≡ i + line_end (drop i sheet) → end ≤ length sheet
-    → EndsAfter malformed_line sheet i (record { line = line; end = end })
-malformed_ends {sheet} {i} is e within =
-    record { end_is = e; within = within; line_is = is ∙ sym (after_malformed (drop i sheet)) }
-
--- a line that ends malformed is passed
-malformed_passed : {l : Line} {sheet : List ℕ} {i : ℕ} {r : WholeLine} → line_after l (drop i sheet) ≡ malformed_line
-    → EndsAfter malformed_line sheet i r → EndsAfter l sheet i r
-malformed_passed {l} {sheet} {i} e r =
+pub letter_first : (s : List ℕ) → first_letter ≤ get_or s 0 0 → get_or s 0 0 ≤ last_letter
+    → LineGoing s (state Letter (get_or s 0 0) 0 0 zeros) (after_first s)
+unfolding feed_by
+letter_first [] least most = absurd (omega arith)
+letter_first (b ∷ s) least most =
+    let letter : feed_of empty_line b ≡ state Letter b 0 0 zeros =
+    simp (le-ltb b first_letter least, le-ltb last_letter b most) in
     record {
-      end_is = r.end_is;
-      within = r.within;
-      line_is = r.line_is ∙ after_malformed (drop i sheet) ∙ sym e;
+      few = omega arith;
+      shape = refl;
+      goes =
+          rw (take_rest (b ∷ s) 1)
+          (fed empty_line (state Letter b 0 0 zeros) b s (λ e. omega arith) letter);
     }
 
--- the numbers of a line have been read up to the place i, and it goes on there as it did at `from`
-pub record LineGoing (letter : ℕ) (sheet : List ℕ) (from count : ℕ) (numbers : List ℕ) (i : ℕ) : Type 0 where
-  pub within : i ≤ length sheet
-  pub few : count ≤ numbers_kept
-  pub ends : i + line_end (drop i sheet) ≡ from + line_end (drop from sheet)
-  pub same : line_after (state Letter letter 0 count numbers) (drop i sheet)
-      ≡ line_after (letter_line letter) (drop from sheet)
-
-pub line_going_start :
-    (letter : ℕ) (sheet : List ℕ) (from : ℕ) → from ≤ length sheet → LineGoing letter sheet from 0 zeros from
-line_going_start letter sheet from within = record { within = within; few = omega arith; ends = refl; same = refl }
-
-module _ {letter : ℕ} {sheet : List ℕ} {from count : ℕ} {numbers : List ℕ} {i : ℕ}
-    (g : LineGoing letter sheet from count numbers i) where
-  going : {r : WholeLine} → EndsAfter (state Letter letter 0 count numbers) sheet i r
-      → EndsAfter (letter_line letter) sheet from r
-  going r = record { end_is = r.end_is ∙ g.ends; within = r.within; line_is = r.line_is ∙ g.same }
-
-  ending : line_end (drop i sheet) ≡ 0
-      → EndsAfter (letter_line letter) sheet from (record { line = state Letter letter 0 count numbers; end = i })
-  unfolding run_of end_by
-  ending here = going (record { end_is = omega (arith, here); within = g.within; line_is = rw here })
-
-  pub going_done : length sheet ≤ i
-      → EndsAfter (letter_line letter) sheet from (record { line = state Letter letter 0 count numbers; end = i })
-  going_done l = ending (end_none sheet i l)
-
-  module _ (l : i < length sheet) where
-    pub going_ended : get_or sheet i 0 ≡ line_feed
-        → EndsAfter (letter_line letter) sheet from (record { line = state Letter letter 0 count numbers; end = i })
-    going_ended is = ending (end_here sheet i l is)
-
-    -- a byte that is no space
-    no_space : (get_or sheet i 0 ≡ line_feed → ⊥) → (get_or sheet i 0 ≡ space → ⊥)
-        → line_after (state Letter letter 0 count numbers) (drop i sheet) ≡ malformed_line
-    unfolding feed_by
-    no_space differs other =
-        let fed : feed_of (state Letter letter 0 count numbers) (get_or sheet i 0) ≡ malformed_line =
-        simp (ne_eqb (get_or sheet i 0) space other) in
-        rw (drop-cons sheet i 0 l)
-        (after_refused (state Letter letter 0 count numbers) (get_or sheet i 0) (drop (suc i) sheet) differs fed)
-
-    module _ (is : get_or sheet i 0 ≡ space) where
-      spaced : line_after (state Letter letter 0 count numbers) (drop i sheet)
-          ≡ line_after (state Space letter 0 count numbers) (drop (i + 1) sheet)
-      unfolding feed_by
-      spaced =
-          let fed : feed_of (state Letter letter 0 count numbers) (get_or sheet i 0)
-          ≡ state Space letter 0 count numbers = simp (eq-eqb (get_or sheet i 0) space is) in
-          rw (add-one, drop-cons sheet i 0 l)
-          (after_fed (state Letter letter 0 count numbers) (state Space letter 0 count numbers) (get_or sheet i 0)
-          (drop (suc i) sheet) (λ e. omega arith) fed)
-
-      sixth : count ≡ numbers_kept → line_after (state Letter letter 0 count numbers) (drop i sheet) ≡ malformed_line
-      sixth full =
-          spaced
-          ∙ ap (λ (k : ℕ). line_after (state Space letter 0 k numbers) (drop (i + 1) sheet)) full
-          ∙ sixth_refused letter 0 numbers (drop (i + 1) sheet)
-
-    -- no space, or a sixth number
-    pub going_passed : {r : WholeLine} → (get_or sheet i 0 ≡ line_feed → ⊥)
-        → (not (eqb (get_or sheet i 0) space) || eqb count numbers_kept) ≡ true
-        → EndsAfter malformed_line sheet i r → EndsAfter (letter_line letter) sheet from r
-    going_passed differs h r =
-        let b = get_or sheet i 0 in
-        let malformed : line_after (state Letter letter 0 count numbers) (drop i sheet) ≡ malformed_line =
-        ⊎_elim
-        (λ (is : b ≡ space).
-        ⊎_elim
-        (λ (t : T (not (eqb b space))). absurd (T_not (eqb b space) t (equal_test b space is)))
-        (λ (t : T (eqb count numbers_kept)). sixth is (eqb→eq count numbers_kept t))
-        (or_cases (not (eqb b space)) (eqb count numbers_kept) (true_T _ h)))
-        (λ other. no_space differs other)
-        (eq_or_not b space) in
-        going (malformed_passed malformed r)
-
-    -- a space, and fewer than five numbers
-    module _ (h : (not (eqb (get_or sheet i 0) space) || eqb count numbers_kept) ≡ false) where
-      is_space : get_or sheet i 0 ≡ space
-      is_space = eqb-true (get_or sheet i 0) space (not-false (eqb (get_or sheet i 0) space) (search nors))
-
-      pub going_room : count < numbers_kept
-      going_room = omega (arith, g.few, eqb-false count numbers_kept (search nors))
-
-      module _ {value end : ℕ} (n : NumeralAt sheet (i + 1) value end) where
-        pub going_none : {r : WholeLine} → end ≡ i + 1 → EndsAfter malformed_line sheet i r
-            → EndsAfter (letter_line letter) sheet from r
-        going_none e r =
-            going (malformed_passed (spaced is_space
-            ∙ space_refused letter 0 count numbers (drop (i + 1) sheet) (omega (arith, n.end_is))) r)
-
-        pub going_more : (end ≡ i + 1 → ⊥) → LineGoing letter sheet from (count + 1) (set numbers count value) end
-        going_more some =
-            let rest = drop (i + 1) sheet in
-            let after : drop (numeral_length rest) rest ≡ drop end sheet =
-            drop-drop (numeral_length rest) (i + 1) sheet ∙ ap (λ (k : ℕ). drop k sheet) (sym n.end_is) in
-            let read = numeral_read letter count numbers going_room rest (λ none. some (omega (arith, n.end_is))) in
-            let length-is : line_end rest ≡ numeral_length rest + line_end (drop end sheet) =
-            numeral_end rest ∙ ap (λ (s : List ℕ). numeral_length rest + line_end s) after in
-            record {
-              within = n.within;
-              few = omega (arith, going_room);
-              ends = omega (arith, n.end_is, length-is, end_later sheet i l (λ e. omega (arith, is_space)), g.ends);
-              same =
-                  ap (λ (v : ℕ). line_after (state Letter letter 0 (count + 1) (set numbers count v)) (drop end sheet))
-                  n.value_is
-                  ∙ ap (line_after (state Letter letter 0 (count + 1) (set numbers count (numeral_value rest))))
-                  (sym after)
-                  ∙ sym read
-                  ∙ sym (spaced is_space)
-                  ∙ g.same;
-            }
-
--- ---- the line that begins at a place, by its first byte
-
-module _ {sheet : List ℕ} {i : ℕ} (l : i < length sheet) {r : WholeLine} where
-  pub no_letter : (ltb (get_or sheet i 0) first_letter || ltb last_letter (get_or sheet i 0)) ≡ true
-      → EndsAfter malformed_line sheet i r → WholeAt sheet i r
-  unfolding feed_by end_by
-  no_letter h r =
-      let b = get_or sheet i 0 in
-      let fed : feed_of empty_line b ≡ malformed_line =
-      ⊎_elim
-      (λ under. simp (lt-ltb b first_letter under))
-      (λ over. simp (le-ltb b first_letter (omega arith), lt-ltb last_letter b over))
-      (outside first_letter last_letter b h) in
-      let malformed : line_after empty_line (b ∷ drop (suc i) sheet) ≡ malformed_line =
-      ⊎_elim
-      (λ (is : b ≡ line_feed). after_end empty_line b (drop (suc i) sheet) is)
-      (λ differs. after_refused empty_line b (drop (suc i) sheet) differs fed)
-      (eq_or_not b line_feed) in
-      malformed_passed (rw (drop-cons sheet i 0 l) malformed) r
-
-  pub a_letter : (ltb (get_or sheet i 0) first_letter || ltb last_letter (get_or sheet i 0)) ≡ false
-      → EndsAfter (letter_line (get_or sheet i 0)) sheet (i + 1) r → WholeAt sheet i r
+module _ {s : List ℕ} {line : Line} where
+  going_space : (b : ℕ) (t : List ℕ) → LineGoing s line (b ∷ t) → b ≡ space
+      → Goes empty_line s (state Space line.letter 0 line.count line.numbers) t
   unfolding feed_by
-  a_letter h r =
-      let b = get_or sheet i 0 in
-      let range = inside first_letter last_letter b h in
-      let fed : feed_of empty_line b ≡ letter_line b =
-      simp (le-ltb b first_letter range.0, le-ltb last_letter b range.1) in
+  going_space b t g is =
+      let now = state Letter line.letter 0 line.count line.numbers in
+      let spaced : Line = state Space line.letter 0 line.count line.numbers in
+      goes_on g.goes (fed now spaced b t (λ e. omega arith) (simp (eq-eqb b space is)))
+
+  pub going_full : (rest : List ℕ) → LineGoing s line rest → get_or rest 0 0 ≡ space → numbers_kept ≤ line.count
+      → line_after empty_line s ≡ malformed_line
+  going_full [] g is full = absurd (omega arith)
+  going_full (b ∷ t) g is full =
+      (going_space b t g is).same
+      ∙ ap (λ (k : ℕ). line_after (state Space line.letter 0 k line.numbers) t) (omega (arith, g.few))
+      ∙ sixth_refused line.letter 0 line.numbers t
+
+  pub going_none : (rest : List ℕ) → LineGoing s line rest → get_or rest 0 0 ≡ space
+      → numeral_read (after_first rest) ≡ None → line_after empty_line s ≡ malformed_line
+  going_none [] g is none = absurd (omega arith)
+  going_none (b ∷ t) g is none =
+      let none-left = rw (take_rest (b ∷ t) 1) at none in
+      ⊎_elim
+      (λ few. (going_space b t g is).same ∙ rw none-left at (numeral_go line.letter line.count line.numbers few t))
+      (λ full. going_full (b ∷ t) g is full)
+      (lt_or_le line.count numbers_kept)
+
+  pub going_more : (rest : List ℕ) → LineGoing s line rest → {v : ℕ} {next : Line} {after : List ℕ}
+      → get_or rest 0 0 ≡ space → numeral_read (after_first rest) ≡ Some (v, after) → line.count < numbers_kept
+      → next ≡ with_number line v → LineGoing s next after
+  going_more [] g is read few next-is = absurd (omega arith)
+  going_more (b ∷ t) g {v} {next} {after} is read few next-is =
+      let read-left = rw (take_rest (b ∷ t) 1) at read in
+      let more : Goes (state Space line.letter 0 line.count line.numbers) t
+      (state Letter line.letter 0 (line.count + 1) (set line.numbers line.count v)) after =
+      rw read-left at (numeral_go line.letter line.count line.numbers few t) in
+      rw next-is
+      (record {
+        few = omega arith;
+        shape = ap (λ (l : Line). with_number l v) g.shape;
+        goes = goes_on (going_space b t g is) more;
+      })
+
+  pub going_other : (rest : List ℕ) → LineGoing s line rest → 1 ≤ length rest → (get_or rest 0 0 ≡ space → ⊥)
+      → (get_or rest 0 0 ≡ line_feed → ⊥) → line_after empty_line s ≡ malformed_line
+  unfolding feed_by
+  going_other [] g some other differs = absurd (omega arith)
+  going_other (b ∷ t) g some other differs =
+      g.goes.same
+      ∙ refused (state Letter line.letter 0 line.count line.numbers) b t differs (simp (ne_eqb b space other))
+
+  pub going_ended : (rest : List ℕ) → LineGoing s line rest → length rest < 1 → FormedRead s line rest
+  unfolding end_by run_of line_end
+  going_ended [] g none = record { line_is = g.shape ∙ sym g.goes.same; rest_is = sym g.goes.rest }
+  going_ended (b ∷ t) g none = absurd (omega arith)
+
+  pub going_line_feed : (rest : List ℕ) → LineGoing s line rest → get_or rest 0 0 ≡ line_feed → FormedRead s line rest
+  unfolding end_by run_of line_end
+  going_line_feed [] g is = absurd (omega arith)
+  going_line_feed (b ∷ t) g is =
+      let now = state Letter line.letter 0 line.count line.numbers in
       record {
-        end_is = omega (arith, r.end_is, end_later sheet i l (λ e. omega (arith, range.0)));
-        within = r.within;
-        line_is =
-            r.line_is
-            ∙ sym (rw (add-one, drop-cons sheet i 0 l)
-            (after_fed empty_line (letter_line b) b (drop (suc i) sheet) (λ e. omega (arith, range.0)) fed));
+        line_is = g.shape ∙ sym (after_end now b t is) ∙ sym g.goes.same;
+        rest_is = sym (g.goes.rest ∙ rw (eq-eqb b line_feed is));
+      }
+
+pub ruleset line_laws = (
+  letter_other,
+  letter_first,
+  going_none,
+  going_full,
+  going_other,
+  going_ended,
+  going_line_feed,
+)
+
+-- ---- the line that begins at a place
+
+-- the bytes of a sheet from a place on, as a slice has them
+abbrev bytes_from : List ℕ → ℕ → List ℕ
+bytes_from sheet from = take (length sheet - from) (drop from sheet)
+
+module _ (sheet : List ℕ) (from : ℕ) (begins : from < length sheet) where
+  left_within : from + line_end (drop from sheet) ≤ length sheet
+  left_within = omega (arith, end_within (drop from sheet), length-drop from sheet)
+
+  pub whole_formed : (line : Line) (rest : List ℕ) → FormedRead (bytes_from sheet from) line rest
+      → WholeAt sheet from (record { line = line; end = length sheet - length rest })
+  whole_formed line rest read =
+      let s = drop from sheet in
+      let read-on : FormedRead s line rest = rw (take_rest sheet from) at read in
+      let left : length rest ≡ length s - line_end s =
+      ap length read-on.rest_is ∙ length-drop (line_end s) s in
+      record {
+        end_is = omega (arith, left, left_within, length-drop from sheet);
+        within = omega arith;
+        line_is = read-on.line_is;
+      }
+
+  pub whole_malformed : (end : ℕ) → line_after empty_line (bytes_from sheet from) ≡ malformed_line
+      → end ≡ line_end (bytes_from sheet from)
+      → WholeAt sheet from (record { line = malformed_line; end = from + end })
+  whole_malformed end malformed is =
+      record {
+        end_is = ap (λ (k : ℕ). from + k) (rw (take_rest sheet from) at is);
+        within = rw (is, take_rest sheet from) left_within;
+        line_is = sym (rw (take_rest sheet from) at malformed);
       }

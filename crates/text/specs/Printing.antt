@@ -1,8 +1,8 @@
 -- Document 01, "prints per line the number, then any value, then `A`'s strikes", "All figures are written in base
 -- ten.": the bytes that are printed for an answer. Assumes nothing.
-use Rattle.std.specs.Prelude.{ℕ, zero, suc, ◌+◌, ◌*◌, ◌/◌, ◌%◌, cond, List, [], ◌∷◌, ◌++◌, eqb, ltb}
-use Rattle.word.specs.declared.answer.Answer.{Answer}
-use Rattle.word.specs.declared.answer.Answer.TheVariants.{Done, Ground, Removed, Listed, Refused}
+use Rattle.std.specs.Prelude.{ℕ, zero, suc, ◌+◌, ◌*◌, ◌/◌, ◌%◌, cond, List, [], ◌∷◌, ◌++◌, eqb, ltb, Ok, Err}
+use Rattle.word.specs.Answers.{Answer}
+use Rattle.word.specs.declared.answer.Accepted.TheVariants.{Done, Ground, Removed, Listed}
 use Rattle.word.specs.Answers.{answer_number, refusal_value}
 use Rattle.text.specs.Alphabet.{line_feed, space, zero_digit, base}
 
@@ -32,11 +32,11 @@ value_or_none v = cond (eqb v 0) [] (v ∷ [])
 -- strikes"; "Other calls carry 0, unprinted."; "a refusal prints its number, and for 15 on `A` the value too": no other
 -- refusal has a value but 0
 unfoldable pub after_number : Answer → List ℕ → List ℕ
-after_number Done strikes = []
-after_number (Ground g) strikes = g ∷ []
-after_number (Removed count) strikes = count ∷ []
-after_number (Listed count) strikes = count ∷ strikes
-after_number (Refused why) strikes = value_or_none (refusal_value why)
+after_number (Ok Done) strikes = []
+after_number (Ok (Ground g)) strikes = g ∷ []
+after_number (Ok (Removed count)) strikes = count ∷ []
+after_number (Ok (Listed count)) strikes = count ∷ strikes
+after_number (Err why) strikes = value_or_none (refusal_value why)
 
 -- "prints per line the number, then any value, then `A`'s strikes", and the line end
 unfoldable pub answer_text : Answer → List ℕ → List ℕ

@@ -1,15 +1,19 @@
 -- The call of a line is made, and the number and the value of its answer are written where there is place for them.
-use Rattle.std.proofs.Common.{◌∙◌}
+use Rattle.std.proofs.Common.{refl}
+use Rattle.sheet_calls.proofs.Lending.{lent_again}
 use Rattle.sheet_calls.proofs.Sheets.{read_more, read_done}
 use Rattle.sheet_calls.proofs.sheet.answer_lines.Goals as goal
 
-pub loop-from-preserved : goal.loop-from-preserved
-loop-from-preserved c =
-    let answered = c.answer_line-answered in
-    let number = c.put-at in
-    let value = c.put-at-in-loop-from in
-    read_more c.loop-from.invariant c.loop-from-test.true answered.ensures answered.auto.run answered.auto.second
-    (value.auto.answers ∙ number.auto.answers) c.number.ensures number.ensures c.value.ensures value.ensures
+pub loop-line-preserved : goal.loop-line-preserved
+loop-line-preserved c =
+    let so-far = c.loop-line.invariant in
+    let made = c.make_line-answer.ensures in
+    record {
+      so_far =
+          read_more so-far.so_far c.in-Some.ensures.steps made.made made.lent.room
+          (rw (c.put-in-loop-line.ensures, c.put.ensures, c.number_of.ensures, c.value_of.ensures) refl);
+      lent = lent_again so-far.lent made.lent;
+    }
 
-pub returns : goal.returns
-returns c = read_done c.loop-from.invariant c.loop-from-test.false
+pub returns-clause-run : goal.returns-clause-run
+returns-clause-run c = read_done c.loop-line.invariant.so_far c.in-None.ensures.steps.0

@@ -1,12 +1,13 @@
 -- `answer_lines` reads the sheet to its end: what the lines that are left make of the present words is what the whole
 -- sheet makes of the first ones.
-use Rattle.std.proofs.Common.{length, ◌-◌}
+use Rattle.sheet_calls.specs.Lending.{LentOn}
 use Rattle.sheet_calls.proofs.Sheets.{SheetSoFar}
 use Rattle.sheet_calls.proofs.sheet.answer_lines.Given as goal
 
-abbrev pub invariant-loop-from : goal.invariant-loop-from
-invariant-loop-from l =
-    SheetSoFar l.fn.run l.fn.second l.sheet l.fn.answers l.tested l.run l.second l.answers l.lines l.at l.from
-
-abbrev pub decreases-loop-from : goal.decreases-loop-from
-decreases-loop-from l = length l.sheet - l.from
+abbrev pub invariant-loop-line : goal.invariant-loop-line
+invariant-loop-line l =
+    record {
+      so_far : SheetSoFar l.fn.lent.run.now l.fn.lent.second.now l.sheet l.fn.answers
+          l.lent.run.now l.lent.second.now l.answers l.lines l.line-iterator.0.now;
+      lent : LentOn l.fn.lent l.lent;
+    }

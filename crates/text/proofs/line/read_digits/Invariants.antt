@@ -1,16 +1,10 @@
--- What the digits that are left give from here is what all of them give from the start.
-use Rattle.std.proofs.Common.{◌≡◌, ◌+◌, ◌-◌, ◌≤◌, length, drop, take}
-use Rattle.text.specs.WholeLines.{digits_length, grown_by}
+-- What the bytes that are left give from here is what all of them give from the start.
+use Rattle.std.proofs.Common.{◌≡◌, length}
+use Rattle.text.specs.WholeLines.{digits_read}
 use Rattle.text.proofs.line.read_digits.Given as goal
 
-abbrev pub invariant-loop-i : goal.invariant-loop-i
-invariant-loop-i l = record {
-  within : l.i ≤ length l.sheet;
-  ends : l.i + digits_length (drop l.i l.sheet) ≡ l.from + digits_length (drop l.from l.sheet);
-  grown :
-      grown_by l.value (take (digits_length (drop l.i l.sheet)) (drop l.i l.sheet))
-      ≡ grown_by l.first (take (digits_length (drop l.from l.sheet)) (drop l.from l.sheet));
-}
+abbrev pub invariant-loop-rest : goal.invariant-loop-rest
+invariant-loop-rest l = digits_read l.number l.rest ≡ digits_read l.first l.bytes
 
-abbrev pub decreases-loop-i : goal.decreases-loop-i
-decreases-loop-i l = length l.sheet - l.i
+abbrev pub decreases-loop-rest : goal.decreases-loop-rest
+decreases-loop-rest l = length l.rest
