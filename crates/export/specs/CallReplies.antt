@@ -2,11 +2,11 @@
 -- contract of the call gives, with every word of both runs; and request #104, the three numbers of a counter's reply.
 -- Assumes nothing.
 use Rattle.std.specs.Prelude.{ℕ, ◌≡◌, List}
-use Rattle.word.specs.declared.answer.Answer.{Answer}
+use Rattle.word.specs.Answers.{Answer}
 use Rattle.word.specs.Answers.{answer_number, answer_value}
 use Rattle.book.specs.Calls.{Call}
 use Rattle.book.specs.Made.{Made, Begun}
-use Rattle.word.specs.declared.counter.CounterAnswer.{CounterAnswer}
+use Rattle.word.specs.Counters.{CounterAnswer}
 use Rattle.book.specs.CounterReads.{counter_number, counts_told}
 use Rattle.export.specs.declared.Reply.{Reply}
 use Rattle.export.specs.declared.CounterReply.{CounterReply}

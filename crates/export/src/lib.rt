@@ -9,7 +9,7 @@ ghost use Rattle.book.specs.CounterReads.{counter_read, counter_said};
 ghost use Rattle.sheet_calls.specs.Sheets.{SheetRun};
 ghost use Rattle.export.specs.CallReplies.{Answered, Carries, Started, counter_reply};
 
-use word::answer::Answer;
+use word::answer::{Answer, number_of, value_of};
 use word::counter::CounterAnswer;
 
 // The number and the value of an answer, document 01's.
@@ -20,12 +20,14 @@ pub struct Reply {
     pub value: u32,
 }
 
-pub fn reply_of(answer: Answer) -> Reply
-    ensures { Carries result answer }
-{
-    Reply {
-        number: answer.number(),
-        value: answer.value(),
+impl From<Answer> for Reply {
+    ghost from_gives = { λ answer reply. Carries reply answer };
+
+    fn from(answer: Answer) -> Reply {
+        Reply {
+            number: number_of(answer),
+            value: value_of(answer),
+        }
     }
 }
 
@@ -38,20 +40,22 @@ pub struct CounterReply {
     pub strikes: u32,
 }
 
-fn counter_reply_of(answer: CounterAnswer) -> CounterReply
-    ensures { result ≡ counter_reply answer }
-{
-    match answer {
-        CounterAnswer::Counted(counts) => CounterReply {
-            number: 0,
-            own: counts.own,
-            strikes: counts.strikes,
-        },
-        CounterAnswer::Refused(refusal) => CounterReply {
-            number: refusal.number(),
-            own: 0,
-            strikes: 0,
-        },
+impl From<CounterAnswer> for CounterReply {
+    ghost from_gives = { λ answer reply. reply ≡ counter_reply answer };
+
+    fn from(answer: CounterAnswer) -> CounterReply {
+        match answer {
+            Ok(counts) => CounterReply {
+                number: 0,
+                own: counts.own,
+                strikes: counts.strikes,
+            },
+            Err(refusal) => CounterReply {
+                number: refusal.number(),
+                own: 0,
+                strikes: 0,
+            },
+        }
     }
 }
 
@@ -66,84 +70,84 @@ pub fn strike_book_is_book(run: &[u32]) -> bool
 pub fn strike_book_fresh(run: &mut [u32]) -> Reply
     ensures { Started run.old result run.new }
 {
-    reply_of(scan::fresh(run))
+    Reply::from(scan::fresh(run))
 }
 
 // `M`.
 pub fn strike_book_set_month(run: &mut [u32], m: u32) -> Reply
     ensures { Answered (call_m m) run.old [] result run.new [] }
 {
-    reply_of(call::set_month(run, m))
+    Reply::from(call::set_month(run, m))
 }
 
 // `O`.
 pub fn strike_book_open_class(run: &mut [u32], c: u32) -> Reply
     ensures { Answered (on c call_o) run.old [] result run.new [] }
 {
-    reply_of(call::open_class(run, c))
+    Reply::from(call::open_class(run, c))
 }
 
 // `C`.
 pub fn strike_book_set_close(run: &mut [u32], c: u32, p: u32) -> Reply
     ensures { Answered (on c (call_c p)) run.old [] result run.new [] }
 {
-    reply_of(call::set_close(run, c, p))
+    Reply::from(call::set_close(run, c, p))
 }
 
 // `H`.
 pub fn strike_book_set_low_high(run: &mut [u32], c: u32, low: u32, high: u32) -> Reply
     ensures { Answered (on c (call_h low high)) run.old [] result run.new [] }
 {
-    reply_of(call::set_low_high(run, c, low, high))
+    Reply::from(call::set_low_high(run, c, low, high))
 }
 
 // `V`.
 pub fn strike_book_set_volume(run: &mut [u32], c: u32, n: u32) -> Reply
     ensures { Answered (on c (call_v n)) run.old [] result run.new [] }
 {
-    reply_of(call::set_volume(run, c, n))
+    Reply::from(call::set_volume(run, c, n))
 }
 
 // `D`.
 pub fn strike_book_designate(run: &mut [u32], c: u32, p: u32, d: u32) -> Reply
     ensures { Answered (on c (call_d p d)) run.old [] result run.new [] }
 {
-    reply_of(call::designate(run, c, p, d))
+    Reply::from(call::designate(run, c, p, d))
 }
 
 // `L`.
 pub fn strike_book_list_strike(run: &mut [u32], c: u32, m: u32, h: u32) -> Reply
     ensures { Answered (on c (call_l m h)) run.old [] result run.new [] }
 {
-    reply_of(call::list_strike(run, c, m, h))
+    Reply::from(call::list_strike(run, c, m, h))
 }
 
 // `J`.
 pub fn strike_book_judge_strike(run: &[u32], c: u32, m: u32, h: u32) -> Reply
     ensures { Answered (on c (call_j m h)) run.now [] result run.now [] }
 {
-    reply_of(call::judge_strike(run, c, m, h))
+    Reply::from(call::judge_strike(run, c, m, h))
 }
 
 // `X`.
 pub fn strike_book_delist_strike(run: &mut [u32], c: u32, m: u32, h: u32) -> Reply
     ensures { Answered (on c (call_x m h)) run.old [] result run.new [] }
 {
-    reply_of(call::delist_strike(run, c, m, h))
+    Reply::from(call::delist_strike(run, c, m, h))
 }
 
 // `I`.
 pub fn strike_book_mark_strike(run: &mut [u32], c: u32, m: u32, h: u32, a: u32, b: u32) -> Reply
     ensures { Answered (on c (call_i m h a b)) run.old [] result run.new [] }
 {
-    reply_of(call::mark_strike(run, c, m, h, a, b))
+    Reply::from(call::mark_strike(run, c, m, h, a, b))
 }
 
 // `R`.
 pub fn strike_book_review_class(run: &mut [u32], c: u32) -> Reply
     ensures { Answered (on c call_r) run.old [] result run.new [] }
 {
-    reply_of(call::review_class(run, c))
+    Reply::from(call::review_class(run, c))
 }
 
 // `A`.
@@ -151,7 +155,7 @@ pub fn strike_book_list_permitted(run: &[u32], second: &mut [u32], c: u32, m: u3
     ensures { Answered (on c (call_a m)) run.now second.old
         result run.now second.new }
 {
-    reply_of(call::list_permitted(run, second, c, m))
+    Reply::from(call::list_permitted(run, second, c, m))
 }
 
 // A whole sheet.
@@ -171,7 +175,7 @@ pub fn strike_book_run_sheet(
 pub fn strike_book_read_counter(run: &[u32], p: u32) -> CounterReply
     ensures { result ≡ counter_reply (counter_read p run.now) }
 {
-    counter_reply_of(call::read_counter(run, p))
+    CounterReply::from(call::read_counter(run, p))
 }
 
 // The same over a run that is known to be a book.
@@ -179,5 +183,5 @@ pub fn strike_book_read_known_counter(run: &[u32], p: u32) -> CounterReply
     ensures { (result ≡ counter_reply (counter_said p run.now))
         × (T (is_book run.now) → result ≡ counter_reply (counter_read p run.now)) }
 {
-    counter_reply_of(call::read_known_counter(run, p))
+    CounterReply::from(call::read_known_counter(run, p))
 }

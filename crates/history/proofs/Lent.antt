@@ -6,7 +6,7 @@ use native.Mathlib.Omega.{arith}
 use lib.ListN.{length, take, drop, length-take, take-append-drop}
 use lib.Seq.{drop-append-le}
 use lib.Dec.{T}
-use Rattle.word.specs.declared.answer.Answer.{Answer}
+use Rattle.word.specs.Answers.{Answer}
 use Rattle.book.specs.Layout.{facts_of}
 use Rattle.book.specs.Books.{is_book}
 use Rattle.book.specs.Calls.{written}

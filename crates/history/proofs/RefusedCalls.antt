@@ -6,8 +6,8 @@ use mathlib.Core.Bool.{Bool, true, false, cond}
 use mathlib.Core.List.{List}
 use lib.ListN.{length}
 use borrow.Author.Tests.{ne_eqb}
-use Rattle.word.specs.declared.answer.Answer.{Answer}
-use Rattle.word.specs.declared.answer.Answer.TheVariants.{Refused}
+use Rattle.std.specs.Prelude.{Err}
+use Rattle.word.specs.Answers.{Answer}
 use Rattle.word.specs.declared.answer.Refusal.TheVariants.{NotABook}
 use Rattle.word.specs.Answers.{answer_number, is_accepted}
 use Rattle.word.proofs.Refusals.{accepted_zero}
@@ -24,7 +24,7 @@ pub refused_same :
 refused_same {x} {w} {v} {w'} {v'} {r} m refused = go (is_book w) refl m.answer m.words m.second
   where
     go :
-        (b : Bool) → is_book w ≡ b → r ≡ cond b (answer_to (length w) (length v) x (facts_of w)) (Refused NotABook)
+        (b : Bool) → is_book w ≡ b → r ≡ cond b (answer_to (length w) (length v) x (facts_of w)) (Err NotABook)
         → w' ≡ cond b (layout (length w) (step (length w) x (facts_of w))) w
         → v' ≡ cond b (over (written (length w) (length v) x (facts_of w)) v) v → (w' ≡ w) × (v' ≡ v)
     go false is answer words second = (words, second)

@@ -7,8 +7,9 @@ use mathlib.Core.Logic.Iff
 use mathlib.Core.Logic.{◌↔◌}
 use lib.ListN.{length, replicate, length-replicate}
 use lib.Dec.{T}
-use Rattle.word.specs.declared.answer.Answer.{Answer}
-use Rattle.word.specs.declared.answer.Answer.TheVariants.{Done}
+use Rattle.std.specs.Prelude.{Ok}
+use Rattle.word.specs.Answers.{Answer}
+use Rattle.word.specs.declared.answer.Accepted.TheVariants.{Done}
 use Rattle.word.specs.Limits.{is_length}
 use Rattle.book.specs.Facts.{Facts, fresh}
 use Rattle.book.specs.Layout.{layout}
@@ -102,7 +103,7 @@ whole_exists {n} long xs =
       record {
         held = replicate n 0;
         book = layout n fresh;
-        answer = Done;
+        answer = Ok Done;
         size = size;
         begun = record { answer = rw (size, is); words = rw (size, is) };
         turns = made.0;

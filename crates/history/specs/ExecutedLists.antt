@@ -1,9 +1,9 @@
 -- Document 01, "Its first call gets the fresh book, each later one the book as the call before left it", executed: what
 -- `run_calls` leaves of the calls that the list's words hold; a run of a bad length is refused and keeps its words.
 -- Assumes nothing.
-use Rattle.std.specs.Prelude.{ℕ, min, ◌≡◌, cond, List, map, length}
-use Rattle.word.specs.declared.answer.Answer.{Answer}
-use Rattle.word.specs.declared.answer.Answer.TheVariants.{Done, Refused}
+use Rattle.std.specs.Prelude.{ℕ, min, ◌≡◌, cond, List, map, length, Ok, Err}
+use Rattle.word.specs.Answers.{Answer}
+use Rattle.word.specs.declared.answer.Accepted.TheVariants.{Done}
 use Rattle.word.specs.declared.answer.Refusal.TheVariants.{NotABook}
 use Rattle.word.specs.Limits.{is_length}
 use Rattle.book.specs.Facts.{fresh}
@@ -32,7 +32,7 @@ pub record MadeInTurn (w pool calls w' pool' : List ℕ) : Type 0 where
 -- any words w, any pool, and any words `calls` of a list: the answer, and the words w' and pool' that are left. What
 -- the facts are follows from the length and the list alone
 pub record Ran (w pool calls : List ℕ) (r : Answer) (w' pool' : List ℕ) : Type 0 where
-  pub answer : r ≡ cond (is_length (length w)) Done (Refused NotABook)
+  pub answer : r ≡ cond (is_length (length w)) (Ok Done) (Err NotABook)
   pub words : w' ≡ cond (is_length (length w)) (layout (length w) (after (length w) (calls_alone (calls_of calls)))) w
   pub second :
       pool'

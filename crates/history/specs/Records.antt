@@ -1,28 +1,14 @@
 -- Document 01, "each call's letter and numbers in turn, and for `A` the second run's length", as words: eight words a
 -- call, its letter in ASCII, how many numbers it has, five numbers, of which it has the first ones, and the length of
 -- the second run that it asks for. Assumes nothing.
-use Rattle.std.specs.Prelude.{ℕ, ◌+◌, ◌^◌, Bool, List, [], ◌∷◌, ◌++◌, ltb, length, get_or, take, drop}
+use Rattle.std.specs.Prelude.{ℕ, ◌^◌, Bool, List, [], ◌∷◌, ◌++◌, ltb, length, get_or, take}
 use Rattle.logic.specs.Lists.{every}
 use Rattle.book.specs.CallLists.{LentCall}
 use Rattle.book.specs.Letters.{call_of, spelled}
 
--- ---- the words of a record: how many, and where its letter, the count of its numbers, its numbers and the length of
--- the second run stand in it
-
+-- how many words a record has
 abbrev pub record_length : ℕ
 record_length = 8
-
-abbrev pub letter_at : ℕ
-letter_at = 0
-
-abbrev pub count_at : ℕ
-count_at = 1
-
-abbrev pub numbers_at : ℕ
-numbers_at = 2
-
-abbrev pub room_at : ℕ
-room_at = 7
 
 -- how many numbers a record holds
 abbrev pub numbers_held : ℕ
@@ -34,11 +20,12 @@ numbers_held = 5
 abbrev pub call_from : (letter count : ℕ) → (numbers : List ℕ) → (room : ℕ) → LentCall
 call_from letter count numbers room = record { call = call_of letter (take count numbers); room = room }
 
--- the call of the record from the place i on
-abbrev pub call_at : ℕ → List ℕ → LentCall
-call_at i l =
-    call_from (get_or l (i + letter_at) 0) (get_or l (i + count_at) 0) (take numbers_held (drop (i + numbers_at) l))
-    (get_or l (i + room_at) 0)
+-- the call of the words of one record
+abbrev pub call_of_record : List ℕ → LentCall
+call_of_record l =
+    call_from (get_or l 0 0) (get_or l 1 0)
+    (get_or l 2 0 ∷ get_or l 3 0 ∷ get_or l 4 0 ∷ get_or l 5 0 ∷ get_or l 6 0 ∷ [])
+    (get_or l 7 0)
 
 -- words left over after the last whole record are no call
 unfoldable pub calls_of : List ℕ → List LentCall

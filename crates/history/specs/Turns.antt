@@ -2,7 +2,7 @@
 -- numbers.", and request #103, `H`, the twelfth; "Its first call gets the fresh book ..": the calls of a list made in
 -- turn, from the contract of each. Assumes nothing.
 use Rattle.std.specs.Prelude.{ℕ, ◌≡◌, Bool, not, List, [], ◌∷◌, length, eqb}
-use Rattle.word.specs.declared.answer.Answer.{Answer}
+use Rattle.word.specs.Answers.{Answer}
 use Rattle.word.specs.Answers.{answer_number}
 use Rattle.logic.specs.Lists.{every}
 use Rattle.book.specs.Calls.{Call}

@@ -1,9 +1,9 @@
 // Whole lists of calls from a fresh book, and two of them compared.
 #![tactic(auto)]
 
-ghost use Rattle.std.specs.Prelude.{◌+◌, ◌≤◌, min, ◌≡◌, T, length};
-ghost use Rattle.book.specs.Books.{is_book, same_words};
-ghost use Rattle.history.specs.Records.{record_length, call_at};
+ghost use Rattle.std.specs.Prelude.{T};
+ghost use Rattle.book.specs.Books.{is_book};
+ghost use Rattle.history.specs.Records.{call_of_record};
 ghost use Rattle.history.specs.ExecutedLists.{Lent, MadeInTurn, Ran};
 ghost use Rattle.history.specs.Comparisons.{Compared};
 
@@ -11,7 +11,7 @@ use dispatch::make_call;
 use scan::fresh;
 use word::answer::Answer;
 
-// Whether two lists of calls leave the same book.
+// Whether two lists of calls leave the same book. The contract of `compare_lists` names these three, none with a value.
 #[derive(Clone, Copy)]
 pub enum Comparison {
     Equal,
@@ -19,48 +19,21 @@ pub enum Comparison {
     BadLength,
 }
 
-// The words of a record of a list: how many, and where its letter, the count of its numbers, its numbers and the length
-// of the second run that it asks for stand in it.
+// How many words a record of a list has.
 const RECORD_LENGTH: usize = 8;
 
-const LETTER_AT: usize = 0;
-
-const COUNT_AT: usize = 1;
-
-const NUMBERS_AT: usize = 2;
-
-const ROOM_AT: usize = 7;
-
-// How many numbers a record holds.
-const NUMBERS_HELD: usize = 5;
-
-// The lower of two lengths.
-fn lower(a: usize, b: usize) -> usize
-    ensures { result ≡ min a b }
-{
-    if a < b {
-        return a;
-    }
-    b
-}
-
-// Makes the call of the record at a place of a list. It is lent as many words of the pool as it asks for, or all, and
-// no places.
-fn make_record(run: &mut [u32], pool: &mut [u32], calls: &[u32], at: usize) -> Answer
-    requires { T (is_book run.old) × (at + record_length ≤ length calls.now) }
-    ensures { Lent (call_at at calls.now) run.old pool.old
+// Makes the call of a record: a letter, how many numbers it has, the numbers, and the length of its second run. It is
+// lent as many words of the pool as it asks for, or all, and no places.
+fn make_record(run: &mut [u32], pool: &mut [u32], words: &[u32; RECORD_LENGTH]) -> Answer
+    requires { T (is_book run.old) }
+    ensures { Lent (call_of_record words.now) run.old pool.old
         result run.new pool.new }
 {
-    let room = lower(calls[at + ROOM_AT] as usize, pool.len());
-    let from = at + NUMBERS_AT;
-    let to = from + lower(calls[at + COUNT_AT] as usize, NUMBERS_HELD);
-    make_call(
-        run,
-        &mut pool[0..room],
-        &mut [],
-        calls[at + LETTER_AT],
-        &calls[from..to],
-    )
+    let [letter, count, a, b, c, d, e, room] = *words;
+    let numbers = [a, b, c, d, e];
+    let count = numbers.len().min(count as usize);
+    let room = pool.len().min(room as usize);
+    make_call(run, &mut pool[..room], &mut [], letter, &numbers[..count])
 }
 
 // Makes the calls of a list of records in turn, on a run that is a book.
@@ -69,10 +42,9 @@ fn make_calls(run: &mut [u32], pool: &mut [u32], calls: &[u32])
     ensures { MadeInTurn run.old pool.old calls.now
         run.new pool.new }
 {
-    let mut i = 0;
-    while RECORD_LENGTH <= calls.len() - i {
-        make_record(run, pool, calls, i);
-        i += RECORD_LENGTH;
+    let (records, _) = calls.as_chunks();
+    for record in records {
+        let _ = make_record(run, pool, record);
     }
 }
 
@@ -82,26 +54,9 @@ pub fn run_calls(run: &mut [u32], pool: &mut [u32], calls: &[u32]) -> Answer
     ensures { Ran run.old pool.old calls.now
         result run.new pool.new }
 {
-    let answer = fresh(run);
-    if let Answer::Done = answer {
-        make_calls(run, pool, calls);
-    }
-    answer
-}
-
-// Whether two runs of one length hold the same words.
-fn are_same(left: &[u32], right: &[u32]) -> bool
-    requires { length left.now ≡ length right.now }
-    ensures { result ≡ same_words left.now right.now }
-{
-    let mut i = 0;
-    while i < left.len() {
-        if left[i] != right[i] {
-            return false;
-        }
-        i += 1;
-    }
-    true
+    let begun = fresh(run)?;
+    make_calls(run, pool, calls);
+    Ok(begun)
 }
 
 // Runs one list of calls on each of two runs of one length, and compares the books that they leave.
@@ -119,12 +74,12 @@ pub fn compare_lists(
     if left.len() != right.len() {
         return Comparison::BadLength;
     }
-    let answer = run_calls(left, pool, calls);
-    let Answer::Done = answer else {
+    if run_calls(left, pool, calls).is_err() {
         return Comparison::BadLength;
-    };
-    run_calls(right, pool, others);
-    if are_same(left, right) {
+    }
+    // No other length is refused.
+    let _ = run_calls(right, pool, others);
+    if &*left == &*right {
         return Comparison::Equal;
     }
     Comparison::Different

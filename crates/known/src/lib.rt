@@ -9,7 +9,7 @@ ghost use Rattle.book.specs.Calls.{call_m, on, call_o, call_c, call_h, call_v, c
 ghost use Rattle.sheet_calls.specs.Sheets.{SheetRun};
 ghost use Rattle.export.specs.CallReplies.{Answered};
 
-use export::{Reply, reply_of};
+use export::Reply;
 use word::strike::Marks;
 
 // `M`.
@@ -17,7 +17,7 @@ pub fn strike_book_known_set_month(run: &mut [u32], m: u32) -> Reply
     requires { T (is_book run.old) }
     ensures { Answered (call_m m) run.old [] result run.new [] }
 {
-    reply_of(class_call::set_month(run, m))
+    Reply::from(class_call::set_month(run, m))
 }
 
 // `O`.
@@ -25,7 +25,7 @@ pub fn strike_book_known_open_class(run: &mut [u32], places: &mut [u32], c: u32)
     requires { T (is_book run.old) }
     ensures { Answered (on c call_o) run.old [] result run.new [] }
 {
-    reply_of(class_call::open_class(run, c, places))
+    Reply::from(class_call::open_class(run, c, places))
 }
 
 // `C`.
@@ -33,7 +33,7 @@ pub fn strike_book_known_set_close(run: &mut [u32], places: &mut [u32], c: u32, 
     requires { T (is_book run.old) }
     ensures { Answered (on c (call_c p)) run.old [] result run.new [] }
 {
-    reply_of(class_call::set_close(run, c, p, places))
+    Reply::from(class_call::set_close(run, c, p, places))
 }
 
 // `H`.
@@ -47,7 +47,7 @@ pub fn strike_book_known_set_low_high(
     requires { T (is_book run.old) }
     ensures { Answered (on c (call_h low high)) run.old [] result run.new [] }
 {
-    reply_of(class_call::set_low_high(run, c, low, high, places))
+    Reply::from(class_call::set_low_high(run, c, low, high, places))
 }
 
 // `V`.
@@ -55,7 +55,7 @@ pub fn strike_book_known_set_volume(run: &mut [u32], places: &mut [u32], c: u32,
     requires { T (is_book run.old) }
     ensures { Answered (on c (call_v n)) run.old [] result run.new [] }
 {
-    reply_of(class_call::set_volume(run, c, n, places))
+    Reply::from(class_call::set_volume(run, c, n, places))
 }
 
 // `D`.
@@ -69,7 +69,7 @@ pub fn strike_book_known_designate(
     requires { T (is_book run.old) }
     ensures { Answered (on c (call_d p d)) run.old [] result run.new [] }
 {
-    reply_of(class_call::designate(run, c, p, d, places))
+    Reply::from(class_call::designate(run, c, p, d, places))
 }
 
 // `L`.
@@ -83,7 +83,7 @@ pub fn strike_book_known_list_strike(
     requires { T (is_book run.old) }
     ensures { Answered (on c (call_l m h)) run.old [] result run.new [] }
 {
-    reply_of(strike_call::list_strike(run, c, m, h, places))
+    Reply::from(strike_call::list_strike(run, c, m, h, places))
 }
 
 // `J`.
@@ -97,7 +97,7 @@ pub fn strike_book_known_judge_strike(
     requires { T (is_book run.now) }
     ensures { Answered (on c (call_j m h)) run.now [] result run.now [] }
 {
-    reply_of(strike_call::judge_strike(run, c, m, h, places))
+    Reply::from(strike_call::judge_strike(run, c, m, h, places))
 }
 
 // `X`.
@@ -111,7 +111,7 @@ pub fn strike_book_known_delist_strike(
     requires { T (is_book run.old) }
     ensures { Answered (on c (call_x m h)) run.old [] result run.new [] }
 {
-    reply_of(strike_call::delist_strike(run, c, m, h, places))
+    Reply::from(strike_call::delist_strike(run, c, m, h, places))
 }
 
 // `I`.
@@ -127,7 +127,7 @@ pub fn strike_book_known_mark_strike(
     requires { T (is_book run.old) }
     ensures { Answered (on c (call_i m h a b)) run.old [] result run.new [] }
 {
-    reply_of(strike_call::mark_strike(run, c, m, h, Marks { put: a, call: b }, places))
+    Reply::from(strike_call::mark_strike(run, c, m, h, Marks { put: a, call: b }, places))
 }
 
 // `R`.
@@ -135,7 +135,7 @@ pub fn strike_book_known_review_class(run: &mut [u32], places: &mut [u32], c: u3
     requires { T (is_book run.old) }
     ensures { Answered (on c call_r) run.old [] result run.new [] }
 {
-    reply_of(class_call::review_class(run, c, places))
+    Reply::from(class_call::review_class(run, c, places))
 }
 
 // `A`.
@@ -150,7 +150,7 @@ pub fn strike_book_known_list_permitted(
     ensures { Answered (on c (call_a m)) run.now second.old
         result run.now second.new }
 {
-    reply_of(strike_call::list_permitted(run, second, c, m, places))
+    Reply::from(strike_call::list_permitted(run, second, c, m, places))
 }
 
 // A whole sheet.

@@ -7,6 +7,7 @@ ghost use Rattle.lists.specs.ListReplies.{Replied, comparison_number, comparison
 use export::Reply;
 use history::Comparison;
 
+// A function and no `From`, which may stand only where one of the two types does.
 fn reply_of(comparison: Comparison) -> Reply
     ensures { (result.number ≡ comparison_number comparison) × (result.value ≡ comparison_value comparison) }
 {

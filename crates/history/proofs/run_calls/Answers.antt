@@ -1,9 +1,9 @@
--- `run_calls` makes a fresh book and then the calls of the list: its two ways out by the answer of `fresh`.
+-- `run_calls` makes a fresh book and then the calls of the list: its way out where `fresh` has made one.
 use Rattle.history.proofs.ExecutedLists.{begun_book, ran_done}
 use Rattle.history.proofs.run_calls.Goals as goal
 
 pub make_calls-requires : goal.make_calls-requires
-make_calls-requires c = begun_book c.fresh-answer.ensures c.in-Done.is
+make_calls-requires c = begun_book c.fresh.ensures c.in_ok-begun.was
 
-pub returns-in-Done : goal.returns-in-Done
-returns-in-Done c = ran_done c.fresh-answer.ensures c.in-Done.is c.make_calls.ensures
+pub returns : goal.returns
+returns c = rw (← c.in_ok-begun.was) (ran_done c.fresh.ensures c.in_ok-begun.was c.make_calls.ensures)
