@@ -16,6 +16,13 @@ pub enum Program {
     TwoFifty = 3,
 }
 
+// Their numbers, as types have them.
+pub const DOLLAR: u32 = 1;
+
+pub const HALF: u32 = 2;
+
+pub const TWO_FIFTY: u32 = 3;
+
 // How many there are.
 pub const COUNT: usize = 3;
 
@@ -69,9 +76,9 @@ impl TryFrom<u32> for Program {
 
     fn try_from(p: u32) -> Result<Program, Refusal> {
         match p {
-            1 => Ok(Program::Dollar),
-            2 => Ok(Program::Half),
-            3 => Ok(Program::TwoFifty),
+            DOLLAR => Ok(Program::Dollar),
+            HALF => Ok(Program::Half),
+            TWO_FIFTY => Ok(Program::TwoFifty),
             _ => Err(Refusal::BeyondLimits),
         }
     }
