@@ -1,6 +1,6 @@
--- What counters hold is small enough for their bits; and strikes counted word by word: a word more adds its own.
--- Assumes nothing.
-use Rattle.std.proofs.Common.{◌≡◌, ℕ, ◌+◌, ◌-◌, ◌^◌, ◌<◌, ◌≤◌, Bool, true, false, cond, ◌&&◌, ◌||◌, T, eqb, leb, List, [], ◌∷◌, length, get_or, take, sym, refl, ap, ◌∙◌, add-one, arith, le→leb, eq-eqb, ne_eqb, eqb-true}
+-- What counters hold is small enough for their bits; and strikes counted word by word: a word more adds its own, and
+-- the counts and what the words from the index on add are together those of all words. Assumes nothing.
+use Rattle.std.proofs.Common.{◌≡◌, ℕ, ◌+◌, ◌-◌, ◌^◌, ◌<◌, ◌≤◌, Bool, true, false, cond, ◌&&◌, ◌||◌, T, eqb, leb, List, [], ◌∷◌, length, get_or, take, drop, sym, refl, ap, ◌∙◌, add-one, arith, le→leb, drop_of_length-le, drop-cons, eq-eqb, ne_eqb, eqb-true}
 use borrow.Author.Tests.{eqb-false}
 use Rattle.logic.specs.Lists.{sum}
 use Rattle.logic.proofs.Tests.{choose, and_intro}
@@ -128,3 +128,37 @@ among_next ws i l = rw (next 1, next 2, next 3)
         let last : sum (strike_of p) (get_or ws i 0 ∷ []) ≡ strike_of p (get_or ws i 0) = omega arith in
         ap (sum (strike_of p)) (ap (λ (n : ℕ). take n ws) (add-one i) ∙ take-suc ws i 0 l)
         ∙ (sum_append (strike_of p) (take i ws) (get_or ws i 0 ∷ []) ∙ ap (λ (n : ℕ). sum (strike_of p) (take i ws) + n) last)
+
+-- the count has come to the index i
+pub record Counting (ws : List ℕ) (i : ℕ) (strikes : List ℕ) : Type 0 where
+  pub within : i ≤ length ws
+  pub few : (p : ℕ) → T (is_program p) → strikes_for strikes p ≤ i
+  pub total : (p : ℕ) → T (is_program p) → strikes_for strikes p + sum (strike_of p) (drop i ws) ≡ sum (strike_of p) ws
+
+pub count_start : (ws : List ℕ) → Counting ws 0 (0 ∷ 0 ∷ 0 ∷ [])
+count_start ws = record {
+  within = omega arith;
+  few = each_program _ (omega arith, (omega arith, (omega arith, tt)));
+  total = each_program _ (omega arith, (omega arith, (omega arith, tt)));
+}
+
+module _ {ws : List ℕ} {i : ℕ} {strikes : List ℕ} (c : Counting ws i strikes) where
+  pub count_more :
+      (more : List ℕ) → i < length ws
+      → ((p : ℕ) → T (is_program p) → strikes_for more p ≡ strikes_for strikes p + strike_of p (get_or ws i 0))
+      → Counting ws (i + 1) more
+  count_more more l e = record {
+    within = omega arith;
+    few = λ p k. omega (arith, e p k, c.few p k, strike_at_most p (get_or ws i 0));
+    total = λ p k. omega (arith, e p k, c.total p k, here p);
+  }
+    where
+      here :
+          (p : ℕ)
+          → sum (strike_of p) (drop i ws) ≡ strike_of p (get_or ws i 0) + sum (strike_of p) (drop (i + 1) ws)
+      here p =
+          ap (sum (strike_of p)) (drop-cons ws i 0 l)
+          ∙ ap (λ (n : ℕ). strike_of p (get_or ws i 0) + sum (strike_of p) (drop n ws)) (sym (add-one i))
+
+  pub count_done : length ws ≤ i → (p : ℕ) → T (is_program p) → strikes_for strikes p ≡ sum (strike_of p) ws
+  count_done l p k = omega (arith, c.total p k, ap (sum (strike_of p)) (drop_of_length-le ws l))
