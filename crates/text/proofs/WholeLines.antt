@@ -18,7 +18,7 @@ use Rattle.text.specs.Alphabet.{line_feed, space, zero_digit, nine_digit, first_
 use Rattle.text.specs.Reading.{numbers_kept, capped, zeros, empty_line, malformed_line, feed_by, feed_of, end_by, end_of, run_of}
 use Rattle.text.specs.Grammar.{is_digit}
 use Rattle.text.specs.SheetLines.{line_end}
-use Rattle.text.specs.WholeLines.{digits_read, numeral_read, with_number, line_after, line_rest, FormedRead, WholeAt}
+use Rattle.text.specs.WholeLines.{digits_read, numeral_read, with_number, line_after, line_rest, FormedRead, FormlessRead, WholeAt}
 use Rattle.logic.proofs.Tests.{bool_cases, lt_or_le, eq_or_not}
 use Rattle.text.proofs.Complete.{Pending, at_zero, in_number, state, feed_space, end_number}
 use Rattle.text.proofs.Sound.{Follows, follows, run_malformed, ended}
@@ -85,13 +85,14 @@ pub ruleset numeral_laws = (numeral_other, numeral_zero, numeral_digits)
 
 -- ---- a line that goes on as another
 
--- a line that goes on in s ends as another does in t, and so do the bytes
+-- a line that goes on in s ends as another does in t, and so do the bytes, of which t has no more
 pub record Goes (l : Line) (s : List ℕ) (m : Line) (t : List ℕ) : Type 0 where
   pub same : line_after l s ≡ line_after m t
   pub rest : line_rest s ≡ line_rest t
+  pub fewer : length t ≤ length s
 
 goes_on : {l m n : Line} {s t u : List ℕ} → Goes l s m t → Goes m t n u → Goes l s n u
-goes_on a b = record { same = a.same ∙ b.same; rest = a.rest ∙ b.rest }
+goes_on a b = record { same = a.same ∙ b.same; rest = a.rest ∙ b.rest; fewer = omega (arith, a.fewer, b.fewer) }
 
 after_end : (l : Line) (b : ℕ) (s : List ℕ) → b ≡ line_feed → line_after l (b ∷ s) ≡ end_of l
 unfolding line_end run_of
@@ -103,6 +104,7 @@ unfolding line_end run_of
 fed l m b s differs is = record {
   same = rw (ne_eqb b line_feed differs) (ap (λ (n : Line). line_after n s) is);
   rest = rw (ne_eqb b line_feed differs);
+  fewer = omega arith;
 }
 
 after_malformed : (s : List ℕ) → line_after malformed_line s ≡ malformed_line
@@ -137,18 +139,18 @@ module _ (c k : ℕ) (ns : List ℕ) (few : k < numbers_kept) where
       refused now b s differs (out other) ∙ sym (refused next b s differs (simp (ne_eqb b space other))))
       (eq_or_not b space))
       (eq_or_not b line_feed) in
-      record { same = same; rest = refl }
+      record { same = same; rest = refl; fewer = omega arith }
 
   zero_read : (s : List ℕ) → Goes (state Zero c 0 k ns) s (state Letter c 0 (k + 1) (set ns k 0)) s
   unfolding feed_by end_by run_of line_end
-  zero_read [] = record { same = end_number at_zero c 0 k ns few; rest = refl }
+  zero_read [] = record { same = end_number at_zero c 0 k ns few; rest = refl; fewer = omega arith }
   zero_read (b ∷ s) = number_ended at_zero 0 b s (λ other. simp (ne_eqb b space other))
 
   digits_go : (s : List ℕ) (v : ℕ)
       → let read = digits_read v s in
       Goes (state Number c v k ns) s (state Letter c 0 (k + 1) (set ns k read.0)) read.1
   unfolding feed_by end_by run_of line_end digits_read
-  digits_go [] v = record { same = end_number in_number c v k ns few; rest = refl }
+  digits_go [] v = record { same = end_number in_number c v k ns few; rest = refl; fewer = omega arith }
   digits_go (b ∷ s) v =
       ⊎_elim
       (λ (e : is_digit b ≡ true).
@@ -225,11 +227,11 @@ sixth_refused c v ns s =
 
 -- ---- the line at the front of s
 
-pub letter_other : (s : List ℕ) → (get_or s 0 0 < first_letter) ⊎ (last_letter < get_or s 0 0)
+no_letter : (s : List ℕ) → (get_or s 0 0 < first_letter) ⊎ (last_letter < get_or s 0 0)
     → line_after empty_line s ≡ malformed_line
 unfolding feed_by end_by run_of line_end
-letter_other [] out = refl
-letter_other (b ∷ s) out =
+no_letter [] out = refl
+no_letter (b ∷ s) out =
     ⊎_elim
     (λ (is : b ≡ line_feed). after_end empty_line b s is)
     (λ differs.
@@ -239,6 +241,9 @@ letter_other (b ∷ s) out =
     (λ over. simp (le-ltb b first_letter (omega arith), lt-ltb last_letter b over))
     out))
     (eq_or_not b line_feed)
+
+pub letter_other : (s : List ℕ) → (get_or s 0 0 < first_letter) ⊎ (last_letter < get_or s 0 0) → FormlessRead s s
+letter_other s out = record { line_is = no_letter s out; rest_is = refl; within = omega arith }
 
 -- it has the form as far as it has been read, up to `rest`
 pub record LineGoing (s : List ℕ) (line : Line) (rest : List ℕ) : Type 0 where
@@ -270,23 +275,42 @@ module _ {s : List ℕ} {line : Line} where
       let spaced : Line = state Space line.letter 0 line.count line.numbers in
       goes_on g.goes (fed now spaced b t (λ e. omega arith) (simp (eq-eqb b space is)))
 
-  pub going_full : (rest : List ℕ) → LineGoing s line rest → get_or rest 0 0 ≡ space → numbers_kept ≤ line.count
+  -- where the line is malformed
+  formless : (rest : List ℕ) → LineGoing s line rest → line_after empty_line s ≡ malformed_line → FormlessRead s rest
+  formless rest g malformed = record { line_is = malformed; rest_is = g.goes.rest; within = g.goes.fewer }
+
+  full_malformed : (b : ℕ) (t : List ℕ) → LineGoing s line (b ∷ t) → b ≡ space → numbers_kept ≤ line.count
       → line_after empty_line s ≡ malformed_line
-  going_full [] g is full = absurd (omega arith)
-  going_full (b ∷ t) g is full =
+  full_malformed b t g is full =
       (going_space b t g is).same
       ∙ ap (λ (k : ℕ). line_after (state Space line.letter 0 k line.numbers) t) (omega (arith, g.few))
       ∙ sixth_refused line.letter 0 line.numbers t
 
+  -- the bytes after a sixth number end as those after any
+  pub going_full : (rest : List ℕ) → LineGoing s line rest → {v : ℕ} {after : List ℕ} → get_or rest 0 0 ≡ space
+      → numeral_read (after_first rest) ≡ Some (v, after) → numbers_kept ≤ line.count → FormlessRead s after
+  going_full [] g is read full = absurd (omega arith)
+  going_full (b ∷ t) g {v} {after} is read full =
+      let read-left = rw (take_rest (b ∷ t) 1) at read in
+      let spaced = going_space b t g is in
+      let first : Goes (state Space 0 0 0 zeros) t (state Letter 0 0 1 (set zeros 0 v)) after =
+      rw read-left at (numeral_go 0 0 zeros (omega arith) t) in
+      record {
+        line_is = full_malformed b t g is full;
+        rest_is = spaced.rest ∙ first.rest;
+        within = omega (arith, spaced.fewer, first.fewer);
+      }
+
   pub going_none : (rest : List ℕ) → LineGoing s line rest → get_or rest 0 0 ≡ space
-      → numeral_read (after_first rest) ≡ None → line_after empty_line s ≡ malformed_line
+      → numeral_read (after_first rest) ≡ None → FormlessRead s rest
   going_none [] g is none = absurd (omega arith)
   going_none (b ∷ t) g is none =
       let none-left = rw (take_rest (b ∷ t) 1) at none in
-      ⊎_elim
+      formless (b ∷ t) g
+      (⊎_elim
       (λ few. (going_space b t g is).same ∙ rw none-left at (numeral_go line.letter line.count line.numbers few t))
-      (λ full. going_full (b ∷ t) g is full)
-      (lt_or_le line.count numbers_kept)
+      (λ full. full_malformed b t g is full)
+      (lt_or_le line.count numbers_kept))
 
   pub going_more : (rest : List ℕ) → LineGoing s line rest → {v : ℕ} {next : Line} {after : List ℕ}
       → get_or rest 0 0 ≡ space → numeral_read (after_first rest) ≡ Some (v, after) → line.count < numbers_kept
@@ -305,12 +329,13 @@ module _ {s : List ℕ} {line : Line} where
       })
 
   pub going_other : (rest : List ℕ) → LineGoing s line rest → 1 ≤ length rest → (get_or rest 0 0 ≡ space → ⊥)
-      → (get_or rest 0 0 ≡ line_feed → ⊥) → line_after empty_line s ≡ malformed_line
+      → (get_or rest 0 0 ≡ line_feed → ⊥) → FormlessRead s rest
   unfolding feed_by
   going_other [] g some other differs = absurd (omega arith)
   going_other (b ∷ t) g some other differs =
-      g.goes.same
-      ∙ refused (state Letter line.letter 0 line.count line.numbers) b t differs (simp (ne_eqb b space other))
+      formless (b ∷ t) g
+      (g.goes.same
+      ∙ refused (state Letter line.letter 0 line.count line.numbers) b t differs (simp (ne_eqb b space other)))
 
   pub going_ended : (rest : List ℕ) → LineGoing s line rest → length rest < 1 → FormedRead s line rest
   unfolding end_by run_of line_end
@@ -360,12 +385,15 @@ module _ (sheet : List ℕ) (from : ℕ) (begins : from < length sheet) where
         line_is = read-on.line_is;
       }
 
-  pub whole_malformed : (end : ℕ) → line_after empty_line (bytes_from sheet from) ≡ malformed_line
-      → end ≡ line_end (bytes_from sheet from)
-      → WholeAt sheet from (record { line = malformed_line; end = from + end })
-  whole_malformed end malformed is =
-      record {
-        end_is = ap (λ (k : ℕ). from + k) (rw (take_rest sheet from) at is);
-        within = rw (is, take_rest sheet from) left_within;
-        line_is = sym (rw (take_rest sheet from) at malformed);
-      }
+  pub whole_malformed : (rest : List ℕ) (end : ℕ) → FormlessRead (bytes_from sheet from) rest → end ≡ line_end rest
+      → WholeAt sheet from (record { line = malformed_line; end = length sheet - length rest + end })
+  whole_malformed rest end read is =
+      let s = drop from sheet in
+      let read-on : FormlessRead s rest = rw (take_rest sheet from) at read in
+      let left : length s - line_end s ≡ length rest - line_end rest =
+      sym (length-drop (line_end s) s) ∙ ap length read-on.rest_is ∙ length-drop (line_end rest) rest in
+      let end-is : length sheet - length rest + end ≡ from + line_end s =
+      omega (arith, is, left, read-on.within, end_within rest, left_within, length-drop from sheet) in
+      record { end_is = end-is; within = omega (arith, end-is, left_within); line_is = sym read-on.line_is }
+
+pub ruleset passing_laws = (end_within, whole_malformed)

@@ -4,7 +4,7 @@ use Rattle.std.specs.Prelude.{ℕ, ◌+◌, ◌*◌, ◌-◌, ◌≤◌, ◌≡�
 use Rattle.text.specs.declared.line.WholeLine.{WholeLine}
 use Rattle.text.specs.declared.line.Line.{Line}
 use Rattle.text.specs.Alphabet.{zero_digit, base}
-use Rattle.text.specs.Reading.{capped, empty_line, run_of, end_of}
+use Rattle.text.specs.Reading.{capped, empty_line, malformed_line, run_of, end_of}
 use Rattle.text.specs.Grammar.{is_digit}
 use Rattle.text.specs.SheetLines.{line_end}
 
@@ -41,6 +41,12 @@ line_rest s = drop (line_end s) s
 pub record FormedRead (s : List ℕ) (line : Line) (rest : List ℕ) : Type 0 where
   pub line_is : line ≡ line_after empty_line s
   pub rest_is : rest ≡ line_rest s
+
+-- the line at the front of s is malformed, and `rest` is left of s where this shows: its end is still to be found there
+pub record FormlessRead (s rest : List ℕ) : Type 0 where
+  pub line_is : line_after empty_line s ≡ malformed_line
+  pub rest_is : line_rest s ≡ line_rest rest
+  pub within : length rest ≤ length s
 
 -- a line that has been read up to `from` in a sheet goes on there: how it ends, and where
 pub record EndsAfter (line : Line) (sheet : List ℕ) (from : ℕ) (r : WholeLine) : Type 0 where

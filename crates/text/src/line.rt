@@ -1,10 +1,10 @@
 // One line of a sheet, read byte by byte by a state machine that goes by value, or number by number where the whole
 // line is at hand. No line is too long for either.
-ghost use Rattle.std.specs.Prelude.{◌≡◌, ◌+◌, ◌*◌, ◌-◌, ◌<◌, ◌≤◌, length, MatchOption};
+ghost use Rattle.std.specs.Prelude.{◌≡◌, ◌+◌, ◌*◌, ◌-◌, ◌<◌, ◌≤◌, length, MatchOption, MatchResult};
 ghost use Rattle.text.specs.Alphabet.{zero_digit, nine_digit, base};
 ghost use Rattle.text.specs.SheetLines.{line_end};
-ghost use Rattle.text.specs.WholeLines.{digits_read, numeral_read, with_number, FormedRead, line_after, WholeAt};
-ghost use Rattle.text.specs.Reading.{numbers_kept, capped, empty_line, malformed_line, push_of, feed_of, end_of};
+ghost use Rattle.text.specs.WholeLines.{digits_read, numeral_read, with_number, FormedRead, FormlessRead, WholeAt};
+ghost use Rattle.text.specs.Reading.{numbers_kept, capped, push_of, feed_of, end_of};
 
 use crate::ascii::{BASE, FIRST_LETTER, LAST_LETTER, LINE_FEED, NINE, SPACE, ZERO};
 
@@ -177,14 +177,15 @@ fn read_number(bytes: &[u8]) -> Option<(u32, &[u8])>
     }
 }
 
-// The line at the front, where it has the form, and the bytes from its end on.
+// The line at the front, where it has the form, and the bytes from its end on. Where it has not, the bytes that are left
+// where this shows: its end is still to be found there.
 #[tactic(auto, using(crate::proofs::WholeLines::line_laws))]
-fn read_formed(bytes: &[u8]) -> Option<(Line, &[u8])>
-    ensures { MatchOption result (line_after empty_line bytes.now ≡ malformed_line)
-        (λ read. FormedRead bytes.now read.0 read.1.now) }
+fn read_formed(bytes: &[u8]) -> Result<(Line, &[u8]), &[u8]>
+    ensures { MatchResult result (λ read. FormedRead bytes.now read.0 read.1.now)
+        (λ rest. FormlessRead bytes.now rest.now) }
 {
     let [letter @ FIRST_LETTER..=LAST_LETTER, numbers @ ..] = bytes else {
-        return None;
+        return Err(bytes);
     };
     let mut line = Line {
         phase: Phase::Letter,
@@ -193,13 +194,18 @@ fn read_formed(bytes: &[u8]) -> Option<(Line, &[u8])>
     };
     let mut rest = numbers;
     while let [SPACE, text @ ..] = rest {
-        let (number, after) = read_number(text)?;
-        line = line.with_number(number)?;
+        let Some((number, after)) = read_number(text) else {
+            return Err(rest);
+        };
+        let Some(longer) = line.with_number(number) else {
+            return Err(after);
+        };
+        line = longer;
         rest = after;
     }
     match rest {
-        [] | [LINE_FEED, ..] => Some((line, rest)),
-        _ => None,
+        [] | [LINE_FEED, ..] => Ok((line, rest)),
+        _ => Err(rest),
     }
 }
 
@@ -214,20 +220,19 @@ fn line_end(bytes: &[u8]) -> usize
 }
 
 // The whole line that begins at `from`, number by number.
-#[tactic(auto, using(crate::proofs::WholeLines::whole_malformed))]
+#[tactic(auto, using(crate::proofs::WholeLines::passing_laws))]
 pub fn read_line(sheet: &[u8], from: usize) -> WholeLine
     requires { from < length sheet.now }
     ensures { WholeAt sheet.now from result }
 {
-    let bytes = &sheet[from..];
-    match read_formed(bytes) {
-        Some((line, rest)) => WholeLine {
+    match read_formed(&sheet[from..]) {
+        Ok((line, rest)) => WholeLine {
             line,
             end: sheet.len() - rest.len(),
         },
-        None => WholeLine {
+        Err(rest) => WholeLine {
             line: Line::MALFORMED,
-            end: from + line_end(bytes),
+            end: sheet.len() - rest.len() + line_end(rest),
         },
     }
 }

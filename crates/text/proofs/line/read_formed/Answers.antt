@@ -5,5 +5,5 @@ use Rattle.text.proofs.line.read_formed.Goals as goal
 
 pub loop-rest-preserved : goal.loop-rest-preserved
 loop-rest-preserved c =
-    going_more c.loop-rest.rest.now c.loop-rest.invariant (omega arith) c.in_ok-number.ensures c.in_ok-line.ensures.0
-    c.in_ok-line.ensures.1
+    let longer = c.in-Some-with_number.ensures in
+    going_more c.loop-rest.rest.now c.loop-rest.invariant (omega arith) c.in-Some.ensures longer.0 longer.1
