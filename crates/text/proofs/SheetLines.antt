@@ -1,16 +1,16 @@
--- The lines of a sheet one by one: the line that begins at a place and those after it, by the bytes; and its end, where
--- a search for a line feed stops. Assumes nothing.
+-- The lines of a sheet one by one: the line that begins at a place, those after it, and its end, by the byte there and
+-- where a search for a line feed stops. Assumes nothing.
 use Prim.Native.Nat.{ℕ, suc, ◌+◌, ◌≤◌, ◌<◌}
 use mathlib.Core.Path.{◌≡◌, refl, sym, ap, ◌∙◌}
 use mathlib.Core.Bool.{true, false, not}
 use mathlib.Core.Logic.{⊎_elim}
 use mathlib.Core.List.{List, [], ◌∷◌}
 use native.Mathlib.Omega.{arith}
-use native.Mathlib.Numerals.{one-add}
+use native.Mathlib.Numerals.{add-one, one-add}
 use lib.Dec.{eqb}
-use lib.ListN.{length, take, drop, get_or}
+use lib.ListN.{length, take, drop, get_or, drop_of_length-le}
 use lib.Seq.{drop-cons, drop-drop}
-use borrow.Author.Tests.{lt-ltb, le-ltb}
+use borrow.Author.Tests.{lt-ltb, le-ltb, eq-eqb, ne_eqb}
 use Rattle.std.specs.List.{position, position_or_len}
 use Rattle.std.specs.Option.{unwrap_or}
 use Rattle.std.proofs.lemmas.List.Sums.{prefix_len-le-length}
@@ -44,6 +44,22 @@ line_next sheet from l =
     first ∙ rw (drop_min sheet (suc (from + line_end s)), drop-drop (suc (line_end s)) from sheet, after)
 
 -- ---- the line end
+
+-- the line end from a place on, by the byte there
+module _ (s : List ℕ) (i : ℕ) where
+  pub end_here : i < length s → get_or s i 0 ≡ line_feed → line_end (drop i s) ≡ 0
+  unfolding line_end
+  end_here l e = rw (drop-cons s i 0 l, eq-eqb (get_or s i 0) line_feed e)
+
+  pub end_later : i < length s → (get_or s i 0 ≡ line_feed → ⊥) → line_end (drop i s) ≡ suc (line_end (drop (i + 1) s))
+  unfolding line_end
+  end_later l differs = rw (add-one, drop-cons s i 0 l, ne_eqb (get_or s i 0) line_feed differs)
+
+  pub end_none : length s ≤ i → line_end (drop i s) ≡ 0
+  unfolding line_end
+  end_none l = rw (drop_of_length-le s l)
+
+pub ruleset end_laws = (end_here, end_later, end_none)
 
 -- it is where a search for a line feed ends
 end_place : (s : List ℕ) → line_end s ≡ position_or_len (λ b. eqb b line_feed) s

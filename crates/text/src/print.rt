@@ -77,7 +77,7 @@ pub fn put_numbers(out: &mut [u8], at: usize, numbers: &[u32]) -> usize
 }
 
 // A space and a value, where it is not 0.
-#[tactic(auto, using(crate::proofs::SpacedNumbers::numbers_laws), unfolding(crate::specs::Printing::value_or_none))]
+#[tactic(auto, using(crate::proofs::AnswerTexts::no_value_text, crate::proofs::AnswerTexts::value_text))]
 fn put_value(out: &mut [u8], at: usize, value: u32) -> usize
     requires { at + length (spaced_numbers (value_or_none value)) ≤ length out.old }
     ensures value { result ≡ at + length (spaced_numbers (value_or_none value)) }
@@ -123,7 +123,7 @@ fn put_values(out: &mut [u8], at: usize, answer: Answer, strikes: &[u32]) -> usi
 }
 
 // The line that is printed for an answer.
-#[tactic(auto, using(logic::proofs::Stores::sets_append), unfolding(crate::specs::Printing::answer_text))]
+#[tactic(auto, using(crate::proofs::AnswerTexts::whole_laws), unfolding(crate::specs::Printing::answer_text))]
 pub fn put_answer(out: &mut [u8], at: usize, answer: Answer, strikes: &[u32]) -> usize
     requires { at + length (answer_text answer strikes.now) ≤ length out.old }
     ensures value { result ≡ at + length (answer_text answer strikes.now) }
