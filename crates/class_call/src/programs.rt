@@ -6,22 +6,20 @@ ghost use Rattle.book.specs.Books.{is_book};
 ghost use Rattle.book.specs.Calls.{capping, claiming, first_or, is_cap_reached};
 ghost use Rattle.book.specs.Layout.{facts_of};
 
-use place::own::counts_of;
+use place::own::own_count;
 use word::answer::{Accepted, Answer, Refusal};
-use word::caps::{DollarCount, HalfCount, TwoFiftyCount};
 use word::class::ClassRecord;
-use word::programs::Program;
+use word::programs::{DOLLAR, HALF, Program, TWO_FIFTY};
 
 // Whether the program's cap is reached, by its own counter.
 fn is_cap_reached(run: &[u32], program: Program) -> bool
     requires { T (is_book run.now) }
     ensures { result ≡ is_cap_reached (number_of program) (facts_of run.now) }
 {
-    let own = counts_of(run, program).own;
     match program {
-        Program::Dollar => DollarCount::of(own).is_full(),
-        Program::Half => HalfCount::of(own).is_full(),
-        Program::TwoFifty => TwoFiftyCount::of(own).is_full(),
+        Program::Dollar => own_count::<DOLLAR>(run).is_full(),
+        Program::Half => own_count::<HALF>(run).is_full(),
+        Program::TwoFifty => own_count::<TWO_FIFTY>(run).is_full(),
     }
 }
 
