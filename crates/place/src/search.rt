@@ -118,31 +118,37 @@ fn next_held(words: &[u32], from: usize, kind: Kind) -> Option<(usize, u32)>
     Some((next, held))
 }
 
+// What the next word of a kind behind some words holds: expected, until one is seen that holds more than the key.
+#[derive(Clone, Copy)]
+enum Above {
+    Expected(u32),
+    Seen(u32),
+}
+
 // What a search by guesses has left: the words from `low` to `high`. The last word of the kind before them holds
-// `below`, 0 where there is none; the next one behind them holds `above`, once one is seen that holds more than the
-// key.
+// `below`, 0 where there is none; the next one behind them `above`.
 #[derive(Clone, Copy)]
 struct Left {
     low: usize,
     high: usize,
     below: u32,
-    above: Option<u32>,
+    above: Above,
     ghost ordered: { low ≤ high },
     ghost few: { high ≤ longest_run },
     ghost small: { below < 2 ^ guess_width },
 }
 
 impl Left {
-    // All of `count` words.
-    fn all(count: usize) -> Self
-        requires { count ≤ longest_run }
+    // All of `count` words, with twice the key behind them, as if the key were in the middle.
+    fn all(count: usize, kind: Kind, key: u32) -> Self
+        requires { (count ≤ longest_run) × (kind.width ≤ guess_width) × (key < 2 ^ guess_width) }
         ensures { (result.low ≡ 0) × (result.high ≡ count) }
     {
         Left {
             low: 0,
             high: count,
             below: 0,
-            above: None,
+            above: Above::Expected((2 * key).min(1 << kind.width)),
         }
     }
 
@@ -152,21 +158,30 @@ impl Left {
         self.high - self.low
     }
 
-    // Those after one of them, which holds less than the key.
+    // Those after one of them, which holds less than the key. Until a word behind them is seen, it is expected to go on
+    // as in the words passed; and that stays while words without one of the kind are dropped from behind.
     fn after(self, at: usize, held: u32) -> Self
         requires { (at < self.high) × (held < 2 ^ guess_width) }
         ensures { (result.low ≡ at + 1) × (result.high ≡ self.high) }
     {
+        let low = at + 1;
+        let above = match self.above {
+            Above::Expected(_) => {
+                let span = self.high - low;
+                Above::Expected(held + held * span as u32 / low as u32)
+            }
+            Above::Seen(more) => Above::Seen(more),
+        };
         Left {
-            low: at + 1,
+            low,
             high: self.high,
             below: held,
-            above: self.above,
+            above,
         }
     }
 
-    // Those before one of them, behind which the next word of the kind holds `above`, where it is seen.
-    fn up_to(self, high: usize, above: Option<u32>) -> Self
+    // Those before one of them, behind which the next word of the kind holds `above`.
+    fn up_to(self, high: usize, above: Above) -> Self
         requires { (self.low ≤ high) × (high ≤ self.high) }
         ensures { (result.low ≡ self.low) × (result.high ≡ high) }
     {
@@ -178,30 +193,20 @@ impl Left {
         }
     }
 
-    // What to take the next word behind them to hold: until one is seen, twice the key, as if that were in the middle,
-    // and then what the words passed let expect.
-    fn expected_above(self, kind: Kind, key: u32) -> u32
-        requires { (kind.width ≤ guess_width) × (key < 2 ^ guess_width) }
-    {
-        match self.above {
-            Some(held) => held,
-            None if self.low == 0 => (2 * key).min(1 << kind.width),
-            None => self.below + self.below * self.span() as u32 / self.low as u32,
-        }
-    }
-
     // Where to look among them: a little before where the key is to be expected, since the search goes up from there;
     // in the middle at turn 0, and where what is held on both sides says nothing of the key. Any of them would do: a
     // guess only shortens the search.
-    fn guess(self, turn: u32, kind: Kind, key: u32) -> usize
-        requires { (self.low < self.high) × (kind.width ≤ guess_width) × (key < 2 ^ guess_width) }
+    fn guess(self, turn: u32, key: u32) -> usize
+        requires { (self.low < self.high) × (key < 2 ^ guess_width) }
         ensures { (self.low ≤ result) × (result < self.high) }
     {
         let middle = self.low + self.span() / 2;
         if turn == 0 {
             return middle;
         }
-        let above = self.expected_above(kind, key);
+        let above = match self.above {
+            Above::Expected(held) | Above::Seen(held) => held,
+        };
         if key < self.below || above <= key {
             return middle;
         }
@@ -220,16 +225,16 @@ pub fn first_rising(words: &[u32], kind: Kind, key: u32) -> usize
     if words.first().is_some_and(|w| is_from(*w, kind, key)) {
         return 0;
     }
-    let mut left = Left::all(words.len());
+    let mut left = Left::all(words.len(), kind, key);
     let mut turn = 1;
     while FEW_LEFT < left.span() {
-        let guess = left.guess(turn, kind, key);
+        let guess = left.guess(turn, key);
         turn = (turn + 1) % TURNS;
         match next_held(&words[..left.high], guess, kind) {
             None => left = left.up_to(guess, left.above),
             Some((next, held)) if held == key => return next,
             Some((next, held)) if held < key => left = left.after(next, held),
-            Some((_, held)) => left = left.up_to(guess, Some(held)),
+            Some((_, held)) => left = left.up_to(guess, Above::Seen(held)),
         }
     }
     left.low + first(&words[left.low..], kind, key)

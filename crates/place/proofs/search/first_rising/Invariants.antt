@@ -5,9 +5,9 @@ use Rattle.logic.proofs.Firsts.{Seeking}
 use Rattle.place.specs.Search.{is_from}
 use Rattle.place.proofs.search.first_rising.Given as goal
 
-abbrev pub invariant-loop-kind : goal.invariant-loop-kind
-invariant-loop-kind l =
+abbrev pub invariant-loop-guess : goal.invariant-loop-guess
+invariant-loop-guess l =
     (l.left.high ≤ length l.words) × Seeking (is_from l.kind l.key) l.words l.left.low × (l.turn < 8)
 
-abbrev pub decreases-loop-kind : goal.decreases-loop-kind
-decreases-loop-kind l = l.left.high - l.left.low
+abbrev pub decreases-loop-guess : goal.decreases-loop-guess
+decreases-loop-guess l = l.left.high - l.left.low
