@@ -5,5 +5,6 @@ pub mod Heads
 pub mod KeyedWords
 pub mod Laid
 pub mod Rising
+pub mod FoundNear
 pub mod Found
 pub mod LookedUp
