@@ -11,6 +11,7 @@ use lib.Dec.{ltb, leb-suc-suc}
 use borrow.Author.Tests.{eq-eqb, ne_eqb, lt-ltb}
 use Rattle.std.specs.Prelude.{Option, Some, None, MatchOption, position, Ok, Err}
 use Rattle.std.specs.List.{list_any, position_or_len}
+use Rattle.word.specs.Limits.{highest_price}
 use Rattle.word.specs.declared.answer.Refusal.TheVariants.{OffGrid, OutOfRange, TooClose}
 use Rattle.word.specs.Answers.{Answer}
 use Rattle.word.specs.declared.answer.Accepted.TheVariants.{Ground}
@@ -23,7 +24,7 @@ use Rattle.rule.specs.Ranges.{on_grid, in_range}
 use Rattle.word.specs.Answers.{is_accepted}
 use Rattle.rule.specs.Spacing.{Standing}
 use Rattle.rule.specs.Judgement.{row_of, rows_of, passes, passes_grid, passes_range, refusal_of, ground_from, decided}
-use Rattle.rule.specs.Judgement.{found_row, found_rows, rows_at, first_ground, judgement}
+use Rattle.rule.specs.Judgement.{found_row, found_rows, rows_at, none_passes, either_rows, first_ground, judgement, Judged}
 
 -- the library's search of a list and ours
 pub some_any : {A : Type 0} (test : A → Bool) (xs : List A) → some test xs ≡ list_any test xs
@@ -88,9 +89,34 @@ accepted_passes rows =
 -- ---- the rows as the search leaves them
 
 module _ (s : Setting) (h : ℕ) where
-  -- those of one price, where the low is the high
-  pub one_price : s.class.low ≡ s.class.high → rows_at s s.class.low h ≡ found_rows s h (length grounds)
+  -- those of one price, where the low is the high, and those of two
+  one_price : s.class.low ≡ s.class.high → rows_at s s.class.low h ≡ found_rows s h (length grounds)
   one_price e = rw (← e) (simp or_self)
+
+  two_prices :
+      either_rows (rows_at s s.class.low h) (rows_at s s.class.high h) ≡ found_rows s h (length grounds)
+  two_prices = refl
+
+  -- what is joined when the price p is to be read: nothing before the low, the rows at the low before the high
+  pub data Joined : ℕ → List (List Bool) → Type 0 where
+    none : Joined s.class.low none_passes
+    low : Joined s.class.high (rows_at s s.class.low h)
+
+  pub joined_price : {p : ℕ} {rows : List (List Bool)} → Joined p rows → Judged s h → p ≤ highest_price
+  joined_price none j = j.low
+  joined_price low j = j.high
+
+  pub joined_next :
+      {p : ℕ} {rows : List (List Bool)} → Joined p rows → (p ≡ s.class.high → ⊥)
+      → Joined s.class.high (either_rows rows (rows_at s p h))
+  joined_next none other = low
+  joined_next low other = absurd (other refl)
+
+  pub joined_all :
+      {p : ℕ} {rows : List (List Bool)} → Joined p rows → p ≡ s.class.high
+      → either_rows rows (rows_at s p h) ≡ found_rows s h (length grounds)
+  joined_all none e = one_price e
+  joined_all low e = two_prices
 
   pub found_range : (g : ℕ) → g < length grounds →
       passes_range (get_or (found_rows s h (length grounds)) g []) ≡ (on_grid s g h && in_range s g h)

@@ -55,6 +55,10 @@ found_rows s h found = map (found_row s h found) grounds
 abbrev pub rows_at : Setting → ℕ → ℕ → List (List Bool)
 rows_at s p h = map (λ g. grid_of s p g h ∷ in_range_at s p g h ∷ false ∷ []) grounds
 
+-- rows in which nothing passes
+abbrev pub none_passes : List (List Bool)
+none_passes = map (λ g. false ∷ false ∷ false ∷ []) grounds
+
 -- grid and range at one price or at the other
 abbrev pub either_row : List Bool → List Bool → List Bool
 either_row a b = (get_or a 0 false || get_or b 0 false) ∷ (get_or a 1 false || get_or b 1 false) ∷ false ∷ []
