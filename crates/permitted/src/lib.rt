@@ -200,7 +200,7 @@ fn write_permitted(s: Setting, standing: &[u32], ranges: [Range; 2], out: &mut [
 }
 
 // Writes the permitted strikes to the second run where it has places for all of them, and nothing else: unless it has a
-// place for each that there can be, they are counted before.
+// place for each that there can be, they are counted before, and where that finds none it is not gone over again.
 pub fn list_permitted(s: Setting, standing: &[u32], second: &mut [u32]) -> Answer
     requires { Listable s standing.now }
     ensures { Filled (permitted_beside s standing.now) second.old result second.new }
@@ -211,6 +211,9 @@ pub fn list_permitted(s: Setting, standing: &[u32], second: &mut [u32]) -> Answe
         let count = write_permitted(s, standing, ranges, &mut []);
         if second.len() < count as usize {
             return Err(Refusal::OutOfWords(count));
+        }
+        if count == 0 {
+            return Ok(Accepted::Listed(count));
         }
     }
     Ok(Accepted::Listed(write_permitted(s, standing, ranges, second)))

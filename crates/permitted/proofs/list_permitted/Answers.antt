@@ -1,12 +1,24 @@
--- `list_permitted`: where it is not plain that all strikes have a place they were counted before.
-use Rattle.std.proofs.Common.{◌≤◌, length, ◌∙◌, map, arith, zero-add}
+-- `list_permitted`: where it is not plain that all strikes have a place they were counted before, and where there is
+-- none the second run stays as it is.
+use Rattle.std.proofs.Common.{◌≡◌, ◌≤◌, [], length, sym, ◌∙◌, map, arith, zero-add}
 use lib.Seq.{sets-eq}
 use borrow.Author.Tests.{le-ltb}
+use Rattle.std.proofs.lemmas.List.{nil_from_length}
 use Rattle.rule.specs.Spacing.{standing_of}
 use Rattle.rule.proofs.Most.{permitted_most}
 use Rattle.permitted.specs.Listing.{permitted_beside}
 use Rattle.permitted.proofs.list_permitted.Goals as goal
-use Rattle.permitted.proofs.list_permitted.Goals.{then-second-most_open+else-second-count, else-second-most_open}
+use Rattle.permitted.proofs.list_permitted.Goals.{then-second-most_open+else-second-count+else-count-eq0}
+use Rattle.permitted.proofs.list_permitted.Goals.{else-second-most_open}
+
+pub returns-then-count-eq0 : goal.returns-then-count-eq0
+returns-then-count-eq0 c =
+    let v = c.args.second.now in
+    let strikes = permitted_beside c.args.s c.args.standing.now in
+    let none : strikes ≡ [] =
+    nil_from_length strikes (sym c.write_permitted-count.ensures.value ∙ c.if-count-eq0.true) in
+    let fits = le-ltb (length v) 0 (omega arith) in
+    record { answer = rw (none, c.if-count-eq0.true, fits); second = rw (none, fits) }
 
 pub returns : goal.returns
 returns c =
@@ -16,7 +28,8 @@ returns c =
     let most = rw c.ranges_of-ranges.ensures at c.max.ensures in
     let fits : length strikes ≤ length v =
     elim c.if-second-most_open.branch [
-      | then-second-most_open+else-second-count w ↦ omega (arith, w.write_permitted-count.ensures.value)
+      | then-second-most_open+else-second-count+else-count-eq0 w ↦
+          omega (arith, w.write_permitted-count.ensures.value)
       | else-second-most_open w ↦ omega (arith, c.most_open.ensures)
     ] in
     let e = c.write_permitted.ensures in
