@@ -1,13 +1,13 @@
 -- How an answer keeps a call's contract: one law for each way out, over any call. Assumes nothing.
 use Prim.Native.Nat.{ℕ}
 use mathlib.Core.Path.{◌≡◌, refl, sym, ap, ◌∙◌}
-use mathlib.Core.Bool.{true, false, not}
-use mathlib.Core.List.{List, ◌∷◌}
+use mathlib.Core.Bool.{Bool, true, false, cond, not}
+use mathlib.Core.List.{List, [], ◌∷◌}
 use lib.ListN.{length}
 use lib.Dec.{T}
 use Rattle.std.specs.Prelude.{Err}
 use Rattle.word.specs.Answers.{Answer}
-use Rattle.word.specs.declared.answer.Refusal.TheVariants.{BeyondLimits, NotOpen}
+use Rattle.word.specs.declared.answer.Refusal.TheVariants.{NotABook, BeyondLimits, NotOpen}
 use Rattle.word.specs.Answers.{is_accepted}
 use Rattle.book.specs.Layout.{layout, facts_of}
 use Rattle.book.specs.Books.{is_book}
@@ -16,8 +16,12 @@ use Rattle.book.specs.Changes.{list_of}
 use Rattle.book.specs.Calls.{ClassCall, Call, on, Condition, draws, effect_on, effect, answer_to, written, step, accepted_facts}
 use Rattle.book.specs.Made.{over, Made}
 use Rattle.logic.proofs.Tests.{T_true}
-use Rattle.book.proofs.Order.{accepted_granted, refused_unchanged}
+use Rattle.book.proofs.Order.{accepted_granted, any_room, refused_unchanged}
 use Rattle.book.proofs.Layouts.{book_facts}
+
+-- over a run that is no book
+pub made_no_book : (x : Call) (w v : List ℕ) → is_book w ≡ false → Made x w v (Err NotABook) w v
+made_no_book x w v e = record { answer = rw e; words = rw e; second = rw e }
 
 module _ (x : Call) (w v : List ℕ) (book : T (is_book w)) where
   is : is_book w ≡ true
@@ -52,6 +56,24 @@ module _ (x : Call) (w v : List ℕ) (book : T (is_book w)) where
         words = rw (is, granted) words;
         second = rw (is, e, is-accepted);
       }
+
+  -- a call that writes nothing leaves any second run as it is
+  pub made_anyhow :
+      {r : Answer} {w' : List ℕ} → list_of (effect x (facts_of w)).does ≡ [] → Made x w [] r w' [] → Made x w v r w' v
+  unfolding written
+  made_anyhow none m =
+      record {
+        answer = m.answer ∙ ap (λ (a : Answer). cond (is_book w) a (Err NotABook)) (sym same);
+        words = m.words;
+        second = rw (is, none) (unwritten (is_accepted (answer_to (length w) (length v) x (facts_of w))));
+      }
+    where
+      same : answer_to (length w) (length v) x (facts_of w) ≡ answer_to (length w) 0 x (facts_of w)
+      same = any_room (length w) (length v) x (facts_of w) none
+
+      unwritten : (b : Bool) → v ≡ over (cond b [] []) v
+      unwritten true = refl
+      unwritten false = refl
 
 -- then "4 class not open", of any call on a class that asks it first
 pub made_not_open :
