@@ -279,24 +279,25 @@ module _ {s : List ℕ} {line : Line} where
   formless : (rest : List ℕ) → LineGoing s line rest → line_after empty_line s ≡ malformed_line → FormlessRead s rest
   formless rest g malformed = record { line_is = malformed; rest_is = g.goes.rest; within = g.goes.fewer }
 
-  full_malformed : (b : ℕ) (t : List ℕ) → LineGoing s line (b ∷ t) → b ≡ space → numbers_kept ≤ line.count
+  pub going_full : (rest : List ℕ) → LineGoing s line rest → get_or rest 0 0 ≡ space → numbers_kept ≤ line.count
       → line_after empty_line s ≡ malformed_line
-  full_malformed b t g is full =
+  going_full [] g is full = absurd (omega arith)
+  going_full (b ∷ t) g is full =
       (going_space b t g is).same
       ∙ ap (λ (k : ℕ). line_after (state Space line.letter 0 k line.numbers) t) (omega (arith, g.few))
       ∙ sixth_refused line.letter 0 line.numbers t
 
   -- the bytes after a sixth number end as those after any
-  pub going_full : (rest : List ℕ) → LineGoing s line rest → {v : ℕ} {after : List ℕ} → get_or rest 0 0 ≡ space
+  pub going_sixth : (rest : List ℕ) → LineGoing s line rest → {v : ℕ} {after : List ℕ} → get_or rest 0 0 ≡ space
       → numeral_read (after_first rest) ≡ Some (v, after) → numbers_kept ≤ line.count → FormlessRead s after
-  going_full [] g is read full = absurd (omega arith)
-  going_full (b ∷ t) g {v} {after} is read full =
+  going_sixth [] g is read full = absurd (omega arith)
+  going_sixth (b ∷ t) g {v} {after} is read full =
       let read-left = rw (take_rest (b ∷ t) 1) at read in
       let spaced = going_space b t g is in
       let first : Goes (state Space 0 0 0 zeros) t (state Letter 0 0 1 (set zeros 0 v)) after =
       rw read-left at (numeral_go 0 0 zeros (omega arith) t) in
       record {
-        line_is = full_malformed b t g is full;
+        line_is = going_full (b ∷ t) g is full;
         rest_is = spaced.rest ∙ first.rest;
         within = omega (arith, spaced.fewer, first.fewer);
       }
@@ -309,7 +310,7 @@ module _ {s : List ℕ} {line : Line} where
       formless (b ∷ t) g
       (⊎_elim
       (λ few. (going_space b t g is).same ∙ rw none-left at (numeral_go line.letter line.count line.numbers few t))
-      (λ full. full_malformed b t g is full)
+      (λ full. going_full (b ∷ t) g is full)
       (lt_or_le line.count numbers_kept))
 
   pub going_more : (rest : List ℕ) → LineGoing s line rest → {v : ℕ} {next : Line} {after : List ℕ}
@@ -356,7 +357,7 @@ pub ruleset line_laws = (
   letter_other,
   letter_first,
   going_none,
-  going_full,
+  going_sixth,
   going_other,
   going_ended,
   going_line_feed,
