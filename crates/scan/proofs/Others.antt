@@ -5,13 +5,13 @@ use mathlib.Core.Path.{◌≡◌, refl, sym, ◌∙◌}
 use mathlib.Core.List.{List}
 use native.Mathlib.Omega.{arith}
 use native.Mathlib.Nat.{div-one, pow-succ', mul-zero, mul_comm, mul-div_right, mul_assoc, pos_of_ne-zero, eq_of_mul-eq-mul_left}
-use lib.ListN.{length, drop, get_or}
+use lib.ListN.{length, drop, get_or, take}
 use lib.Pow.{pow_pos, pow-add, shr-shr, shl_exact}
 use lib.Bits.{bit_and, bit_or, or_add_and, and_mask}
 use lib.Count.{count_trailing_zeros}
 use Rattle.word.proofs.Digits.{trailing_lowest, and_lowest}
 use Rattle.scan.specs.NextStrikes.{next_length}
-use Rattle.scan.specs.Ahead.{Tells, bits_at, block_length}
+use Rattle.scan.specs.Ahead.{Tells, other_bits, bits_at, block_length}
 use Rattle.scan.specs.declared.ahead.Blocks.{Blocks}
 use Rattle.scan.proofs.OtherBits.{next_at, FirstOther, bits_lt, bits_later, next_on, next_all, first_other}
 
@@ -30,6 +30,13 @@ module _ (ws : List ℕ) where
   -- the bits of the words after i, as far as the block from `base` on reaches
   abbrev bits_after : ℕ → ℕ → ℕ
   bits_after base i = bits_at ws (i + 1) (base + block_length - (i + 1))
+
+  -- told by the word at i and the words after it
+  pub bits_after_lem :
+      (base i : ℕ)
+      → other_bits (get_or ws i 0) (take (base + block_length - suc i) (drop (suc i) ws))
+      ≡ bits_at ws (suc i) (base + block_length - suc i)
+  bits_after_lem base i = let before : suc i - 1 ≡ i = omega arith in rw before refl
 
   -- of a word of the block, from the bits of the block
   bits_from :

@@ -1,13 +1,12 @@
 -- Words are all zero exactly where their bits joined are. Assumes nothing.
-use Rattle.std.proofs.Common.{ℕ, zero, suc, ◌+◌, ◌*◌, zero-mul, arith, Bool, ◌&&◌, eqb, List, [], ◌∷◌, bit_or, drop, take, fold, ◌≡◌, sym, ap, ◌∙◌}
+use Rattle.std.proofs.Common.{ℕ, zero, suc, ◌+◌, ◌*◌, zero-mul, arith, ◌&&◌, eqb, List, [], ◌∷◌, bit_or, drop, take, fold, ◌≡◌, sym, ap, ◌∙◌}
 use lib.ListN.{take-append-drop}
 use lib.Seq.{drop-drop}
-use mathlib.Core.Bool.{and_assoc, and-true}
 use Rattle.std.specs.Simd.{first_chunks}
 use Rattle.std.proofs.lemmas.List.Sums.{fold-append}
 use Rattle.logic.specs.Lists.{every}
-use Rattle.word.proofs.Digits.{or_zero}
 use Rattle.scan.specs.Stretches.{is_zero}
+use Rattle.scan.proofs.Zeros.{zeros_more, zeros_done}
 
 -- block by block, and then what is left
 blocks_joined :
@@ -22,11 +21,8 @@ blocks_joined n (suc k) all ws =
 
 -- the bits are zero exactly where all words are
 joined_zero : (all : ℕ) (ws : List ℕ) → eqb (fold bit_or all ws) 0 ≡ (eqb all 0 && every is_zero ws)
-joined_zero all [] = sym (and-true (eqb all 0))
-joined_zero all (w ∷ ws) =
-    joined_zero (bit_or all w) ws
-    ∙ ap (λ (b : Bool). b && every is_zero ws) (or_zero all w)
-    ∙ and_assoc (eqb all 0) (eqb w 0) (every is_zero ws)
+joined_zero all [] = sym (zeros_done all 0 [] (omega arith))
+joined_zero all (w ∷ ws) = joined_zero (bit_or all w) ws ∙ sym (zeros_more all 0 (w ∷ ws) (omega arith))
 
 pub blocks_zero :
     (n k : ℕ) (ws : List ℕ)
