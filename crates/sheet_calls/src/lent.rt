@@ -2,12 +2,9 @@
 ghost use Rattle.std.specs.Prelude.{◌≡◌};
 ghost use Rattle.book.specs.Books.{is_book};
 
-use dispatch::make_call;
-use text::line::{Line, NUMBERS_KEPT};
+use crate::sheet::make_line;
+use text::line::Line;
 use word::answer::{Answer, Refusal};
-
-// How many places of classes the lines of a sheet remember.
-pub(crate) const PLACES_REMEMBERED: usize = 1024;
 
 // What the calls of a sheet are lent.
 #[derive(Drop)]
@@ -35,14 +32,6 @@ impl Lent<'_> {
         if !self.tested {
             return Err(Refusal::NotABook);
         }
-        let count = line.count.min(NUMBERS_KEPT);
-        let numbers = &line.numbers[..count];
-        make_call(
-            self.run,
-            self.second,
-            self.places,
-            u32::from(line.letter),
-            numbers,
-        )
+        make_line(self.run, self.second, self.places, line)
     }
 }

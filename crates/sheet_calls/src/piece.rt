@@ -10,7 +10,8 @@ ghost use Rattle.text.specs.Printing.{line_room};
 ghost use Rattle.sheet_calls.specs.Lending.{LentOn};
 ghost use Rattle.sheet_calls.specs.Pieces.{Ended, LinesBegin, LinesRead, Pieced, printed_text};
 
-use crate::lent::{Lent, PLACES_REMEMBERED};
+use crate::lent::Lent;
+use crate::sheet::PLACES_REMEMBERED;
 use text::ascii::LINE_FEED;
 use text::line::{Line, read_line};
 use text::print::{ANSWER_ROOM, STRIKE_ROOM, put_answer};

@@ -2,13 +2,30 @@
 ghost use Rattle.std.specs.Prelude.{◌≡◌, T, length, slice_set};
 ghost use Rattle.std.specs.Iterator.{at_most};
 ghost use Rattle.book.specs.Books.{is_book};
+ghost use Rattle.book.specs.Made.{Made};
+ghost use Rattle.sheet_calls.specs.LineCalls.{call_held};
 ghost use Rattle.sheet_calls.specs.Lending.{LentOn};
 ghost use Rattle.sheet_calls.specs.Sheets.{SheetRun, FirstLine};
 
-use crate::lent::{Lent, PLACES_REMEMBERED};
+use crate::lent::Lent;
+use dispatch::make_call;
 use scan::is_book;
-use text::line::{Line, read_line};
-use word::answer::{number_of, value_of};
+use text::line::{Line, NUMBERS_KEPT, read_line};
+use word::answer::{Answer, number_of, value_of};
+
+// How many places of classes the lines of a sheet remember.
+pub const PLACES_REMEMBERED: usize = 1024;
+
+// Makes the call of a line that has ended, and lends it places.
+pub fn make_line(run: &mut [u32], second: &mut [u32], places: &mut [u32], line: Line) -> Answer
+    requires { T (is_book run.old) }
+    ensures { Made (call_held line)
+        run.old second.old result run.new second.new }
+{
+    let count = line.count.min(NUMBERS_KEPT);
+    let numbers = &line.numbers[..count];
+    make_call(run, second, places, u32::from(line.letter), numbers)
+}
 
 // The lines of the bytes that are left of a sheet, each read when it is asked for.
 #[derive(Drop)]

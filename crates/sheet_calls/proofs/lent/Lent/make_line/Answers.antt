@@ -10,5 +10,5 @@ pub invariant_of-self : goal.invariant_of-self
 invariant_of-self c =
     let lent = c.args.self.now in
     let book : is_book lent.run.now ≡ true = sym lent.is_tested ∙ c.if-not-self.false in
-    let left = made_book (true_T (is_book lent.run.now) book) c.make_call.ensures in
-    record { is_tested = c.if-not-self.false ∙ sym (T_true (is_book c.make_call.new.run) left.0) }
+    let left = made_book (true_T (is_book lent.run.now) book) c.make_line.ensures in
+    record { is_tested = c.if-not-self.false ∙ sym (T_true (is_book c.make_line.new.run) left.0) }
