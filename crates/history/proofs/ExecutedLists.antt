@@ -67,6 +67,10 @@ pub record Going (held start : List ℕ) (records : List (List ℕ)) (run pool :
       second_after (length held) (map (lent_within (length start)) (left_from i records)) (facts_of run) pool
       ≡ second_after (length held) (map (lent_within (length start)) (left_from 0 records)) (facts_of held) start
 
+pub going_start :
+    {run pool : List ℕ} {records : List (List ℕ)} → T (is_book run) → Going run pool records run pool 0
+going_start book = record { book = book; size = refl; pool_size = refl; facts = refl; second = refl }
+
 pub going_step :
     {held start run pool run' pool' : List ℕ} {records : List (List ℕ)} {i : ℕ} {r : Answer}
     → Going held start records run pool i → i < length records
@@ -102,10 +106,15 @@ going_end {calls = calls} {run} {records = records} {i} g h is =
 -- ---- from a fresh book
 
 -- the length is good where a call is accepted, and only there
-done_good :
+pub done_good :
     (good : Bool) {r : Answer} {a : Accepted} → r ≡ cond good (Ok Done) (Err NotABook) → r ≡ Ok a → good ≡ true
 done_good true e done = refl
 done_good false e done = cc
+
+pub refused_bad :
+    (good : Bool) {r : Answer} → r ≡ cond good (Ok Done) (Err NotABook) → (r ≡ Ok Done → ⊥) → good ≡ false
+refused_bad true e refused = absurd (refused e)
+refused_bad false e refused = refl
 
 module _ {w w' : List ℕ} {r : Answer} (begun : Begun w r w') where
   module _ {a : Accepted} (done : r ≡ Ok a) where
@@ -130,3 +139,8 @@ module _ {w w' : List ℕ} {r : Answer} (begun : Begun w r w') where
           words = rw good (rw (fresh_words, size, facts) at made.words);
           second = rw good (rw (fresh_words, size, facts) at made.second);
         }
+
+  pub ran_refused : {pool calls : List ℕ} → (r ≡ Ok Done → ⊥) → Ran w pool calls r w' pool
+  ran_refused refused =
+      let bad = refused_bad (is_length (length w)) begun.answer refused in
+      record { answer = begun.answer; words = rw bad (rw bad at begun.words); second = rw bad }
