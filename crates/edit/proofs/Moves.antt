@@ -13,15 +13,16 @@ use Rattle.edit.specs.Insertion.{insert_words}
 
 -- k new words in the part from `at` to k words past the count, and the head that counts them
 pub pushed_between :
-    (ws new part : List ℕ) (at count k month : ℕ) → count ≡ used (facts_of ws) → month ≡ (facts_of ws).now
+    (ws new part : List ℕ) (at count k month total : ℕ) → count ≡ used (facts_of ws) → month ≡ (facts_of ws).now
     → length new ≡ k
-    → at ≤ count → count + k ≤ length ws
+    → at ≤ count → count + k ≤ length ws → total ≡ count + k
     → (let mid = mid_of at (count + k - at) ws in part ≡ new ++ take (length mid - k) mid)
-    → set (put_mid at (count + k - at) ws part) 0 (packed (Head month (count + k))) ≡ insert_words at new ws
+    → set (put_mid at (count + k - at) ws part) 0 (packed (Head month total)) ≡ insert_words at new ws
 unfolding insert_words
-pushed_between ws new part at count k month all now e inside room moved =
+pushed_between ws new part at count k month total all now e inside room counted moved =
     (λ i.
-    set (take at ws ++ (put i ++ Post-is at (count + k) ws (omega arith) i)) 0 (packed (Head (now i) (count + k))))
+    set (take at ws ++ (put i ++ Post-is at (count + k) ws (omega arith) i)) 0
+    (packed (Head (now i) (counted i))))
     ∙ ap (λ (l : List ℕ). set (take at ws ++ l) 0 (head_of (count + k)))
     (append_assoc new (take (count - at) (drop at ws)) (drop (count + k) ws))
     ∙ (λ i. set (take at ws ++ (new ++ (take (all i - at) (drop at ws) ++ drop (end i) ws))) 0 (head_of (end i)))

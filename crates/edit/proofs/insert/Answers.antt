@@ -16,5 +16,5 @@ returns g c =
     let count = c.used-count in
     let month = c.current-month in
     c.write.ensures
-    ∙ pushed_between c.args.run.now c.args.words c.push.new.s c.args.at count.result g.row.COUNT month.result
-    count.ensures month.ensures (search rules) (omega arith) (omega arith) c.push.ensures
+    ∙ pushed_between c.args.run.now c.args.words c.push.new.s c.args.at count.result g.row.COUNT month.result _
+    count.ensures month.ensures (search rules) (omega arith) (omega arith) (omega arith) c.push.ensures
