@@ -18,7 +18,7 @@ use Rattle.word.specs.Field.{field}
 use Rattle.word.specs.Kinds.{key_of, strike_kind, ground_field, counter_kind}
 use Rattle.word.proofs.Words.{strike_fields}
 use Rattle.book.specs.Facts.{Series, Facts, with_figures, owned, strikes_on}
-use Rattle.word.specs.Figures.{figures_length, figures_words}
+use Rattle.word.specs.Figures.{figures_length, figures_words, are_figures}
 use Rattle.book.specs.Layout.{expiration_unless, strike_word, layout, facts_of}
 use Rattle.book.specs.Books.{is_book}
 use Rattle.book.specs.Views.{class}
@@ -145,6 +145,9 @@ module _ (ws : List ℕ) (at : ℕ) where
   -- ---- a class put in
 
   module _ (c : ℕ) (x : Openable ws at c) where
+    pub opened_limits : (r : ClassRecord) → r ≡ opened c → T (are_figures r)
+    opened_limits r e = let t = x.number in rw e (search and_intro)
+
     pub opened_room : HasRoom figures_length at ws
     opened_room =
         record { book = x.book; inside = omega (arith, x.place, class_within ws x.book c); room = x.room }

@@ -4,8 +4,11 @@ use Rattle.word.specs.declared.class.ClassRecord.{ClassRecord}
 use Rattle.word.specs.Codec.{packed}
 use Rattle.word.specs.Figures.{figures_words}
 use Rattle.edit.specs.Insertion.{insert_words}
-use Rattle.edit.proofs.Edits.{opened_room, class_inserted}
+use Rattle.edit.proofs.Edits.{opened_limits, opened_room, class_inserted}
 use Rattle.edit.proofs.insert_class.Goals as goal
+
+pub words-requires : goal.words-requires
+words-requires c = opened_limits _ _ _ c.requires c.open.result c.open.ensures
 
 pub insert-requires : goal.insert-requires
 insert-requires c = (omega arith, opened_room _ _ _ c.requires)
