@@ -1,7 +1,7 @@
 -- A stretch of words moved down stands after what was before it: by the library's laws of a copy within a list. Assumes
 -- nothing.
-use Prim.Native.Nat.{ℕ, ◌-◌, ◌≤◌}
-use mathlib.Core.Path.{refl, ap, ◌∙◌}
+use Prim.Native.Nat.{ℕ, ◌+◌, ◌-◌, ◌≤◌}
+use mathlib.Core.Path.{◌≡◌, refl, ap, ◌∙◌}
 use mathlib.Core.List.{List, ◌++◌}
 use native.Mathlib.Omega.{arith}
 use lib.ListN.{length, take, drop, length-drop}
@@ -21,12 +21,15 @@ module _ (to from end : ℕ) (xs : List ℕ) (low : to ≤ from) (high : from �
         past = refl;
       }
 
-  pub moved_within : end ≤ length xs → MovedTo to from end xs (copy_within xs from end to)
-  moved_within inside =
+  pub moved_down_lem :
+      end ≤ length xs → (ys : List ℕ) → ys ≡ copy_within xs from end to → MovedTo to from end xs ys
+  moved_down_lem inside ys e =
       record {
         front =
-            take-paste xs to (drop from xs) (end - from) (omega arith) (omega (arith, length-drop from xs));
+            ap (take (to + (end - from))) e
+            ∙ take-paste xs to (drop from xs) (end - from) (omega arith) (omega (arith, length-drop from xs));
         past =
             drop_later _ end _ xs (omega arith)
-            (drop-paste xs to (drop from xs) (end - from) (omega arith) (omega (arith, length-drop from xs)));
+            (ap (drop (to + (end - from))) e
+            ∙ drop-paste xs to (drop from xs) (end - from) (omega arith) (omega (arith, length-drop from xs)));
       }
