@@ -4,6 +4,7 @@ use Rattle.std.specs.Int.Count.{count_trailing_zeros}
 use Rattle.word.specs.Digits.{binary}
 use Rattle.word.specs.Kinds.{grade_of}
 use Rattle.logic.specs.Lists.{first_at}
+use Rattle.place.specs.declared.search.TheConstants.{BLOCK}
 use Rattle.place.specs.Search.{is_up_to}
 use Rattle.place.proofs.Blocks.{chunk_at, seek_digit, seek_no_digit}
 use Rattle.place.proofs.search.first.Goals as goal
@@ -14,25 +15,25 @@ told :
     (c : After-graded_of_16-bits)
     → let a = c.args in
     let p : ℕ → Bool = λ w. leb (grade_of a.kind w) c.grade_at-most.result in
-    c.graded_of_16-bits.result ≡ 2 * binary (map p (take 16 (drop (16 * c.loop-i.i) a.words.now)))
+    c.graded_of_16-bits.result ≡ 2 * binary (map p (take BLOCK (drop (BLOCK * c.loop-i.i) a.words.now)))
 told c =
     let a = c.args in
     let p : ℕ → Bool = λ w. leb (grade_of a.kind w) c.grade_at-most.result in
     c.graded_of_16-bits.ensures
     ∙ ap (λ (block : List ℕ). 2 * binary (map p block))
     (ap (λ (blocks : List (List ℕ)). get_or blocks c.loop-i.i []) c.as_chunks.ensures.front
-    ∙ chunk_at 16 _ a.words.now [] c.loop-i.i (omega arith))
+    ∙ chunk_at BLOCK _ a.words.now [] c.loop-i.i (omega arith))
 
 -- the first 1 of a block's bits
 digit :
     (c : After-graded_of_16-bits) → (c.graded_of_16-bits.result ≡ 0 → ⊥)
     → let zeros = count_trailing_zeros 32 c.graded_of_16-bits.result in
-    (16 * c.loop-i.i + zeros - 1 ≡ first_at (is_up_to c.args.kind c.args.key) c.args.words.now) × (1 ≤ zeros)
-    × (16 * c.loop-i.i + zeros - 1 ≤ length c.args.words.now)
+    (BLOCK * c.loop-i.i + zeros - 1 ≡ first_at (is_up_to c.args.kind c.args.key) c.args.words.now) × (1 ≤ zeros)
+    × (BLOCK * c.loop-i.i + zeros - 1 ≤ length c.args.words.now)
 digit c some =
     let a = c.args in
     let found =
-    seek_digit _ _ _ c.loop-i.invariant 16 _ (omega arith) (told c) 32 (omega arith) some in (
+    seek_digit _ _ _ c.loop-i.invariant BLOCK _ (omega arith) (told c) 32 (omega arith) some in (
       found.0 ∙ ap (λ most. first_at (λ w. leb (grade_of a.kind w) most) a.words.now) c.grade_at-most.ensures,
       found.1,
       omega arith,
@@ -48,7 +49,7 @@ returns-then-bits-ne0 c =
 
 pub loop-i-preserved : goal.loop-i-preserved
 loop-i-preserved c =
-    let next : 16 * (c.loop-i.i + 1) ≡ 16 * c.loop-i.i + 16 = omega arith in
+    let next : BLOCK * (c.loop-i.i + 1) ≡ BLOCK * c.loop-i.i + BLOCK = omega arith in
     rw next
-    (seek_no_digit _ _ _ c.loop-i.invariant 16 _ (omega arith)
+    (seek_no_digit _ _ _ c.loop-i.invariant BLOCK _ (omega arith)
     (told (goal.at.loop-i-preserved c).After-graded_of_16-bits) c.if-bits-ne0.false)

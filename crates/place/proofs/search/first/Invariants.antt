@@ -3,7 +3,8 @@
 use Rattle.std.proofs.Common.{◌*◌, leb}
 use Rattle.word.specs.Kinds.{grade_of}
 use Rattle.logic.proofs.Firsts.{Seeking}
+use Rattle.place.specs.declared.search.TheConstants.{BLOCK}
 use Rattle.place.proofs.search.first.Given as goal
 
 abbrev pub invariant-loop-i : goal.invariant-loop-i
-invariant-loop-i l = Seeking (λ w. leb (grade_of l.kind w) l.most) l.words (16 * l.i)
+invariant-loop-i l = Seeking (λ w. leb (grade_of l.kind w) l.most) l.words (BLOCK * l.i)
