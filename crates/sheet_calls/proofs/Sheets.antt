@@ -89,16 +89,17 @@ module _
   where
     -- one line more
     pub read_more :
-        {line : Line} {left' w' v' answers' : List ℕ} {r : Answer}
-        → (0 < length left) × (line ≡ line_of (line_at left 0)) × (left' ≡ drop (next_line left 0) left)
-        → Made (call_held line) w v r w' v' → length v' ≡ length v
-        → answers' ≡ set (set answers (2 * lines) (answer_number r)) (2 * lines + 1) (answer_value r)
+        {line : Line} {x : Call} {left' w' v' numbered answers' : List ℕ} {r : Answer} {number value : ℕ}
+        → 0 < length left
+        → line ≡ line_of (line_at left 0) → left' ≡ drop (next_line left 0) left → Made x w v r w' v'
+        → x ≡ call_held line → length v' ≡ length v → number ≡ answer_number r → value ≡ answer_value r
+        → numbered ≡ set answers (2 * lines) number → answers' ≡ set numbered (2 * lines + 1) value
         → SheetSoFar w₀ v₀ sheet answers₀ w' v' answers' (lines + 1) left'
-    read_more {line} {left'} {w'} {v'} {answers'} {r} first m room put =
-        let split = line_next left 0 first.0 in
+    read_more {line} {x} {left'} {w'} {v'} {numbered} {answers'} {r} some first after m call room number-is value-is put then =
+        let split = line_next left 0 some in
         let calls = ap (map call_in) split in
         let rest = calls_in (drop (next_line left 0) left) in
-        let made = next (made_read (line_at left 0) first.1 m) room in
+        let made = next (made_read (line_at left 0) first (rw call at m)) room in
         let later = answers_over w' (length v₀) rest in
         let said : answers_over w (length v₀) (calls_in left) ≡ r ∷ later =
         ap (answers_over w (length v₀)) calls
@@ -107,13 +108,13 @@ module _
         i.room
         (made.answers rest) in
         let two : 2 * (lines + 1) ≡ suc (suc (2 * lines)) = omega arith in
-        rw first.2
+        rw after
         (record {
           few = omega (arith, length-drop (next_line left 0) left);
           room = room ∙ i.room;
           counted = omega (arith, ap length split, i.counted);
           answered =
-              rw (two, put, add-one)
+              rw (two, then, put, number-is, value-is, add-one)
               (ap (λ (rs : List Answer). sets answers (2 * lines) (told rs)) (sym said) ∙ i.answered);
           words = sym (ap (words_after w) calls ∙ made.words rest) ∙ i.words;
           second = sym (ap (λ (xs : List Call). second_over w xs v) calls ∙ made.second rest) ∙ i.second;
