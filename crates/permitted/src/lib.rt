@@ -200,7 +200,7 @@ fn write_permitted(s: Setting, standing: &[u32], ranges: [Range; 2], out: &mut [
 }
 
 // Writes the permitted strikes to the second run where it has places for all of them, and nothing else: unless it has a
-// place for each that there can be, they are counted before, and where that finds none it is not gone over again.
+// place for each that there can be, they are counted before; where that counts none, nothing is left to write.
 pub fn list_permitted(s: Setting, standing: &[u32], second: &mut [u32]) -> Answer
     requires { Listable s standing.now }
     ensures { Filled (permitted_beside s standing.now) second.old result second.new }

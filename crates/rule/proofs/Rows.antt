@@ -90,7 +90,7 @@ accepted_passes rows =
 
 module _ (s : Setting) (h : ℕ) where
   -- those of one price, where the low is the high, and those of two
-  one_price : s.class.low ≡ s.class.high → rows_at s s.class.low h ≡ found_rows s h (length grounds)
+  pub one_price : s.class.low ≡ s.class.high → rows_at s s.class.low h ≡ found_rows s h (length grounds)
   one_price e = rw (← e) (simp or_self)
 
   two_prices :
