@@ -1,5 +1,5 @@
--- Two runs compared: word by word from the front; and the answer says of the words and of the facts what two whole lists
--- say of them. Assumes nothing.
+-- Two runs compared: word by word from the front; and the answer says of the words and of the facts what two whole
+-- lists say of them. Assumes nothing.
 use Prim.Native.Nat.{ℕ, ◌+◌, ◌<◌, ◌≤◌}
 use mathlib.Core.Path.{◌≡◌, refl, sym, ap, ◌∙◌}
 use mathlib.Core.Bool.{Bool, true, false, cond, ◌&&◌, false≢true}
