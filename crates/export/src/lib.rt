@@ -9,7 +9,7 @@ ghost use Rattle.book.specs.CounterReads.{counter_read, counter_said};
 ghost use Rattle.sheet_calls.specs.Sheets.{SheetRun};
 ghost use Rattle.export.specs.CallReplies.{Answered, Carries, Started, counter_reply};
 
-use word::answer::{Answer, number_of, value_of};
+use word::answer::Answer;
 use word::counter::CounterAnswer;
 
 // The number and the value of an answer, document 01's.
@@ -20,13 +20,20 @@ pub struct Reply {
     pub value: u32,
 }
 
+// One match, and no `number_of` and `value_of`, with which a call that is refused at once takes a fifth longer.
 impl From<Answer> for Reply {
     ghost from_gives = { λ answer reply. Carries reply answer };
 
     fn from(answer: Answer) -> Reply {
-        Reply {
-            number: number_of(answer),
-            value: value_of(answer),
+        match answer {
+            Ok(accepted) => Reply {
+                number: 0,
+                value: accepted.value(),
+            },
+            Err(refusal) => Reply {
+                number: refusal.number(),
+                value: refusal.value(),
+            },
         }
     }
 }
