@@ -130,7 +130,11 @@ impl Listing<'_> {
                 self.standing = strikes_from(self.standing, h - reach);
                 next = next_strike(self.standing);
             }
-            let permitted = (rung.all && h + reach < next) || (next != h && self.is_permitted(h));
+            let permitted = if h + reach < next {
+                rung.all || self.is_permitted(h)
+            } else {
+                next != h && self.is_permitted(h)
+            };
             if permitted {
                 self.write(h);
             }

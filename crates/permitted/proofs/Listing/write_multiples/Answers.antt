@@ -1,14 +1,15 @@
 -- `Listing::write_multiples`: what stands too far below is passed, and a strike is written where it is permitted.
 use Rattle.std.proofs.Common.{◌≡◌, sym, ap, ◌∙◌, refl, map, not}
-use borrow.Author.Tests.{ltb-true, eq-eqb}
+use borrow.Author.Tests.{eq-eqb}
 use Rattle.rule.specs.Spacing.{standing_of}
 use Rattle.rule.specs.Judgement.{is_permitted_beside}
 use Rattle.permitted.proofs.Trying.{Trying, trying_start, trying_reach, trying_passed, trying_here, trying_judged}
 use Rattle.permitted.proofs.Trying.{trying_open, trying_standing, trying_taken, trying_skipped}
 use Rattle.permitted.proofs.Listing.write_multiples.Goals as goal
-use Rattle.permitted.proofs.Listing.write_multiples.Goals.{Joined-next-h, then-next-h, else-next-h, then-rung, else-rung}
-use Rattle.permitted.proofs.Listing.write_multiples.Goals.{then-h-reach, else-h-reach+then-next-h-2}
-use Rattle.permitted.proofs.Listing.write_multiples.Goals.{else-h-reach+else-next-h-2, then-permitted, else-permitted}
+use Rattle.permitted.proofs.Listing.write_multiples.Goals.{Joined-next-h, then-next-h, else-next-h}
+use Rattle.permitted.proofs.Listing.write_multiples.Goals.{then-h-reach+then-rung, then-h-reach+else-rung}
+use Rattle.permitted.proofs.Listing.write_multiples.Goals.{else-h-reach+then-next-h-2, else-h-reach+else-next-h-2}
+use Rattle.permitted.proofs.Listing.write_multiples.Goals.{then-permitted, else-permitted}
 
 pub loop-h-init : goal.loop-h-init
 loop-h-init c =
@@ -36,6 +37,10 @@ pub is_permitted-requires : goal.is_permitted-requires
 is_permitted-requires c =
     trying_here c.requires (passed (goal.at.is_permitted-requires c).Joined-next-h) c.loop-h-test.true
 
+pub is_permitted-requires-then-next-h-2 : goal.is_permitted-requires-then-next-h-2
+is_permitted-requires-then-next-h-2 c =
+    trying_here c.requires (passed (goal.at.is_permitted-requires-then-next-h-2 c).Joined-next-h) c.loop-h-test.true
+
 pub loop-h-preserved : goal.loop-h-preserved
 loop-h-preserved c =
     let a = c.args.self.now in
@@ -44,15 +49,11 @@ loop-h-preserved c =
     let here = c.loop-h-test.true in
     let tested : c.if-h-reach.permitted ≡ is_permitted_beside a.setting standing c.loop-h.h =
     elim c.if-h-reach.branch [
-      | then-h-reach w ↦
-          w.permitted-is
-          ∙ w.if-h-reach.true
-          ∙ elim c.if-rung.branch [
-            | then-rung v ↦
-                trying_open c.requires inv here v.if-rung.true (ltb-true _ _ (sym v.value-is ∙ w.if-h-reach.true))
-            | else-rung v ↦ absurd (cc)
-          ]
-      | else-h-reach+then-next-h-2 w ↦ w.permitted-is ∙ trying_judged c.requires inv here w.is_permitted.ensures
+      | then-h-reach+then-rung w ↦
+          w.permitted-is ∙ w.if-rung.true ∙ trying_open c.requires inv here w.if-rung.true w.if-h-reach.true
+      | then-h-reach+else-rung w ↦ w.permitted-is ∙ trying_judged c.requires inv here w.is_permitted.ensures
+      | else-h-reach+then-next-h-2 w ↦
+          w.permitted-is ∙ trying_judged c.requires inv here w.is_permitted-then-next-h-2.ensures
       | else-h-reach+else-next-h-2 w ↦
           w.permitted-is
           ∙ ap not (eq-eqb _ _ w.if-next-h-2.false)
