@@ -95,7 +95,8 @@ module _
         → x ≡ call_held line → length v' ≡ length v → number ≡ answer_number r → value ≡ answer_value r
         → numbered ≡ set answers (2 * lines) number → answers' ≡ set numbered (2 * lines + 1) value
         → SheetSoFar w₀ v₀ sheet answers₀ w' v' answers' (lines + 1) left'
-    read_more {line} {x} {left'} {w'} {v'} {numbered} {answers'} {r} some first after m call room number-is value-is put then =
+    read_more {line} {x} {left'} {w'} {v'} {numbered} {answers'} {r} some first after m call room number-is value-is
+        put then =
         let split = line_next left 0 some in
         let calls = ap (map call_in) split in
         let rest = calls_in (drop (next_line left 0) left) in
