@@ -85,25 +85,35 @@ pub ruleset numeral_laws = (numeral_other, numeral_zero, numeral_digits)
 
 -- ---- a line that goes on as another
 
--- a line that goes on in s ends as another does in t, and so do the bytes, of which t has no more
+-- a line that goes on in s ends as another does in t, and so do the bytes
 pub record Goes (l : Line) (s : List ℕ) (m : Line) (t : List ℕ) : Type 0 where
   pub same : line_after l s ≡ line_after m t
   pub rest : line_rest s ≡ line_rest t
-  pub fewer : length t ≤ length s
 
 goes_on : {l m n : Line} {s t u : List ℕ} → Goes l s m t → Goes m t n u → Goes l s n u
-goes_on a b = record { same = a.same ∙ b.same; rest = a.rest ∙ b.rest; fewer = omega (arith, a.fewer, b.fewer) }
+goes_on a b = record { same = a.same ∙ b.same; rest = a.rest ∙ b.rest }
+
+-- goes on so, and t has no more bytes than s
+pub record GoesWithin (l : Line) (s : List ℕ) (m : Line) (t : List ℕ) : Type 0 where
+  pub goes : Goes l s m t
+  pub fewer : length t ≤ length s
+
+within_on : {l m n : Line} {s t u : List ℕ} → GoesWithin l s m t → GoesWithin m t n u → GoesWithin l s n u
+within_on a b = record { goes = goes_on a.goes b.goes; fewer = omega (arith, a.fewer, b.fewer) }
 
 after_end : (l : Line) (b : ℕ) (s : List ℕ) → b ≡ line_feed → line_after l (b ∷ s) ≡ end_of l
 unfolding line_end run_of
 after_end l b s is = rw (eq-eqb b line_feed is)
 
 -- by one byte
-fed : (l m : Line) (b : ℕ) (s : List ℕ) → (b ≡ line_feed → ⊥) → feed_of l b ≡ m → Goes l (b ∷ s) m s
+fed : (l m : Line) (b : ℕ) (s : List ℕ) → (b ≡ line_feed → ⊥) → feed_of l b ≡ m → GoesWithin l (b ∷ s) m s
 unfolding line_end run_of
 fed l m b s differs is = record {
-  same = rw (ne_eqb b line_feed differs) (ap (λ (n : Line). line_after n s) is);
-  rest = rw (ne_eqb b line_feed differs);
+  goes =
+      record {
+        same = rw (ne_eqb b line_feed differs) (ap (λ (n : Line). line_after n s) is);
+        rest = rw (ne_eqb b line_feed differs);
+      };
   fewer = omega arith;
 }
 
@@ -113,7 +123,7 @@ after_malformed s = ap end_of (run_malformed (take (line_end s) s))
 
 refused : (l : Line) (b : ℕ) (s : List ℕ) → (b ≡ line_feed → ⊥) → feed_of l b ≡ malformed_line
     → line_after l (b ∷ s) ≡ malformed_line
-refused l b s differs is = (fed l malformed_line b s differs is).same ∙ after_malformed s
+refused l b s differs is = (fed l malformed_line b s differs is).goes.same ∙ after_malformed s
 
 -- ---- a number that has been read and not ended goes on as a line that has it
 
@@ -121,7 +131,7 @@ module _ (c k : ℕ) (ns : List ℕ) (few : k < numbers_kept) where
   -- at a byte that ends it, or is refused
   number_ended : {p : Phase} → Pending p → (v b : ℕ) (s : List ℕ)
       → ((b ≡ space → ⊥) → feed_of (state p c v k ns) b ≡ malformed_line)
-      → Goes (state p c v k ns) (b ∷ s) (state Letter c 0 (k + 1) (set ns k v)) (b ∷ s)
+      → GoesWithin (state p c v k ns) (b ∷ s) (state Letter c 0 (k + 1) (set ns k v)) (b ∷ s)
   unfolding feed_by end_by
   number_ended {p} w v b s out =
       let now = state p c v k ns in
@@ -133,24 +143,25 @@ module _ (c k : ℕ) (ns : List ℕ) (few : k < numbers_kept) where
       ⊎_elim
       (λ (is : b ≡ space).
       let spaced : Line = state Space c 0 (k + 1) (set ns k v) in
-      (fed now spaced b s differs (ap (feed_of now) is ∙ feed_space w c v k ns few)).same
-      ∙ sym (fed next spaced b s differs (simp (eq-eqb b space is))).same)
+      (fed now spaced b s differs (ap (feed_of now) is ∙ feed_space w c v k ns few)).goes.same
+      ∙ sym (fed next spaced b s differs (simp (eq-eqb b space is))).goes.same)
       (λ (other : b ≡ space → ⊥).
       refused now b s differs (out other) ∙ sym (refused next b s differs (simp (ne_eqb b space other))))
       (eq_or_not b space))
       (eq_or_not b line_feed) in
-      record { same = same; rest = refl; fewer = omega arith }
+      record { goes = record { same = same; rest = refl }; fewer = omega arith }
 
-  zero_read : (s : List ℕ) → Goes (state Zero c 0 k ns) s (state Letter c 0 (k + 1) (set ns k 0)) s
+  zero_read : (s : List ℕ) → GoesWithin (state Zero c 0 k ns) s (state Letter c 0 (k + 1) (set ns k 0)) s
   unfolding feed_by end_by run_of line_end
-  zero_read [] = record { same = end_number at_zero c 0 k ns few; rest = refl; fewer = omega arith }
+  zero_read [] = record { goes = record { same = end_number at_zero c 0 k ns few; rest = refl }; fewer = omega arith }
   zero_read (b ∷ s) = number_ended at_zero 0 b s (λ other. simp (ne_eqb b space other))
 
   digits_go : (s : List ℕ) (v : ℕ)
       → let read = digits_read v s in
-      Goes (state Number c v k ns) s (state Letter c 0 (k + 1) (set ns k read.0)) read.1
+      GoesWithin (state Number c v k ns) s (state Letter c 0 (k + 1) (set ns k read.0)) read.1
   unfolding feed_by end_by run_of line_end digits_read
-  digits_go [] v = record { same = end_number in_number c v k ns few; rest = refl; fewer = omega arith }
+  digits_go [] v =
+      record { goes = record { same = end_number in_number c v k ns few; rest = refl }; fewer = omega arith }
   digits_go (b ∷ s) v =
       ⊎_elim
       (λ (e : is_digit b ≡ true).
@@ -162,7 +173,7 @@ module _ (c k : ℕ) (ns : List ℕ) (few : k < numbers_kept) where
         le-ltb b zero_digit range.0,
         le-ltb nine_digit b range.1,
       ) in
-      rw e (goes_on (fed (state Number c v k ns) more b s (λ is. omega (arith, range.0)) is)
+      rw e (within_on (fed (state Number c v k ns) more b s (λ is. omega (arith, range.0)) is)
       (digits_go s (capped (base * v + (b - zero_digit))))))
       (λ (e : is_digit b ≡ false).
       rw e
@@ -177,7 +188,7 @@ module _ (c k : ℕ) (ns : List ℕ) (few : k < numbers_kept) where
   -- a number after a space, or none
   numeral_go : (s : List ℕ)
       → MatchOption (numeral_read s) (line_after (state Space c 0 k ns) s ≡ malformed_line)
-      (λ read. Goes (state Space c 0 k ns) s (state Letter c 0 (k + 1) (set ns k read.0)) read.1)
+      (λ read. GoesWithin (state Space c 0 k ns) s (state Letter c 0 (k + 1) (set ns k read.0)) read.1)
   unfolding feed_by end_by run_of line_end numeral_read
   numeral_go [] = refl
   numeral_go (b ∷ s) =
@@ -187,7 +198,7 @@ module _ (c k : ℕ) (ns : List ℕ) (few : k < numbers_kept) where
       let zero-fed : feed_of now b ≡ state Zero c 0 k ns =
       simp (le-ltb b zero_digit (omega arith), le-ltb nine_digit b (omega arith), eq-eqb b zero_digit is) in
       rw (eq-eqb b zero_digit is)
-      (goes_on (fed now (state Zero c 0 k ns) b s (λ e. omega arith) zero-fed) (zero_read s)))
+      (within_on (fed now (state Zero c 0 k ns) b s (λ e. omega arith) zero-fed) (zero_read s)))
       (λ differs.
       ⊎_elim
       (λ (e : is_digit b ≡ true).
@@ -196,7 +207,7 @@ module _ (c k : ℕ) (ns : List ℕ) (few : k < numbers_kept) where
       let first : feed_of now b ≡ more =
       simp (le-ltb b zero_digit range.0, le-ltb nine_digit b range.1, ne_eqb b zero_digit differs) in
       rw (ne_eqb b zero_digit differs, e)
-      (goes_on (fed now more b s (λ is. omega (arith, range.0)) first) (digits_go s (b - zero_digit))))
+      (within_on (fed now more b s (λ is. omega (arith, range.0)) first) (digits_go s (b - zero_digit))))
       (λ (e : is_digit b ≡ false).
       let out : line_after now (b ∷ s) ≡ malformed_line =
       ⊎_elim
@@ -227,11 +238,11 @@ sixth_refused c v ns s =
 
 -- ---- the line at the front of s
 
-no_letter : (s : List ℕ) → (get_or s 0 0 < first_letter) ⊎ (last_letter < get_or s 0 0)
+pub letter_other : (s : List ℕ) → (get_or s 0 0 < first_letter) ⊎ (last_letter < get_or s 0 0)
     → line_after empty_line s ≡ malformed_line
 unfolding feed_by end_by run_of line_end
-no_letter [] out = refl
-no_letter (b ∷ s) out =
+letter_other [] out = refl
+letter_other (b ∷ s) out =
     ⊎_elim
     (λ (is : b ≡ line_feed). after_end empty_line b s is)
     (λ differs.
@@ -241,9 +252,6 @@ no_letter (b ∷ s) out =
     (λ over. simp (le-ltb b first_letter (omega arith), lt-ltb last_letter b over))
     out))
     (eq_or_not b line_feed)
-
-pub letter_other : (s : List ℕ) → (get_or s 0 0 < first_letter) ⊎ (last_letter < get_or s 0 0) → FormlessRead s s
-letter_other s out = record { line_is = no_letter s out; rest_is = refl; within = omega arith }
 
 -- it has the form as far as it has been read, up to `rest`
 pub record LineGoing (s : List ℕ) (line : Line) (rest : List ℕ) : Type 0 where
@@ -263,7 +271,7 @@ letter_first (b ∷ s) least most =
       shape = refl;
       goes =
           rw (take_rest (b ∷ s) 1)
-          (fed empty_line (state Letter b 0 0 zeros) b s (λ e. omega arith) letter);
+          (fed empty_line (state Letter b 0 0 zeros) b s (λ e. omega arith) letter).goes;
     }
 
 module _ {s : List ℕ} {line : Line} where
@@ -273,11 +281,7 @@ module _ {s : List ℕ} {line : Line} where
   going_space b t g is =
       let now = state Letter line.letter 0 line.count line.numbers in
       let spaced : Line = state Space line.letter 0 line.count line.numbers in
-      goes_on g.goes (fed now spaced b t (λ e. omega arith) (simp (eq-eqb b space is)))
-
-  -- where the line is malformed
-  formless : (rest : List ℕ) → LineGoing s line rest → line_after empty_line s ≡ malformed_line → FormlessRead s rest
-  formless rest g malformed = record { line_is = malformed; rest_is = g.goes.rest; within = g.goes.fewer }
+      goes_on g.goes (fed now spaced b t (λ e. omega arith) (simp (eq-eqb b space is))).goes
 
   pub going_full : (rest : List ℕ) → LineGoing s line rest → get_or rest 0 0 ≡ space → numbers_kept ≤ line.count
       → line_after empty_line s ≡ malformed_line
@@ -287,31 +291,15 @@ module _ {s : List ℕ} {line : Line} where
       ∙ ap (λ (k : ℕ). line_after (state Space line.letter 0 k line.numbers) t) (omega (arith, g.few))
       ∙ sixth_refused line.letter 0 line.numbers t
 
-  -- the bytes after a sixth number end as those after any
-  pub going_sixth : (rest : List ℕ) → LineGoing s line rest → {v : ℕ} {after : List ℕ} → get_or rest 0 0 ≡ space
-      → numeral_read (after_first rest) ≡ Some (v, after) → numbers_kept ≤ line.count → FormlessRead s after
-  going_sixth [] g is read full = absurd (omega arith)
-  going_sixth (b ∷ t) g {v} {after} is read full =
-      let read-left = rw (take_rest (b ∷ t) 1) at read in
-      let spaced = going_space b t g is in
-      let first : Goes (state Space 0 0 0 zeros) t (state Letter 0 0 1 (set zeros 0 v)) after =
-      rw read-left at (numeral_go 0 0 zeros (omega arith) t) in
-      record {
-        line_is = going_full (b ∷ t) g is full;
-        rest_is = spaced.rest ∙ first.rest;
-        within = omega (arith, spaced.fewer, first.fewer);
-      }
-
   pub going_none : (rest : List ℕ) → LineGoing s line rest → get_or rest 0 0 ≡ space
-      → numeral_read (after_first rest) ≡ None → FormlessRead s rest
+      → numeral_read (after_first rest) ≡ None → line_after empty_line s ≡ malformed_line
   going_none [] g is none = absurd (omega arith)
   going_none (b ∷ t) g is none =
       let none-left = rw (take_rest (b ∷ t) 1) at none in
-      formless (b ∷ t) g
-      (⊎_elim
+      ⊎_elim
       (λ few. (going_space b t g is).same ∙ rw none-left at (numeral_go line.letter line.count line.numbers few t))
       (λ full. going_full (b ∷ t) g is full)
-      (lt_or_le line.count numbers_kept))
+      (lt_or_le line.count numbers_kept)
 
   pub going_more : (rest : List ℕ) → LineGoing s line rest → {v : ℕ} {next : Line} {after : List ℕ}
       → get_or rest 0 0 ≡ space → numeral_read (after_first rest) ≡ Some (v, after) → line.count < numbers_kept
@@ -319,24 +307,23 @@ module _ {s : List ℕ} {line : Line} where
   going_more [] g is read few next-is = absurd (omega arith)
   going_more (b ∷ t) g {v} {next} {after} is read few next-is =
       let read-left = rw (take_rest (b ∷ t) 1) at read in
-      let more : Goes (state Space line.letter 0 line.count line.numbers) t
+      let more : GoesWithin (state Space line.letter 0 line.count line.numbers) t
       (state Letter line.letter 0 (line.count + 1) (set line.numbers line.count v)) after =
       rw read-left at (numeral_go line.letter line.count line.numbers few t) in
       rw next-is
       (record {
         few = omega arith;
         shape = ap (λ (l : Line). with_number l v) g.shape;
-        goes = goes_on (going_space b t g is) more;
+        goes = goes_on (going_space b t g is) more.goes;
       })
 
   pub going_other : (rest : List ℕ) → LineGoing s line rest → 1 ≤ length rest → (get_or rest 0 0 ≡ space → ⊥)
-      → (get_or rest 0 0 ≡ line_feed → ⊥) → FormlessRead s rest
+      → (get_or rest 0 0 ≡ line_feed → ⊥) → line_after empty_line s ≡ malformed_line
   unfolding feed_by
   going_other [] g some other differs = absurd (omega arith)
   going_other (b ∷ t) g some other differs =
-      formless (b ∷ t) g
-      (g.goes.same
-      ∙ refused (state Letter line.letter 0 line.count line.numbers) b t differs (simp (ne_eqb b space other)))
+      g.goes.same
+      ∙ refused (state Letter line.letter 0 line.count line.numbers) b t differs (simp (ne_eqb b space other))
 
   pub going_ended : (rest : List ℕ) → LineGoing s line rest → length rest < 1 → FormedRead s line rest
   unfolding end_by run_of line_end
@@ -357,10 +344,70 @@ pub ruleset line_laws = (
   letter_other,
   letter_first,
   going_none,
-  going_sixth,
+  going_full,
   going_other,
   going_ended,
   going_line_feed,
+)
+
+-- ---- the same, with what is left of s where the line shows to be malformed
+
+-- it has the form up to `rest`, and no more bytes are left than there were
+pub record LineLeft (s : List ℕ) (line : Line) (rest : List ℕ) : Type 0 where
+  pub going : LineGoing s line rest
+  pub fewer : length rest ≤ length s
+
+pub formless_letter : (s : List ℕ) → (get_or s 0 0 < first_letter) ⊎ (last_letter < get_or s 0 0) → FormlessRead s s
+formless_letter s out = record { line_is = letter_other s out; rest_is = refl; within = omega arith }
+
+pub left_first : (s : List ℕ) → first_letter ≤ get_or s 0 0 → get_or s 0 0 ≤ last_letter
+    → LineLeft s (state Letter (get_or s 0 0) 0 0 zeros) (after_first s)
+left_first [] least most = absurd (omega arith)
+left_first (b ∷ s) least most =
+    record { going = letter_first (b ∷ s) least most; fewer = rw (take_rest (b ∷ s) 1) (omega arith) }
+
+-- the bytes after a number end as those from its front on, and are no more
+numeral_left : (s : List ℕ) {v : ℕ} {after : List ℕ} → numeral_read s ≡ Some (v, after)
+    → GoesWithin (state Space 0 0 0 zeros) s (state Letter 0 0 1 (set zeros 0 v)) after
+numeral_left s read = rw read at (numeral_go 0 0 zeros (omega arith) s)
+
+module _ {s : List ℕ} {line : Line} where
+  formless : (rest : List ℕ) → LineLeft s line rest → line_after empty_line s ≡ malformed_line → FormlessRead s rest
+  formless rest g malformed = record { line_is = malformed; rest_is = g.going.goes.rest; within = g.fewer }
+
+  pub formless_none : (rest : List ℕ) → LineLeft s line rest → get_or rest 0 0 ≡ space
+      → numeral_read (after_first rest) ≡ None → FormlessRead s rest
+  formless_none rest g is none = formless rest g (going_none rest g.going is none)
+
+  pub going_sixth : (rest : List ℕ) → LineLeft s line rest → {v : ℕ} {after : List ℕ} → get_or rest 0 0 ≡ space
+      → numeral_read (after_first rest) ≡ Some (v, after) → numbers_kept ≤ line.count → FormlessRead s after
+  going_sixth [] g is read full = absurd (omega arith)
+  going_sixth (b ∷ t) g is read full =
+      let more = numeral_left t (rw (take_rest (b ∷ t) 1) at read) in
+      record {
+        line_is = going_full (b ∷ t) g.going is full;
+        rest_is = (going_space b t g.going is).rest ∙ more.goes.rest;
+        within = omega (arith, g.fewer, more.fewer);
+      }
+
+  pub formless_other : (rest : List ℕ) → LineLeft s line rest → 1 ≤ length rest → (get_or rest 0 0 ≡ space → ⊥)
+      → (get_or rest 0 0 ≡ line_feed → ⊥) → FormlessRead s rest
+  formless_other rest g some other differs = formless rest g (going_other rest g.going some other differs)
+
+  pub left_more : (rest : List ℕ) → LineLeft s line rest → {v : ℕ} {next : Line} {after : List ℕ}
+      → get_or rest 0 0 ≡ space → numeral_read (after_first rest) ≡ Some (v, after) → line.count < numbers_kept
+      → next ≡ with_number line v → LineLeft s next after
+  left_more [] g is read few next-is = absurd (omega arith)
+  left_more (b ∷ t) g is read few next-is =
+      let more = numeral_left t (rw (take_rest (b ∷ t) 1) at read) in
+      record { going = going_more (b ∷ t) g.going is read few next-is; fewer = omega (arith, g.fewer, more.fewer) }
+
+pub ruleset left_laws = (
+  formless_letter,
+  left_first,
+  formless_none,
+  going_sixth,
+  formless_other,
 )
 
 -- ---- the line that begins at a place
@@ -386,15 +433,26 @@ module _ (sheet : List ℕ) (from : ℕ) (begins : from < length sheet) where
         line_is = read-on.line_is;
       }
 
-  pub whole_malformed : (rest : List ℕ) (end : ℕ) → FormlessRead (bytes_from sheet from) rest → end ≡ line_end rest
-      → WholeAt sheet from (record { line = malformed_line; end = length sheet - length rest + end })
-  whole_malformed rest end read is =
-      let s = drop from sheet in
-      let read-on : FormlessRead s rest = rw (take_rest sheet from) at read in
-      let left : length s - line_end s ≡ length rest - line_end rest =
-      sym (length-drop (line_end s) s) ∙ ap length read-on.rest_is ∙ length-drop (line_end rest) rest in
-      let end-is : length sheet - length rest + end ≡ from + line_end s =
-      omega (arith, is, left, read-on.within, end_within rest, left_within, length-drop from sheet) in
-      record { end_is = end-is; within = omega (arith, end-is, left_within); line_is = sym read-on.line_is }
+  pub whole_malformed : (end : ℕ) → line_after empty_line (bytes_from sheet from) ≡ malformed_line
+      → end ≡ line_end (bytes_from sheet from)
+      → WholeAt sheet from (record { line = malformed_line; end = from + end })
+  whole_malformed end malformed is =
+      record {
+        end_is = ap (λ (k : ℕ). from + k) (rw (take_rest sheet from) at is);
+        within = rw (is, take_rest sheet from) left_within;
+        line_is = sym (rw (take_rest sheet from) at malformed);
+      }
 
-pub ruleset passing_laws = (end_within, whole_malformed)
+  pub whole_formless : (rest : List ℕ) (end : ℕ) → FormlessRead (bytes_from sheet from) rest → end ≡ line_end rest
+      → WholeAt sheet from (record { line = malformed_line; end = length sheet - length rest + end })
+  whole_formless rest end read is =
+      let s = bytes_from sheet from in
+      let whole = whole_malformed (line_end s) read.line_is refl in
+      let bytes : length s ≡ length sheet - from = ap length (take_rest sheet from) ∙ length-drop from sheet in
+      let left : length s - line_end s ≡ length rest - line_end rest =
+      sym (length-drop (line_end s) s) ∙ ap length read.rest_is ∙ length-drop (line_end rest) rest in
+      let end-is : length sheet - length rest + end ≡ from + line_end s =
+      omega (arith, is, bytes, left, read.within, end_within rest) in
+      rw end-is whole
+
+pub ruleset passing_laws = (end_within, whole_formless)

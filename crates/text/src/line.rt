@@ -179,7 +179,7 @@ fn read_number(bytes: &[u8]) -> Option<(u32, &[u8])>
 
 // The line at the front, where it has the form, and the bytes from its end on. Where it has not, the bytes that are
 // left where this shows: its end is still to be found there.
-#[tactic(auto, using(crate::proofs::WholeLines::line_laws))]
+#[tactic(auto, using(crate::proofs::WholeLines::left_laws, crate::proofs::WholeLines::line_laws))]
 fn read_formed(bytes: &[u8]) -> Result<(Line, &[u8]), &[u8]>
     ensures { MatchResult result (λ read. FormedRead bytes.now read.0 read.1.now)
         (λ rest. FormlessRead bytes.now rest.now) }
